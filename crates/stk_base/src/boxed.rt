@@ -1,0 +1,63 @@
+ghost use Rattle.std.specs.Prelude.{◌≡◌, IfOk};
+
+use std::alloc::{AllocError, Global};
+use std::marker::Model;
+
+/// A `Box` that contracts see as its value.
+#[derive(Debug, Drop)]
+pub struct Boxed<T> {
+    inner: Box<T>,
+}
+
+impl<T> Model for Boxed<T> {
+    ghost Value = { T };
+
+    ghost coded = { T.code };
+
+    ghost view = { λ b. b.inner.value };
+}
+
+impl<T> Boxed<T> {
+    ghost use Rattle.std.specs.Borrow.{sem};
+    ghost use Rattle.stk_base.specs.Lending.{lends_value};
+
+    pub fn get_mut(&mut self) -> &mut T
+        ensures* writes_back { sem 𝓛 (lends_value T.row self.entry result) }
+        ensures value { result.now ≡ self.old }
+    {
+        &mut self.inner
+    }
+
+    pub fn get(&self) -> &T
+        ensures { result.now ≡ self.now }
+    {
+        &self.inner
+    }
+
+    pub fn into_inner(self) -> T
+        ensures { result ≡ self }
+    {
+        let Boxed { inner } = self;
+        Box::into_inner(inner)
+    }
+}
+
+impl<T: Drop> Boxed<T> {
+    pub fn new(alloc: Global, value: T) -> Result<Boxed<T>, AllocError>
+        ensures { IfOk result (λ b. b ≡ value) }
+    {
+        Ok(Boxed {
+            inner: Box::new(alloc, value)?,
+        })
+    }
+}
+
+impl<T: PartialEq> PartialEq for Boxed<T> {
+    ghost eq = { T.eq };
+
+    ghost laws = { T.laws };
+
+    fn eq(&self, other: &Self) -> bool {
+        *self.get() == *other.get()
+    }
+}

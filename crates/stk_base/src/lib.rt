@@ -1,0 +1,17 @@
+//! What every crate of the checker stands on: lists and boxes that contracts see as what they hold, stretches of the
+//! input, how a run ends, and the outside as sources and sinks.
+#![tactic(auto)]
+
+mod boxed;
+mod failures;
+mod list;
+mod span;
+mod status;
+mod token;
+
+pub use boxed::Boxed;
+pub use failures::{Failed, NoMemory};
+pub use list::List;
+pub use span::Span;
+pub use status::Status;
+pub use token::{Class, Place};
