@@ -1,0 +1,72 @@
+-- Which entries of a trace hit a candidate, and free of which conditions.
+use Rattle.std.specs.Prelude.{◌≡◌, ℕ, Bool, true, false, not, ◌&&◌, ◌==◌, List, [], ◌∷◌, ◌++◌, ◌||◌, Option, Some, None}
+use Rattle.std.specs.List.{list_any, list_all}
+use Rattle.stk_meaning.specs.declared.candidate.CandKind.{CandKind}
+use Rattle.stk_meaning.specs.declared.candidate.CandKind.TheVariants.{Arm, AlwaysTrue, AlwaysFalse, Algebra}
+use Rattle.stk_meaning.specs.declared.candidate.Candidate.{Candidate}
+use Rattle.stk_meaning.specs.declared.condition.UbKind.{UbKind}
+use Rattle.stk_meaning.specs.declared.condition.UbKind.TheVariants as kinds
+use Rattle.stk_meaning.specs.declared.condition.Condition.{Condition}
+use Rattle.stk_meaning.specs.declared.entry.Entry.{Entry}
+use Rattle.stk_meaning.specs.declared.entry.Entry.TheVariants.{Ub, Enter, Seen}
+
+-- whether two truths differ
+abbrev pub differs : Bool → Option Bool → Bool
+differs truth None = false
+differs true (Some other) = not other
+differs false (Some other) = other
+
+-- whether an entry of the candidate's node hits a candidate of this kind: an arm by its entering, a test that might be
+-- taken for true by its being false, one that might be taken for false by its being true, and a comparison that might
+-- be replaced by a truth other than its replacement's
+abbrev pub hits_kind : CandKind → ℕ → Entry → Bool
+hits_kind Arm node (Enter n) = n == node
+hits_kind AlwaysTrue node (Seen n truth other) = n == node && not truth
+hits_kind AlwaysFalse node (Seen n truth other) = n == node && truth
+hits_kind Algebra node (Seen n truth other) = n == node && differs truth other
+hits_kind kind node entry = false
+
+-- whether an entry hits a candidate
+abbrev pub hits : Candidate → Entry → Bool
+hits c e = hits_kind c.kind c.node e
+
+-- the number of a kind at one node
+abbrev pub kind_number : UbKind → ℕ
+kind_number kinds.Overflow = 1
+kind_number kinds.Zero = 2
+kind_number kinds.Shift = 3
+kind_number kinds.Null = 4
+kind_number kinds.Pointer = 5
+kind_number kinds.Bounds = 6
+
+-- whether two conditions are one
+abbrev pub same_condition : Condition → Condition → Bool
+same_condition a b = a.node == b.node && kind_number a.kind == kind_number b.kind
+
+-- whether a condition is in a set
+abbrev pub has : List Condition → Condition → Bool
+has set k = list_any (λ j. same_condition j k) set
+
+-- whether an entry says that a condition of the set is violated
+abbrev pub breaks : List Condition → Entry → Bool
+breaks set (Ub k) = has set k
+breaks set (Enter n) = false
+breaks set (Seen n truth other) = false
+
+-- no condition of the set is violated in these entries
+abbrev pub free_of : List Condition → List Entry → Bool
+free_of set entries = list_all (λ e. not (breaks set e)) entries
+
+-- some entry of the trace hits the candidate, and no condition of the set is violated before it
+pub record HitsFree (set : List Condition) (c : Candidate) (trace : List Entry) : Type 0 where
+  pub before : List Entry
+  pub entry : Entry
+  pub behind : List Entry
+  pub is : trace ≡ before ++ entry ∷ behind
+  pub hit : hits c entry ≡ true
+  pub free : free_of set before ≡ true
+
+-- the same as a test, from left to right
+abbrev pub is_hit_free : List Condition → Candidate → List Entry → Bool
+is_hit_free set c [] = false
+is_hit_free set c (e ∷ t) = hits c e || (not (breaks set e) && is_hit_free set c t)

@@ -1,0 +1,16 @@
+//! What runs of a function do: traces, conditions, values, hits, and which findings are lawful.
+#![tactic(auto)]
+
+mod candidate;
+mod condition;
+mod entry;
+mod finding;
+mod hits;
+mod inputs;
+
+pub use candidate::{CandKind, Candidate};
+pub use condition::{Condition, UbKind};
+pub use entry::Entry;
+pub use finding::{Finding, Need, Phase};
+pub use hits::{hits_free, is_hit};
+pub use inputs::Inputs;
