@@ -1,3 +1,4 @@
+pub mod Text
 pub mod Lending
 pub mod formers
 pub mod Status

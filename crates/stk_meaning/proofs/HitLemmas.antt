@@ -33,7 +33,7 @@ hit_behind set c e t clear h = record {
   behind = h.behind;
   is = ap (λ u. e ∷ u) h.is;
   hit = h.hit;
-  free = and_join _ _ clear h.free
+  free = and_join _ _ clear h.free;
 }
 
 by_cases : (set : List Condition) (c : Candidate) (e : Entry) (t : List Entry) (h b r : Bool) → hits c e ≡ h → not (breaks set e) ≡ b → is_hit_free set c t ≡ r → (r ≡ true → HitsFree set c t) → h || (b && r) ≡ true → HitsFree set c (e ∷ t)
@@ -43,7 +43,7 @@ by_cases set c e t true b r is_h is_b is_r more ok = record {
   behind = t;
   is = refl;
   hit = is_h;
-  free = refl
+  free = refl;
 }
 by_cases set c e t false true r is_h is_b is_r more ok = hit_behind set c e t is_b (more ok)
 by_cases set c e t false false r is_h is_b is_r more ok = absurd cc

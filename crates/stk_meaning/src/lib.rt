@@ -7,6 +7,8 @@ mod entry;
 mod finding;
 mod hits;
 mod inputs;
+mod path_run;
+mod values;
 
 pub use candidate::{CandKind, Candidate};
 pub use condition::{Condition, UbKind};
@@ -14,3 +16,4 @@ pub use entry::Entry;
 pub use finding::{Finding, Need, Phase};
 pub use hits::{hits_free, is_hit};
 pub use inputs::Inputs;
+pub use values::binary_number;
