@@ -1,7 +1,7 @@
 -- What a program that runs one branch leaves, against a run of the definition.
 use Rattle.std.specs.Prelude.{◌≡◌, List, ◌++◌}
 use Rattle.stk_meaning.specs.declared.entry.Entry.{Entry}
-use Rattle.stk_meaning.specs.declared.path_run.Register.{Register}
+use Rattle.stk_meaning.specs.declared.running.Register.{Register}
 use Rattle.stk_meaning.specs.Runs.{Ran}
 
 -- the value and the registers are the run's, and the run's entries were added

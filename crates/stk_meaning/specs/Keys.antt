@@ -1,7 +1,5 @@
 -- The input keys of a function, and the order of input maps.
-use Rattle.std.specs.Prelude.{◌≡◌, ℕ, ◌+◌, Bool, false, ◌&&◌, ◌||◌, List, [], ◌∷◌, length, ℤ, pos, int_lt, ◌≤ℤ◌, ◌<ℤ◌}
-use Rattle.std.specs.List.{list_all}
-use Rattle.std.specs.Ordering.{int_eq}
+use Rattle.std.specs.Prelude.{◌≡◌, ℕ, ◌+◌, ◌⊎◌, List, [], ◌∷◌, length, ℤ, pos, ◌≤ℤ◌, ◌<ℤ◌}
 use Rattle.stk_tree.specs.Syntax.{ParamTrees, no_parameters, then_parameter, FunctionTree}
 use Rattle.stk_meaning.specs.Runs.{parameters_of}
 
@@ -25,7 +23,7 @@ pub record Covers (f : FunctionTree) (map : List ℤ) : Type 0 where
   pub count : length map ≡ key_count f
   pub in_range : AreBytes map
 
--- whether a map comes before another: the first key at which they differ has the smaller number
-abbrev pub precedes : List ℤ → List ℤ → Bool
-precedes (x ∷ xs) (y ∷ ys) = int_lt x y || (int_eq x y && precedes xs ys)
-precedes xs ys = false
+-- one map comes before another: the first key at which they differ has the smaller number
+abbrev pub Precedes : List ℤ → List ℤ → Type 0
+Precedes (x ∷ xs) (y ∷ ys) = (x <ℤ y) ⊎ ((x ≡ y) × Precedes xs ys)
+Precedes xs ys = ⊥

@@ -5,3 +5,4 @@ pub mod Forms
 pub mod Keys
 pub mod Parts
 pub mod Gives
+pub mod Findings

@@ -11,9 +11,9 @@ use Rattle.stk_meaning.specs.declared.condition.UbKind.TheVariants as kinds
 use Rattle.stk_meaning.specs.declared.condition.Condition.{Condition}
 use Rattle.stk_meaning.specs.declared.entry.Entry.{Entry}
 use Rattle.stk_meaning.specs.declared.entry.Entry.TheVariants.{Ub, Enter, Seen}
-use Rattle.stk_meaning.specs.declared.path_run.Register.{Register}
-use Rattle.stk_meaning.specs.declared.path_run.Flow.{Flow}
-use Rattle.stk_meaning.specs.declared.path_run.Flow.TheVariants.{Normal, Returned}
+use Rattle.stk_meaning.specs.declared.running.Register.{Register}
+use Rattle.stk_meaning.specs.declared.running.Flow.{Flow}
+use Rattle.stk_meaning.specs.declared.running.Flow.TheVariants.{Normal, Returned}
 use Rattle.stk_meaning.specs.Values.{is_zero, truth, binary_number, compares}
 
 -- what a run of a part gives: its value or how it ends, the registers afterwards, and the entries that it made, in order

@@ -9,12 +9,13 @@ ghost use Rattle.stk_meaning.specs.Keys.{AreBytes, parameter_count, Covers};
 ghost use Rattle.stk_meaning.specs.Gives.{Gives};
 ghost use Rattle.stk_base.specs.Text.{text_of, decimal, decimal_behind, same_text};
 
+use crate::function::{body_of, parameters_of};
 use crate::values::{binary_number, is_comparison, is_true};
 use crate::{Condition, Entry, Inputs, UbKind};
 use std::alloc::Global;
-use stk_base::{NoMemory, Span};
+use stk_base::{List, NoMemory, Span};
 use stk_tree::{
-    BinaryOp, Declaration, Declr, Expr, ExprForm, Function, Init, Param, Part, Stmt, StmtForm, Tail,
+    BinaryOp, Declaration, Declr, Expr, ExprForm, Function, Init, Param, Part, Stmt, StmtForm,
 };
 
 /// A register: the number that is kept under a name.
@@ -263,4 +264,24 @@ fn start_registers(
         }
     }
     Ok(registers)
+}
+
+/// The trace of the path run of a plain function definition of these bytes, from an input map that covers its keys:
+/// the entries in the order in which the run makes them. One branch is walked at a time. The only refusal is want of
+/// memory.
+pub fn path_run(
+    alloc: Global,
+    bytes: &[u8],
+    function: &Function,
+    inputs: &Inputs,
+) -> Result<List<Entry>, NoMemory>
+    requires plain { IsPlain bytes.now (view_function function.now) }
+    requires covers { Covers (view_function function.now) inputs.now.numbers }
+    ensures { IfOk result (λ trace. trace ≡ path bytes.now (view_function function.now) inputs.now.numbers) }
+{
+    let params = parameters_of(function);
+    let mut registers = start_registers(alloc, params, inputs.numbers.as_slice())?;
+    let mut entries = Vec::new(alloc);
+    parts_run(bytes, body_of(function), &mut registers, &mut entries)?;
+    Ok(List::from_vec(entries))
 }

@@ -3,7 +3,7 @@ use Rattle.stk_tree.specs.View.{view_part, parts}
 use Rattle.stk_meaning.specs.Forms.{ArePlainParts}
 use Rattle.stk_meaning.specs.Gives.{EndsAs}
 use Rattle.stk_meaning.specs.Runs.{parts_run}
-use Rattle.stk_meaning.proofs.path_run.parts_run.Given as goal
+use Rattle.stk_meaning.proofs.running.parts_run.Given as goal
 
 abbrev pub invariant-loop-part : goal.invariant-loop-part
 invariant-loop-part l = record {

@@ -3,7 +3,7 @@ use Rattle.stk_tree.specs.View.{view_declarator, declarators}
 use Rattle.stk_meaning.specs.Forms.{ArePlainDeclarators}
 use Rattle.stk_meaning.specs.Gives.{EndsAs}
 use Rattle.stk_meaning.specs.Runs.{declarators_run}
-use Rattle.stk_meaning.proofs.path_run.local_run.Given as goal
+use Rattle.stk_meaning.proofs.running.local_run.Given as goal
 
 abbrev pub invariant-loop-declr : goal.invariant-loop-declr
 invariant-loop-declr l = record {

@@ -2,7 +2,7 @@ use Rattle.std.proofs.Common.{◌≡◌, ◌++◌, map, drop}
 use Rattle.stk_tree.specs.View.{view_parameter, parameters}
 use Rattle.stk_meaning.specs.Keys.{AreBytes}
 use Rattle.stk_meaning.specs.Runs.{start_registers}
-use Rattle.stk_meaning.proofs.path_run.start_registers.Given as goal
+use Rattle.stk_meaning.proofs.running.start_registers.Given as goal
 
 abbrev pub invariant-loop-param : goal.invariant-loop-param
 invariant-loop-param l = record {
