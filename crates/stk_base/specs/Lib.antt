@@ -1,3 +1,6 @@
 pub mod Lending
 pub mod formers
 pub mod Status
+pub mod Causes
+pub mod Streams
+pub mod MemoryStreams

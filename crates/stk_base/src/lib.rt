@@ -5,6 +5,8 @@
 mod boxed;
 mod failures;
 mod list;
+mod sink;
+mod source;
 mod span;
 mod status;
 mod token;
@@ -12,6 +14,8 @@ mod token;
 pub use boxed::Boxed;
 pub use failures::{Failed, NoMemory};
 pub use list::List;
+pub use sink::{Sink, write_all};
+pub use source::{READ_PIECE, ReadAll, Source, read_all};
 pub use span::Span;
 pub use status::Status;
 pub use token::{Class, Place};
