@@ -1,5 +1,7 @@
 -- How runs of reads and of writes add up.
 use Rattle.std.proofs.Common.{◌≡◌, ◌≤◌, ◌<◌, ◌+◌, ◌-◌, ℕ, List, [], ◌++◌, length, take, drop, Option, Some, None, Result, Ok, Err, IsErrOf, IsErrAnd, refl, sym, ap, ◌∙◌, append_assoc, append-nil, take-append-drop, length-append, length-take, arith}
+use Rattle.std.proofs.lemmas.List.{take_rest, drop-drop}
+use Rattle.std.proofs.Math.Seq.{take-append_seam}
 use Rattle.stk_base.specs.declared.source.ReadAll.{ReadAll}
 use Rattle.stk_base.specs.declared.source.ReadAll.TheVariants.{TooLarge, NoMemory}
 use Rattle.std.specs.Option.{option_map}
@@ -60,3 +62,14 @@ not_too_large (Err e) memory large = cc
 -- a piece brings a list that is within the limit at most its own length over it
 pub stays_near : (items piece : List ℕ) (count limit size : ℕ) → length items ≤ limit → count ≤ size → length (items ++ take count piece) ≤ limit + size
 stays_near items piece count limit size within fits = simp (length-append, length-take) (omega (arith, within, fits))
+
+-- n bytes copied from a place of a vector to the front of a piece, what stands behind that place in the piece, and what is left of the vector
+pub copied : (n at : ℕ) (bytes whole left new tail : List ℕ) → left ≡ drop at bytes → whole ≡ bytes → n ≤ length (take (length whole - at) (drop at whole))
+    → new ≡ take n (take (length whole - at) (drop at whole)) → left ≡ take n (new ++ tail) ++ drop (at + n) bytes
+copied n at bytes whole left new tail here same fits copy =
+    let source : take (length whole - at) (drop at whole) ≡ left = take_rest whole at ∙ ap (drop at) same ∙ sym here in
+    let front : new ≡ take n left = copy ∙ ap (take n) source in
+    let size : length new ≡ n = ap length front ∙ length-take n left ∙ omega (arith, ap length source, fits) in
+    let seam : take n (new ++ tail) ≡ new = ap (λ k. take k (new ++ tail)) (sym size) ∙ take-append_seam new tail in
+    let rest : drop (at + n) bytes ≡ drop n left = sym (drop-drop n at bytes) ∙ ap (drop n) (sym here) in
+    sym (ap (λ xs. xs ++ drop (at + n) bytes) (seam ∙ front) ∙ ap (λ xs. take n left ++ xs) rest ∙ take-append-drop n left)

@@ -5,6 +5,8 @@
 mod boxed;
 mod failures;
 mod list;
+mod mem_sink;
+mod mem_source;
 mod sink;
 mod source;
 mod span;
@@ -14,6 +16,8 @@ mod token;
 pub use boxed::Boxed;
 pub use failures::{Failed, NoMemory};
 pub use list::List;
+pub use mem_sink::MemSink;
+pub use mem_source::MemSource;
 pub use sink::{Sink, write_all};
 pub use source::{READ_PIECE, ReadAll, Source, read_all};
 pub use span::Span;
