@@ -23,3 +23,6 @@ pub use source::{READ_PIECE, ReadAll, Source, read_all};
 pub use span::Span;
 pub use status::Status;
 pub use token::{Class, Place};
+
+#[cfg(test)]
+mod tests;
