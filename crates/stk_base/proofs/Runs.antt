@@ -1,11 +1,11 @@
 -- How runs of reads and of writes add up.
-use Rattle.std.proofs.Common.{◌≡◌, ◌≤◌, ◌<◌, ◌+◌, ◌-◌, ℕ, List, [], ◌++◌, length, take, drop, Option, Some, None, Result, Ok, Err, IsErrOf, IsErrAnd, refl, sym, ap, ◌∙◌, append_assoc, append-nil, take-append-drop, length-append, length-take, arith}
+use Rattle.std.proofs.Common.{◌≡◌, ◌≤◌, ◌<◌, ◌+◌, ◌-◌, ℕ, List, [], ◌++◌, length, take, drop, Option, Some, None, Result, Ok, Err, IfOk, IsErrOf, IsErrAnd, refl, sym, ap, ◌∙◌, append_assoc, append-nil, take-append-drop, length-append, length-take, arith}
 use Rattle.std.proofs.lemmas.List.{take_rest, drop-drop}
 use Rattle.std.proofs.Math.Seq.{take-append_seam}
 use Rattle.stk_base.specs.declared.source.ReadAll.{ReadAll}
 use Rattle.stk_base.specs.declared.source.ReadAll.TheVariants.{TooLarge, NoMemory}
 use Rattle.std.specs.Option.{option_map}
-use Rattle.stk_base.specs.Streams.{Came, Appended}
+use Rattle.stk_base.specs.Streams.{Came, IsSpent, Appended}
 
 -- over no read nothing came
 pub came_nothing : (left : Option (List ℕ)) → Came left left []
@@ -73,3 +73,17 @@ copied n at bytes whole left new tail here same fits copy =
     let seam : take n (new ++ tail) ≡ new = ap (λ k. take k (new ++ tail)) (sym size) ∙ take-append_seam new tail in
     let rest : drop (at + n) bytes ≡ drop n left = sym (drop-drop n at bytes) ∙ ap (drop n) (sym here) in
     sym (ap (λ xs. xs ++ drop (at + n) bytes) (seam ∙ front) ∙ ap (λ xs. take n left ++ xs) rest ∙ take-append-drop n left)
+
+-- where a source told its bytes and nothing is left, all of them came
+pub came_all : (before after : Option (List ℕ)) (bytes xs : List ℕ) → Came before after bytes → IsSpent after → before ≡ Some xs → (bytes ≡ xs) × (after ≡ Some [])
+came_all before None bytes xs came spent told = cc
+came_all before (Some rest) bytes xs came spent told =
+    let nothing : rest ≡ [] = spent rest refl in
+    let none : bytes ++ rest ≡ bytes = ap (λ r. bytes ++ r) nothing ∙ append-nil bytes in
+    (cc, ap Some nothing)
+
+-- the same of an answer
+pub answer_tells : {T E : Type 0} (items : T → List ℕ) (result : Result T E) (before after : Option (List ℕ)) → IfOk result (λ x. Came before after (items x)) → IfOk result (λ _. IsSpent after)
+    → IfOk result (λ x. (xs : List ℕ) → before ≡ Some xs → (items x ≡ xs) × (after ≡ Some []))
+answer_tells items (Ok x) before after came spent = λ xs told. came_all before after (items x) xs came spent told
+answer_tells items (Err e) before after came spent = tt

@@ -1,5 +1,5 @@
 // Where bytes come from.
-ghost use Rattle.std.specs.Prelude.{◌≡◌, ◌↔◌, ◌≤◌, ◌<◌, ◌+◌, ◌^◌, ◌⊎◌, ℕ, List, length, take, vec_len, IfOk, OnErr, IsOk, IsErrOf};
+ghost use Rattle.std.specs.Prelude.{◌≡◌, ◌↔◌, ◌≤◌, ◌<◌, ◌+◌, ◌^◌, ◌⊎◌, ℕ, List, [], length, take, vec_len, IfOk, OnErr, IsOk, IsErrOf};
 ghost use Rattle.std.specs.Prelude.{Option};
 ghost use Rattle.stk_base.specs.Causes.{Rose, HasCause};
 ghost use Rattle.stk_base.specs.Streams.{Came, IsSpent};
@@ -67,6 +67,8 @@ pub fn read_all<S: Source>(alloc: Global, source: &mut S, limit: u64) -> Result<
     requires { limit < 2 ^ 32 }
     ensures whole { IfOk result (λ bytes. Came (S.left source.old) (S.left source.new) bytes.items) }
     ensures end { IfOk result (λ _. IsSpent (S.left source.new)) }
+    ensures told { IfOk result (λ bytes. (xs : List ℕ) → S.left source.old ≡ Some xs
+        → (bytes.items ≡ xs) × (S.left source.new ≡ Some [])) }
     ensures within { IfOk result (λ bytes. vec_len bytes ≤ limit) }
     ensures too_large { (came : List ℕ) × Came (S.left source.old) (S.left source.new) came
         × (IsErrOf result ReadAll.TooLarge ↔ (limit < length came)) × (length came ≤ limit + READ_PIECE) }
