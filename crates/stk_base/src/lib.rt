@@ -5,6 +5,10 @@
 mod boxed;
 mod failures;
 mod list;
+mod mem_sink;
+mod mem_source;
+mod sink;
+mod source;
 mod span;
 mod status;
 mod token;
@@ -12,6 +16,13 @@ mod token;
 pub use boxed::Boxed;
 pub use failures::{Failed, NoMemory};
 pub use list::List;
+pub use mem_sink::MemSink;
+pub use mem_source::MemSource;
+pub use sink::{Sink, write_all};
+pub use source::{READ_PIECE, ReadAll, Source, read_all};
 pub use span::Span;
 pub use status::Status;
 pub use token::{Class, Place};
+
+#[cfg(test)]
+mod tests;
