@@ -149,11 +149,17 @@ findings_text bytes f cs xs = []
 abbrev pub counted : ℕ → List ℕ → List ℕ
 counted n words = decimal n ++ words
 
--- `F functions, C candidates, U unstable, D undecided, S skipped`
+-- `F functions, C candidates, U unstable, `
+abbrev pub found_text : Counts → List ℕ
+found_text n = counted n.functions (codes " functions, ") ++ counted n.candidates (codes " candidates, ") ++ counted n.unstable (codes " unstable, ")
+
+-- `D undecided, S skipped`
+abbrev pub left_out_text : Counts → List ℕ
+left_out_text n = counted n.undecided (codes " undecided, ") ++ counted n.skipped (codes " skipped\n")
+
+-- `F functions, C candidates, U unstable, D undecided, S skipped`, and a newline
 abbrev pub summary_text : Counts → List ℕ
-summary_text n =
-    counted n.functions (codes " functions, ") ++ counted n.candidates (codes " candidates, ") ++ counted n.unstable (codes " unstable, ")
-    ++ counted n.undecided (codes " undecided, ") ++ counted n.skipped (codes " skipped\n")
+summary_text n = found_text n ++ left_out_text n
 
 -- the line of a unit that isn't of a form that the program judges; the place is that of its first token
 abbrev pub other_form_text : List ℕ → ℕ → List ℕ

@@ -3,7 +3,7 @@
 ghost use Rattle.std.specs.Prelude.{◌≡◌, ◌++◌, ◌∷◌, [], ◌==◌, ◌≤◌, IfOk, map, take, length, codes, decimal, count_by};
 ghost use Rattle.std.specs.Fmt.{signed_decimal};
 ghost use Rattle.stk_tree.specs.View.{view_expression, view_declarator, declarators, view_statement, view_part, parts, view_parameter, parameters, view_function};
-ghost use Rattle.stk_lint.specs.Records.{line_of, column_of, column_behind, place_text, expression_nodes, declarator_nodes, declarators_nodes, statement_nodes, part_nodes, parts_nodes, function_nodes, beginning, node_place, declarator_name, function_name, key_text, more_keys, start_text, kind_text, shown_text, need_text, needs_text, report_text, hit_text, finding_text, counted, summary_text, other_form_text};
+ghost use Rattle.stk_lint.specs.Records.{line_of, column_of, column_behind, place_text, expression_nodes, declarator_nodes, declarators_nodes, statement_nodes, part_nodes, parts_nodes, function_nodes, beginning, node_place, declarator_name, function_name, key_text, more_keys, start_text, kind_text, shown_text, need_text, needs_text, report_text, hit_text, finding_text, counted, found_text, left_out_text, summary_text, other_form_text};
 
 use itoa::Buffer;
 use stk_base::NoMemory;
@@ -279,15 +279,31 @@ fn add_counted(text: &mut Vec<u8>, count: u64, words: &[u8]) -> Result<(), NoMem
     add(text, words)
 }
 
-/// Adds the line of the summary.
-pub fn add_summary(text: &mut Vec<u8>, counts: Counts) -> Result<(), NoMemory>
-    ensures { IfOk result (λ _. text.new.items ≡ text.old.items ++ summary_text counts) }
+// Adds what the summary says of functions and candidates.
+fn add_found(text: &mut Vec<u8>, counts: Counts) -> Result<(), NoMemory>
+    ensures { IfOk result (λ _. text.new.items ≡ text.old.items ++ found_text counts) }
 {
     add_counted(text, counts.functions, b" functions, ")?;
     add_counted(text, counts.candidates, b" candidates, ")?;
     add_counted(text, counts.unstable, b" unstable, ")?;
+    Ok(())
+}
+
+// Adds what the summary says of what wasn't judged.
+fn add_left_out(text: &mut Vec<u8>, counts: Counts) -> Result<(), NoMemory>
+    ensures { IfOk result (λ _. text.new.items ≡ text.old.items ++ left_out_text counts) }
+{
     add_counted(text, counts.undecided, b" undecided, ")?;
-    add_counted(text, counts.skipped, b" skipped\n")
+    add_counted(text, counts.skipped, b" skipped\n")?;
+    Ok(())
+}
+
+/// Adds the line of the summary.
+pub fn add_summary(text: &mut Vec<u8>, counts: Counts) -> Result<(), NoMemory>
+    ensures { IfOk result (λ _. text.new.items ≡ text.old.items ++ summary_text counts) }
+{
+    add_found(text, counts)?;
+    add_left_out(text, counts)
 }
 
 /// Adds the line of a text that isn't of a form that the program judges; its first token begins at this byte.
