@@ -1,0 +1,5 @@
+pub mod Longest
+pub mod First
+pub mod Cuts
+pub mod Apart
+pub mod OneCut
