@@ -114,3 +114,54 @@ pub fn lex(alloc: Global, bytes: &[u8]) -> Result<Vec<Token>, NoMemory>
 pub fn one_cut()
     ensures { (text : List ℕ) (ts us : List Token) → IsCut text ts → IsCut text us → ts ≡ us }
 {}
+
+#[cfg(test)]
+mod tests {
+    use super::{Token, lex};
+    use stk_base::{Class, Span};
+
+    fn token(class: Class, from: u32, to: u32) -> Token {
+        Token {
+            class,
+            span: Span { from, to },
+        }
+    }
+
+    #[test]
+    fn cuts_texts(rt: HostRuntime) {
+        let names = [token(Class::Word, 0, 5), token(Class::Word, 6, 8)];
+        let bytes = b"int_9 _x".as_slice();
+        let numbers = [
+            token(Class::Number, 0, 7),
+            token(Class::Mark, 7, 8),
+            token(Class::Number, 8, 11),
+        ];
+        let signs = b"0x1.p+4+.5e".as_slice();
+        let marks = [
+            token(Class::Mark, 0, 2),
+            token(Class::Mark, 2, 4),
+            token(Class::Mark, 4, 5),
+            token(Class::Mark, 5, 8),
+        ];
+        let tight = b"<=++/...".as_slice();
+        let strays = [
+            token(Class::Stray, 1, 2),
+            token(Class::Mark, 2, 3),
+            token(Class::Mark, 3, 4),
+            token(Class::Stray, 6, 7),
+        ];
+        let odd = b"\n'/*\x0b\x0c#\r\t".as_slice();
+        for (text, tokens) in [
+            (bytes, names.as_slice()),
+            (signs, &numbers),
+            (tight, &marks),
+            (odd, &strays),
+            (b" ", &[]),
+        ] {
+            match lex(rt.alloc(), text) {
+                Ok(found) => assert!(rt; found.as_slice() == tokens),
+                Err(_) => assert!(rt; false),
+            }
+        }
+    }
+}
