@@ -2,3 +2,4 @@ pub mod Classes
 pub mod Gaps
 pub mod Cut
 pub mod Lengths
+pub mod Texts

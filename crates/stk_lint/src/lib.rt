@@ -3,5 +3,6 @@
 
 mod lexing;
 mod scan;
+mod texts;
 
 pub use lexing::{Token, lex, one_cut};
