@@ -3,3 +3,5 @@ pub mod Gaps
 pub mod Cut
 pub mod Lengths
 pub mod Texts
+pub mod SmallForm
+pub mod SmallReading

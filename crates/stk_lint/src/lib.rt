@@ -3,6 +3,7 @@
 
 mod lexing;
 mod scan;
+mod small;
 mod texts;
 
 pub use lexing::{Token, lex, one_cut};
