@@ -3,3 +3,5 @@ pub mod First
 pub mod Cuts
 pub mod Apart
 pub mod OneCut
+pub mod SmallPrints
+pub mod Rows

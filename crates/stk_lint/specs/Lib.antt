@@ -5,3 +5,4 @@ pub mod Lengths
 pub mod Texts
 pub mod SmallForm
 pub mod SmallReading
+pub mod Gives

@@ -2,6 +2,7 @@
 #![tactic(auto)]
 
 mod lexing;
+mod reading;
 mod scan;
 mod small;
 mod texts;
