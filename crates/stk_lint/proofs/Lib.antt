@@ -5,3 +5,5 @@ pub mod Apart
 pub mod OneCut
 pub mod SmallPrints
 pub mod Rows
+pub mod SmallSound
+pub mod SmallComplete

@@ -42,14 +42,13 @@ module _ {A : Type 0} (begins : List Terminal → Bool) (element : List Terminal
       ap (λ p. cond p (element ts >>= λ x. row begins element turns (so_far ++ x.0 ∷ []) x.1) (Some (so_far, ts))) b ∙ ap (λ (o : Found A). o >>= λ x. row begins element turns (so_far ++ x.0 ∷ []) x.1) e
 
   module _ (print : A → List Terminal → List Terminal) (is_well : A → Bool) where
-    pub IsRow : List A → List Terminal → List A × List Terminal → Type 0
+    abbrev pub IsRow : List A → List Terminal → List A × List Terminal → Type 0
     IsRow so_far ts x = (ys : List A) × (x.0 ≡ so_far ++ ys) × (ts ≡ print_row print ys x.1) × (list_all is_well ys ≡ true)
 
     module _ (sound : (ts : List Terminal) (x : A × List Terminal) → element ts ≡ Some x → (ts ≡ print x.0 x.1) × (is_well x.0 ≡ true)) where
       row_on : (go_on : List A → List Terminal → Found (List A)) (so_far : List A) (ts : List Terminal) (x : List A × List Terminal) (b : Bool)
           → ((more : List A) (rest : List Terminal) → go_on more rest ≡ Some x → IsRow more rest x)
           → cond b (element ts >>= λ y. go_on (so_far ++ y.0 ∷ []) y.1) (Some (so_far, ts)) ≡ Some x → IsRow so_far ts x
-      unfolding IsRow
       row_on go_on so_far ts x true later e =
           let y = bind_some (element ts) (λ y. go_on (so_far ++ y.0 ∷ []) y.1) x e in
           let p = sound ts y.0 y.1 in

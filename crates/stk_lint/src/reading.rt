@@ -299,3 +299,103 @@ fn begins_if(terminals: &[Terminal]) -> bool
 {
     matches!(terminals, [Terminal::If, ..])
 }
+
+/// Locals in a row, as long as one begins.
+fn locals_at<'a>(
+    alloc: Global,
+    terminals: &'a [Terminal],
+) -> Result<(List<Local>, &'a [Terminal]), Refusal>
+    ensures { Gives (λ x. (x.0, x.1.now)) result (locals_at terminals.now) }
+{
+    let mut locals = Vec::new(alloc);
+    let mut rest = terminals;
+    while begins_int(rest) {
+        let Some((local, behind)) = local_at(rest) else {
+            return Err(Refusal::NoForm);
+        };
+        locals.push(local)?;
+        rest = behind;
+    }
+    Ok((List::from_vec(locals), rest))
+}
+
+/// Tests in a row, as long as one begins.
+fn tests_at<'a>(
+    alloc: Global,
+    terminals: &'a [Terminal],
+) -> Result<(List<Test>, &'a [Terminal]), Refusal>
+    ensures { Gives (λ x. (x.0, x.1.now)) result (tests_at terminals.now) }
+{
+    let mut tests = Vec::new(alloc);
+    let mut rest = terminals;
+    while begins_if(rest) {
+        let Some((test, behind)) = test_at(rest) else {
+            return Err(Refusal::NoForm);
+        };
+        tests.push(test)?;
+        rest = behind;
+    }
+    Ok((List::from_vec(tests), rest))
+}
+
+/// Parameters with a comma between each two.
+fn parameters_at<'a>(
+    alloc: Global,
+    terminals: &'a [Terminal],
+) -> Result<(List<Span>, &'a [Terminal]), Refusal>
+    ensures { Gives (λ x. (x.0, x.1.now)) result (parameters_at terminals.now) }
+{
+    let Some((first, behind)) = parameter_at(terminals) else {
+        return Err(Refusal::NoForm);
+    };
+    let mut parameters = Vec::new(alloc);
+    parameters.push(first)?;
+    more_parameters(parameters, behind)
+}
+
+/// Further parameters, behind these.
+fn more_parameters(
+    mut parameters: Vec<Span>,
+    terminals: &[Terminal],
+) -> Result<(List<Span>, &[Terminal]), Refusal>
+    ensures { Gives (λ x. (x.0, x.1.now)) result (row begins_comma next_parameter_at (suc (length terminals.now)) parameters.items terminals.now) }
+{
+    let mut rest = terminals;
+    while begins_comma(rest) {
+        let Some((parameter, behind)) = next_parameter_at(rest) else {
+            return Err(Refusal::NoForm);
+        };
+        parameters.push(parameter)?;
+        rest = behind;
+    }
+    Ok((List::from_vec(parameters), rest))
+}
+
+/// The outline of a function, where the terminals are one function of the small form and nothing else.
+#[tactic(auto, unfolding(crate::specs::SmallReading::outline_of))]
+pub fn outline_of(alloc: Global, terminals: &[Terminal]) -> Result<Outline, Refusal>
+    ensures { Gives (λ o. o) result (outline_of terminals.now) }
+{
+    let Some((name, rest)) = head_at(terminals) else {
+        return Err(Refusal::NoForm);
+    };
+    let (parameters, rest) = parameters_at(alloc, rest)?;
+    let Some(rest) = behind_opening(rest) else {
+        return Err(Refusal::NoForm);
+    };
+    let (locals, rest) = locals_at(alloc, rest)?;
+    let (tests, rest) = tests_at(alloc, rest)?;
+    let Some((result, rest)) = result_at(rest) else {
+        return Err(Refusal::NoForm);
+    };
+    if !is_closing(rest) {
+        return Err(Refusal::NoForm);
+    }
+    Ok(Outline {
+        name,
+        parameters,
+        locals,
+        tests,
+        result,
+    })
+}
