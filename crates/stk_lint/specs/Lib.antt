@@ -6,3 +6,4 @@ pub mod Texts
 pub mod SmallForm
 pub mod SmallReading
 pub mod Gives
+pub mod SmallTree

@@ -1,6 +1,7 @@
 //! Judging C functions.
 #![tactic(auto)]
 
+mod building;
 mod lexing;
 mod reading;
 mod scan;
