@@ -4,7 +4,7 @@ use Rattle.stk_base.specs.declared.span.Span.{Span}
 use Rattle.stk_tree.specs.declared.node.Node.{Node}
 use Rattle.stk_tree.specs.declared.fixed.Fixed.{Fixed}
 use Rattle.stk_tree.specs.declared.fixed.Fixed.TheVariants.{Int, Unsigned, Char}
-use Rattle.stk_tree.specs.Syntax.{BaseTree, ParamTree, ExprTree, DeclarationTree, StmtTree, PartTree, UnitTree}
+use Rattle.stk_tree.specs.Syntax.{BaseTree, DeclrTree, ParamTree, ExprTree, DeclarationTree, StmtTree, PartTree, UnitTree}
 use Rattle.stk_tree.specs.Syntax as s
 use Rattle.stk_tree.specs.View.{parameters, parts}
 use Rattle.stk_lint.specs.declared.small.Operand.{Operand}
@@ -40,9 +40,13 @@ local_tree l =
     s.local (s.declaration None (base_tree (Int ∷ []))
     (s.then_declarator (s.declarator bare 0 (Some l.name) (s.arrays s.no_dimensions) (s.some_initialiser (s.plain (term_tree l.value)))) s.no_declarators))
 
+-- `term compare term`
+abbrev pub condition_tree : Test → ExprTree
+condition_tree t = s.expression bare (s.binary t.compare (term_tree t.left) (term_tree t.right))
+
 -- `if (term compare term) return term;`
 abbrev pub test_tree : Test → PartTree
-test_tree t = s.run (s.statement bare (s.if_statement (s.expression bare (s.binary t.compare (term_tree t.left) (term_tree t.right))) (result_tree t.result) s.no_statement))
+test_tree t = s.run (s.statement bare (s.if_statement (condition_tree t) (result_tree t.result) s.no_statement))
 
 -- `unsigned char name`
 abbrev pub parameter_tree : Span → ParamTree
@@ -52,9 +56,14 @@ parameter_tree at = s.parameter bare (base_tree (Unsigned ∷ Char ∷ [])) (s.d
 abbrev pub part_trees : Outline → List PartTree
 part_trees o = map local_tree o.locals ++ map test_tree o.tests ++ s.run (result_tree o.result) ∷ []
 
+-- the declarator of the function, with its parameters
+abbrev pub head_tree : Outline → DeclrTree
+head_tree o = s.declarator bare 0 (Some o.name) (s.with_parameters (parameters (map parameter_tree o.parameters)) false) s.no_initialiser
+
+-- the block of the function
+abbrev pub body_tree : Outline → StmtTree
+body_tree o = s.statement bare (s.block (parts (part_trees o)))
+
 -- the function definition
 abbrev pub unit_tree : Outline → UnitTree
-unit_tree o =
-    s.defines bare (s.function None (base_tree (Int ∷ []))
-    (s.declarator bare 0 (Some o.name) (s.with_parameters (parameters (map parameter_tree o.parameters)) false) s.no_initialiser)
-    (s.statement bare (s.block (parts (part_trees o)))))
+unit_tree o = s.defines bare (s.function None (base_tree (Int ∷ [])) (head_tree o) (body_tree o))

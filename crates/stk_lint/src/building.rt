@@ -4,7 +4,7 @@ ghost use Rattle.std.specs.Prelude.{◌≡◌, ◌++◌, ◌∷◌, [], map, opt
 ghost use Rattle.stk_tree.specs.View.{maybe_initialiser, view_base, view_declarator, view_expression, view_initialiser, view_parameter, view_part, view_statement, view_unit};
 ghost use Rattle.stk_tree.specs.Syntax.{expression, binary, declarator, arrays, no_dimensions};
 ghost use Rattle.stk_tree.specs.declared.fixed.Fixed.TheVariants.{Int, Unsigned, Char};
-ghost use Rattle.stk_lint.specs.SmallTree.{bare, base_tree, operand_tree, term_tree, result_tree, local_tree, test_tree, parameter_tree, part_trees, unit_tree};
+ghost use Rattle.stk_lint.specs.SmallTree.{bare, base_tree, operand_tree, term_tree, result_tree, local_tree, condition_tree, test_tree, parameter_tree, part_trees, head_tree, body_tree, unit_tree};
 
 use crate::small::{Local, Operand, Outline, Term, Test};
 use std::alloc::Global;
@@ -114,13 +114,20 @@ fn local_tree(alloc: Global, local: Local) -> Result<Part, NoMemory>
     }))
 }
 
+/// `term compare term`
+fn condition_tree(alloc: Global, test: Test) -> Result<Expr, NoMemory>
+    ensures { IfOk result (λ e. view_expression e ≡ condition_tree test) }
+{
+    let left = term_tree(alloc, test.left)?;
+    let right = term_tree(alloc, test.right)?;
+    binary_tree(alloc, test.compare, left, right)
+}
+
 /// `if (term compare term) return term;`
 fn test_tree(alloc: Global, test: Test) -> Result<Part, NoMemory>
     ensures { IfOk result (λ x. view_part x ≡ test_tree test) }
 {
-    let left = term_tree(alloc, test.left)?;
-    let right = term_tree(alloc, test.right)?;
-    let condition = binary_tree(alloc, test.compare, left, right)?;
+    let condition = condition_tree(alloc, test)?;
     let then = Boxed::new(alloc, result_tree(alloc, test.result)?)?;
     Ok(Part::Run(Stmt {
         node: bare(),
@@ -180,27 +187,39 @@ fn part_trees(alloc: Global, outline: &Outline) -> Result<List<Part>, NoMemory>
     Ok(List::from_vec(parts))
 }
 
-/// The tree of an outline, whose nodes have no number and no span yet.
-pub fn unit_tree(alloc: Global, outline: &Outline) -> Result<Unit, NoMemory>
-    ensures { IfOk result (λ u. view_unit u ≡ unit_tree outline.now) }
+/// The declarator of a function with its parameters.
+fn head_tree(alloc: Global, outline: &Outline) -> Result<Declr, NoMemory>
+    ensures { IfOk result (λ d. view_declarator d ≡ head_tree outline.now) }
 {
     let parameters = parameter_trees(alloc, outline.parameters.as_slice())?;
-    let declr = Declr {
+    Ok(Declr {
         node: bare(),
         stars: 0,
         name: Some(outline.name),
         tail: Tail::Params(parameters, false),
         init: None,
-    };
-    let body = Stmt {
+    })
+}
+
+/// The block of a function.
+fn body_tree(alloc: Global, outline: &Outline) -> Result<Stmt, NoMemory>
+    ensures { IfOk result (λ x. view_statement x ≡ body_tree outline.now) }
+{
+    Ok(Stmt {
         node: bare(),
         form: StmtForm::Block(part_trees(alloc, outline)?),
-    };
+    })
+}
+
+/// The tree of an outline, whose nodes have no number and no span yet.
+pub fn unit_tree(alloc: Global, outline: &Outline) -> Result<Unit, NoMemory>
+    ensures { IfOk result (λ u. view_unit u ≡ unit_tree outline.now) }
+{
     let function = Function {
         storage: None,
         base: int_base(alloc)?,
-        declr,
-        body,
+        declr: head_tree(alloc, outline)?,
+        body: body_tree(alloc, outline)?,
     };
     Ok(Unit::Defines(bare(), function))
 }
