@@ -1,1 +1,10 @@
+pub mod Longest
+pub mod First
+pub mod Cuts
+pub mod Apart
+pub mod OneCut
+pub mod SmallPrints
+pub mod Rows
+pub mod SmallSound
+pub mod SmallComplete
 pub mod Joined

@@ -29,45 +29,42 @@ use Rattle.stk_tree.specs.declared.unit.Unit.TheVariants as unit
 use Rattle.stk_tree.specs.Syntax.{BaseFormTree, DesigTree, DimensionTree, InitTree, TailTree, ExprFormTree, BaseTree, DeclrTree, EnumrTree, ItemTree, MemberTree, ParamTree, TypeNameTree, ExprTree, PartTree, StmtFormTree, SectionTree, StmtTree, DeclarationTree, FunctionTree, LabelTree, StartTree, UnitTree, MemberTrees, EnumrTrees, DeclrTrees, DimensionTrees, ParamTrees, ItemTrees, DesigTrees, ExprTrees, LabelTrees, StmtTrees, PartTrees, SectionTrees, MaybeInitTree, MaybeExprTree, MaybeStmtTree}
 use Rattle.stk_tree.specs.Syntax as syntax
 
+-- a list as syntax: `none`, with each element added in front
+abbrev pub chained : {X T : Type 0} → (X → T → T) → T → List X → T
+chained add none [] = none
+chained add none (x ∷ xs) = add x (chained add none xs)
+
 -- members in a row
 abbrev pub members : List MemberTree → MemberTrees
-members [] = syntax.no_members
-members (x ∷ xs) = syntax.then_member x (members xs)
+members xs = chained syntax.then_member syntax.no_members xs
 
 -- enumerators in a row
 abbrev pub enumerators : List EnumrTree → EnumrTrees
-enumerators [] = syntax.no_enumerators
-enumerators (x ∷ xs) = syntax.then_enumerator x (enumerators xs)
+enumerators xs = chained syntax.then_enumerator syntax.no_enumerators xs
 
 -- declarators in a row
 abbrev pub declarators : List DeclrTree → DeclrTrees
-declarators [] = syntax.no_declarators
-declarators (x ∷ xs) = syntax.then_declarator x (declarators xs)
+declarators xs = chained syntax.then_declarator syntax.no_declarators xs
 
 -- dimensions in a row
 abbrev pub dimensions : List DimensionTree → DimensionTrees
-dimensions [] = syntax.no_dimensions
-dimensions (x ∷ xs) = syntax.then_dimension x (dimensions xs)
+dimensions xs = chained syntax.then_dimension syntax.no_dimensions xs
 
 -- parameters in a row
 abbrev pub parameters : List ParamTree → ParamTrees
-parameters [] = syntax.no_parameters
-parameters (x ∷ xs) = syntax.then_parameter x (parameters xs)
+parameters xs = chained syntax.then_parameter syntax.no_parameters xs
 
 -- items in a row
 abbrev pub items : List ItemTree → ItemTrees
-items [] = syntax.no_items
-items (x ∷ xs) = syntax.then_item x (items xs)
+items xs = chained syntax.then_item syntax.no_items xs
 
 -- designators in a row
 abbrev pub designators : List DesigTree → DesigTrees
-designators [] = syntax.no_designators
-designators (x ∷ xs) = syntax.then_designator x (designators xs)
+designators xs = chained syntax.then_designator syntax.no_designators xs
 
 -- expressions in a row
 abbrev pub expressions : List ExprTree → ExprTrees
-expressions [] = syntax.no_expressions
-expressions (x ∷ xs) = syntax.then_expression x (expressions xs)
+expressions xs = chained syntax.then_expression syntax.no_expressions xs
 
 -- an initialiser that may be missing
 abbrev pub maybe_initialiser : Option InitTree → MaybeInitTree
@@ -226,23 +223,19 @@ view_label (label.Case e) = syntax.case_label (view_expression e)
 
 -- labels in a row
 abbrev pub labels : List LabelTree → LabelTrees
-labels [] = syntax.no_labels
-labels (x ∷ xs) = syntax.then_label x (labels xs)
+labels xs = chained syntax.then_label syntax.no_labels xs
 
 -- statements in a row
 abbrev pub statements : List StmtTree → StmtTrees
-statements [] = syntax.no_statements
-statements (x ∷ xs) = syntax.then_statement x (statements xs)
+statements xs = chained syntax.then_statement syntax.no_statements xs
 
 -- parts in a row
 abbrev pub parts : List PartTree → PartTrees
-parts [] = syntax.no_parts
-parts (x ∷ xs) = syntax.then_part x (parts xs)
+parts xs = chained syntax.then_part syntax.no_parts xs
 
 -- sections in a row
 abbrev pub sections : List SectionTree → SectionTrees
-sections [] = syntax.no_sections
-sections (x ∷ xs) = syntax.then_section x (sections xs)
+sections xs = chained syntax.then_section syntax.no_sections xs
 
 -- a statement that may be missing
 abbrev pub maybe_statement : Option StmtTree → MaybeStmtTree
