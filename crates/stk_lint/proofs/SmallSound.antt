@@ -147,7 +147,7 @@ pub test_is : (ts : List Terminal) (x : Test × List Terminal) → test_at ts �
 unfolding test_at
 test_is ts x e =
     let i = bind_some (behind_if ts) (λ inside. term_at inside >>= λ l. comparison_at l.1 >>= λ c. term_at c.1 >>= λ r. behind_right_paren r.1
-        >>= λ rest. result_at rest >>= λ t. Some (record { left = l.0; compare = c.0; right = r.0; result = t.0 }, t.1)) x e in
+    >>= λ rest. result_at rest >>= λ t. Some (record { left = l.0; compare = c.0; right = r.0; result = t.0 }, t.1)) x e in
     let l = bind_some (term_at i.0) _ x i.2 in
     let c = bind_some (comparison_at l.0.1) _ x l.2 in
     let r = bind_some (term_at c.0.1) _ x c.2 in
@@ -157,11 +157,12 @@ test_is ts x e =
     let q = comparison_is l.0.1 c.0 c.1 in
     let s = term_is c.0.1 r.0 r.1 in
     let u = result_is b.0 t.0 t.1 in
-    subst (IsTestText ts) (some_is (record { left = l.0.0; compare = c.0.0; right = r.0.0; result = t.0.0 }, t.0.1) x t.2)
-    (if_is ts i.0 i.1
-     ∙ ap (λ r. terminals.If ∷ terminals.LeftParen ∷ r)
-       (p.0 ∙ ap (print_term l.0.0) (q.0 ∙ ap (λ z. terminals.Operator c.0.0 ∷ z) (s.0 ∙ ap (print_term r.0.0) (right_paren_is r.0.1 b.0 b.1 ∙ ap (λ z. terminals.RightParen ∷ z) u.0)))),
-     all_four (is_well_term l.0.0) (is_comparison c.0.0) (is_well_term r.0.0) (is_well_term t.0.0) p.1 q.1 s.1 u.1)
+    subst (IsTestText ts) (some_is (record { left = l.0.0; compare = c.0.0; right = r.0.0; result = t.0.0 }, t.0.1) x t.2) (
+      if_is ts i.0 i.1
+          ∙ ap (λ r. terminals.If ∷ terminals.LeftParen ∷ r)
+          (p.0 ∙ ap (print_term l.0.0) (q.0 ∙ ap (λ z. terminals.Operator c.0.0 ∷ z) (s.0 ∙ ap (print_term r.0.0) (right_paren_is r.0.1 b.0 b.1 ∙ ap (λ z. terminals.RightParen ∷ z) u.0)))),
+      all_four (is_well_term l.0.0) (is_comparison c.0.0) (is_well_term r.0.0) (is_well_term t.0.0) p.1 q.1 s.1 u.1,
+    )
 
 pub next_parameter_is : (ts : List Terminal) (x : Span × List Terminal) → next_parameter_at ts ≡ Some x → (ts ≡ print_next_parameter x.0 x.1) × (is_well_name x.0 ≡ true)
 unfolding next_parameter_at
@@ -218,7 +219,7 @@ pub outline_is : (ts : List Terminal) (x : Outline) → outline_of ts ≡ Some x
 unfolding outline_of
 outline_is ts x e =
     let h = bind_some (head_at ts) (λ h. parameters_at h.1 >>= λ ps. behind_opening ps.1 >>= λ inside. locals_at inside >>= λ ls. tests_at ls.1 >>= λ xs. result_at xs.1
-        >>= λ r. cond (is_closing r.1) (Some (record { name = h.0; parameters = ps.0; locals = ls.0; tests = xs.0; result = r.0 })) None) x e in
+    >>= λ r. cond (is_closing r.1) (Some (record { name = h.0; parameters = ps.0; locals = ls.0; tests = xs.0; result = r.0 })) None) x e in
     let ps = bind_some (parameters_at h.0.1) _ x h.2 in
     let i = bind_some (behind_opening ps.0.1) _ x ps.2 in
     let ls = bind_some (locals_at i.0) _ x i.2 in
@@ -231,11 +232,12 @@ outline_is ts x e =
     let t = tests_is ls.0.1 xs.0 xs.1 in
     let u = result_is xs.0.1 r.0 r.1 in
     let parts : i.0 ≡ print_parts o = l.0 ∙ ap (print_row print_local ls.0.0) (t.0 ∙ ap (print_row print_test xs.0.0) (u.0 ∙ ap (print_result r.0.0) end.0)) in
-    subst (IsOutlineText ts) end.1
-    (head_is ts h.0 h.1
-     ∙ ap (λ z. terminals.Int ∷ terminals.Operand (operand.Name h.0.0) ∷ terminals.LeftParen ∷ z)
-       (p.0 ∙ ap (print_parameters ps.0.0) (opening_is ps.0.1 i.0 i.1 ∙ ap (λ z. terminals.RightParen ∷ terminals.LeftBrace ∷ z) parts)),
-     record { parameters = p.1; locals = l.1; tests = t.1; result = u.1 })
+    subst (IsOutlineText ts) end.1 (
+      head_is ts h.0 h.1
+          ∙ ap (λ z. terminals.Int ∷ terminals.Operand (operand.Name h.0.0) ∷ terminals.LeftParen ∷ z)
+          (p.0 ∙ ap (print_parameters ps.0.0) (opening_is ps.0.1 i.0 i.1 ∙ ap (λ z. terminals.RightParen ∷ terminals.LeftBrace ∷ z) parts)),
+      record { parameters = p.1; locals = l.1; tests = t.1; result = u.1 },
+    )
 
 -- ---- the steps of the reader of parameters
 

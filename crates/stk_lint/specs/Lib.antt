@@ -8,3 +8,4 @@ pub mod SmallReading
 pub mod Gives
 pub mod SmallTree
 pub mod Records
+pub mod SmallTexts

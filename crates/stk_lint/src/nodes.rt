@@ -4,10 +4,10 @@ ghost use Rattle.std.specs.Prelude.{◌≡◌, ◌++◌, IfOk, map};
 ghost use Rattle.stk_tree.specs.View.{view_expression, view_declarator, declarators, view_statement, view_part, parts, view_function};
 ghost use Rattle.stk_lint.specs.Records.{expression_nodes, declarator_nodes, declarators_nodes, statement_nodes, part_nodes, parts_nodes, function_nodes};
 
+use std::alloc::Global;
 use stk_base::NoMemory;
 use stk_meaning::body_of;
 use stk_tree::{Declr, Expr, ExprForm, Function, Init, Node, Part, Stmt, StmtForm};
-use std::alloc::Global;
 
 // Adds the nodes of an expression.
 fn add_expression(expr: &Expr, nodes: &mut Vec<Node>) -> Result<(), NoMemory>

@@ -191,7 +191,12 @@ fn head_at(terminals: &[Terminal]) -> Option<(Span, &[Terminal])>
     ensures { option_map (λ x. (x.0, x.1.now)) result ≡ head_at terminals.now }
 {
     match terminals {
-        [Terminal::Int, Terminal::Operand(Operand::Name(name)), Terminal::LeftParen, rest @ ..] => Some((*name, rest)),
+        [
+            Terminal::Int,
+            Terminal::Operand(Operand::Name(name)),
+            Terminal::LeftParen,
+            rest @ ..,
+        ] => Some((*name, rest)),
         _ => None,
     }
 }
@@ -202,7 +207,12 @@ fn parameter_at(terminals: &[Terminal]) -> Option<(Span, &[Terminal])>
     ensures { option_map (λ x. (x.0, x.1.now)) result ≡ parameter_at terminals.now }
 {
     match terminals {
-        [Terminal::Unsigned, Terminal::Char, Terminal::Operand(Operand::Name(name)), rest @ ..] => Some((*name, rest)),
+        [
+            Terminal::Unsigned,
+            Terminal::Char,
+            Terminal::Operand(Operand::Name(name)),
+            rest @ ..,
+        ] => Some((*name, rest)),
         _ => None,
     }
 }
@@ -213,7 +223,12 @@ fn local_head_at(terminals: &[Terminal]) -> Option<(Span, &[Terminal])>
     ensures { option_map (λ x. (x.0, x.1.now)) result ≡ local_head_at terminals.now }
 {
     match terminals {
-        [Terminal::Int, Terminal::Operand(Operand::Name(name)), Terminal::Assign, rest @ ..] => Some((*name, rest)),
+        [
+            Terminal::Int,
+            Terminal::Operand(Operand::Name(name)),
+            Terminal::Assign,
+            rest @ ..,
+        ] => Some((*name, rest)),
         _ => None,
     }
 }
