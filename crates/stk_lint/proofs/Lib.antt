@@ -8,3 +8,4 @@ pub mod Rows
 pub mod SmallSound
 pub mod SmallComplete
 pub mod Joined
+pub mod Plain

@@ -9,3 +9,4 @@ pub mod Gives
 pub mod SmallTree
 pub mod Records
 pub mod SmallTexts
+pub mod LawfulText
