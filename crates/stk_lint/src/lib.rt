@@ -1,0 +1,4 @@
+//! The checker as one call: from bytes to records.
+#![tactic(auto)]
+
+mod maps;
