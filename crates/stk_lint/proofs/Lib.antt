@@ -1,1 +1,3 @@
 pub mod MapOrder
+pub mod Search
+pub mod Deletion

@@ -1,4 +1,5 @@
 //! The checker as one call: from bytes to records.
 #![tactic(auto)]
 
+mod judging;
 mod maps;
