@@ -1,3 +1,4 @@
 pub mod MapOrder
 pub mod Search
 pub mod Deletion
+pub mod Needed

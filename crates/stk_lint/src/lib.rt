@@ -3,3 +3,4 @@
 
 mod judging;
 mod maps;
+mod set_laws;
