@@ -9,3 +9,7 @@ pub mod SmallSound
 pub mod SmallComplete
 pub mod Joined
 pub mod Plain
+pub mod MapOrder
+pub mod Search
+pub mod Deletion
+pub mod Needed

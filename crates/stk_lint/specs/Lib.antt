@@ -10,3 +10,6 @@ pub mod SmallTree
 pub mod Records
 pub mod SmallTexts
 pub mod LawfulText
+pub mod Maps
+pub mod Judging
+pub mod SetLaws

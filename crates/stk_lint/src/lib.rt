@@ -2,11 +2,14 @@
 #![tactic(auto)]
 
 mod building;
+mod judging;
 mod lexing;
+mod maps;
 mod nodes;
 mod reading;
 mod records;
 mod scan;
+mod set_laws;
 mod small;
 mod texts;
 
