@@ -13,3 +13,4 @@ pub mod MapOrder
 pub mod Search
 pub mod Deletion
 pub mod Needed
+pub mod Findings

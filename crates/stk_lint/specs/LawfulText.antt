@@ -70,4 +70,4 @@ pub record Prints (bytes : List ℕ) (tokens : List Token) (f : FunctionTree) : 
 pub data IsLawfulText (bytes : List ℕ) : List ℕ → Status → Type 0 where
   no_token : IsCut bytes [] → IsLawfulText bytes (summary_text nothing_counted) Stable
   other_form : {first : Token} {others : List Token} → IsCut bytes (first ∷ others) → ((f : FunctionTree) → Prints bytes (first ∷ others) f → ⊥) → IsLawfulText bytes (other_form_text bytes first.span.from ++ summary_text one_skipped) Stable
-  judged : {tokens : List Token} {f : FunctionTree} {findings : List Finding} → IsCut bytes tokens → Prints bytes tokens f → AreLawful bytes f (candidates f) findings → IsLawfulText bytes (findings_text bytes f (candidates f) findings ++ summary_text (one_judged findings)) (status_of (unstable_count findings))
+  judged : {tokens : List Token} {f : FunctionTree} (findings : List Finding) → IsCut bytes tokens → Prints bytes tokens f → AreLawful bytes f (candidates f) findings → IsLawfulText bytes (findings_text bytes f (candidates f) findings ++ summary_text (one_judged findings)) (status_of (unstable_count findings))

@@ -13,3 +13,4 @@ pub mod LawfulText
 pub mod Maps
 pub mod Judging
 pub mod SetLaws
+pub mod Judged

@@ -59,11 +59,7 @@ fn first_answer(
 }
 
 // The conditions of a query: those below, and the members of the set.
-fn query_set(
-    alloc: Global,
-    below: &[Condition],
-    needs: &[Need],
-) -> Result<Vec<Condition>, NoMemory>
+fn query_set(alloc: Global, below: &[Condition], needs: &[Need]) -> Result<Vec<Condition>, NoMemory>
     ensures { IfOk result (λ set. set.items ≡ below.now ++ members (reverse needs.now)) }
 {
     let mut set = Vec::new(alloc);

@@ -8,6 +8,7 @@ mod maps;
 mod nodes;
 mod reading;
 mod records;
+mod report;
 mod scan;
 mod set_laws;
 mod small;
@@ -15,3 +16,4 @@ mod texts;
 
 pub use lexing::{Token, lex, one_cut};
 pub use records::Counts;
+pub use report::Report;
