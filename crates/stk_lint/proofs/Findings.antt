@@ -62,5 +62,5 @@ module _ (bytes : List ℕ) (f : FunctionTree) where
         findings = h.findings;
         lawful = h.lawful;
         same_text = e ∙ (λ i. h.added i ++ summary_text (record { functions = 1; candidates = (same ∙ sym (length_same (candidates f) h.findings h.lawful)) i; unstable = h.count i; undecided = 0; skipped = 0 }));
-        same_status = st ∙ ap status_of h.count
+        same_status = st ∙ ap status_of h.count;
       }

@@ -1,5 +1,5 @@
 -- Functions of the small form are of the plain form that runs are defined for, also once their nodes are laid out.
-use Rattle.std.proofs.Common.{◌≡◌, ℕ, zero, suc, ◌+◌, ◌<◌, ◌≤◌, Bool, true, false, List, [], ◌∷◌, ◌++◌, Option, Some, None, refl, sym, ap, ◌∙◌, arith, leb}
+use Rattle.std.proofs.Common.{◌≡◌, ℕ, zero, suc, ◌+◌, ◌<◌, ◌≤◌, Bool, true, false, List, [], ◌∷◌, ◌++◌, Option, Some, None, refl, sym, ap, ◌∙◌, subst, arith, leb}
 use Rattle.std.specs.Prelude.{◌&&◌, nat_le}
 use Rattle.std.proofs.lemmas.Bool.{leb-true}
 use Rattle.stk_base.specs.declared.span.Span.{Span}
@@ -9,6 +9,10 @@ use Rattle.stk_tree.specs.declared.expression.BinaryOp.TheVariants.{Add, Mul, Di
 use Rattle.stk_tree.specs.Syntax.{ExprTree, DeclrTree, DeclrTrees, DeclarationTree, StmtTree, PartTree, PartTrees, FunctionTree, UnitTree}
 use Rattle.stk_tree.specs.Syntax as s
 use Rattle.stk_tree.specs.Layout.{laid_expression, laid_declarator, laid_declarators, laid_declaration, laid_statement, laid_part, laid_parts, laid_function}
+use Rattle.stk_tree.specs.Layout.{unit_laid_out}
+use Rattle.stk_lint.specs.declared.lexing.Token.{Token}
+use Rattle.stk_lint.specs.LawfulText.{Prints, spans_of}
+use Rattle.stk_lint.specs.SmallForm.{IsOperand, IsTermOperator, IsComparison, IsTerm, IsSum, IsCondition, IsReturn, IsTest, IsLocal, AreTests, AreParts, IsSmallFunction, IsSmall, is_small_number, decimal}
 use Rattle.stk_meaning.specs.Values.{compares, is_arithmetic}
 use Rattle.stk_meaning.specs.Forms.{IsPlainTerm, IsPlainTest, IsPlainDeclarator, ArePlainDeclarators, IsPlainLocal, IsPlainStatement, IsPlainPart, ArePlainParts, IsPlain}
 
@@ -51,3 +55,74 @@ module _ (spans : List Span) (bytes : List ℕ) where
   pub laid_plain : (n t : ℕ) (f : FunctionTree) → IsPlain bytes f → IsPlain bytes (laid_function spans n t f)
   laid_plain n t (s.function storage b (s.declarator k stars at (s.with_parameters ps more) init) (s.statement m (s.block parts))) p = laid_all _ _ parts p
   laid_plain n t f p = absurd p
+
+module _ (bytes : List ℕ) where
+  operand_plain : (names : List (List ℕ)) (e : ExprTree) → IsOperand bytes names e → IsPlainTerm bytes e
+  operand_plain names (s.expression n (s.name at)) p = tt
+  operand_plain names (s.expression n (s.number at)) p = ?
+  operand_plain names (s.expression n f) p = absurd p
+
+  operator_plain : (op : BinaryOp) → IsTermOperator op → is_arithmetic op ≡ true
+  operator_plain Add p = refl
+  operator_plain Mul p = refl
+  operator_plain Div p = refl
+  operator_plain op p = absurd p
+
+  comparison_plain : (op : BinaryOp) → IsComparison op → compares op ≡ true
+  comparison_plain Lt p = refl
+  comparison_plain Gt p = refl
+  comparison_plain Le p = refl
+  comparison_plain Ge p = refl
+  comparison_plain Eq p = refl
+  comparison_plain Ne p = refl
+  comparison_plain op p = absurd p
+
+  term_plain : (names : List (List ℕ)) (e : ExprTree) → IsTerm bytes names e → IsPlainTerm bytes e
+  term_plain names (s.expression n (s.binary op a b)) p = (operator_plain op p.0, operand_plain names a p.1, operand_plain names b p.2)
+  term_plain names (s.expression n (s.name at)) p = tt
+  term_plain names (s.expression n (s.number at)) p = operand_plain names (s.expression n (s.number at)) p
+  term_plain names (s.expression n f) p = absurd p
+
+  sum_plain : (names : List (List ℕ)) (e : ExprTree) → IsSum bytes names e → IsPlainTerm bytes e
+  sum_plain names (s.expression n (s.binary Add a b)) p = (refl, operand_plain names a p.0, operand_plain names b p.1)
+  sum_plain names (s.expression n (s.name at)) p = tt
+  sum_plain names (s.expression n (s.number at)) p = operand_plain names (s.expression n (s.number at)) p
+  sum_plain names (s.expression n f) p = absurd p
+
+  condition_plain : (names : List (List ℕ)) (e : ExprTree) → IsCondition bytes names e → IsPlainTest bytes e
+  condition_plain names (s.expression n (s.binary op a b)) p = (comparison_plain op p.0, term_plain names a p.1, term_plain names b p.2)
+  condition_plain names (s.expression n f) p = absurd p
+
+  return_plain : (names : List (List ℕ)) (x : StmtTree) → IsReturn bytes names x → IsPlainStatement bytes x
+  return_plain names (s.statement n (s.return_statement (s.some_expression e))) p = sum_plain names e p
+  return_plain names (s.statement n f) p = absurd p
+
+  test_plain : (parameters names : List (List ℕ)) (x : StmtTree) → IsTest bytes parameters names x → IsPlainStatement bytes x
+  test_plain parameters names (s.statement n (s.if_statement e x s.no_statement)) p = (condition_plain parameters e p.0, return_plain names x p.1)
+  test_plain parameters names (s.statement n f) p = absurd p
+
+  local_plain : (parameters : List (List ℕ)) (d : DeclarationTree) → IsLocal bytes parameters d → IsPlainLocal bytes d
+  local_plain parameters (s.declaration None b (s.then_declarator (s.declarator n zero (Some at) (s.arrays s.no_dimensions) (s.some_initialiser (s.plain e))) s.no_declarators)) p = (term_plain parameters e p.1, tt)
+  local_plain parameters d p = absurd p
+
+  tests_plain : (parameters names : List (List ℕ)) (xs : PartTrees) → AreTests bytes parameters names xs → ArePlainParts bytes xs
+  tests_plain parameters names (s.then_part (s.run x) s.no_parts) p = (return_plain names x p, tt)
+  tests_plain parameters names (s.then_part (s.run x) (s.then_part y ys)) p = (test_plain parameters names x p.0, tests_plain parameters names (s.then_part y ys) p.1)
+  tests_plain parameters names xs p = absurd p
+
+  parts_plain : (parameters names : List (List ℕ)) (xs : PartTrees) → AreParts bytes parameters names xs → ArePlainParts bytes xs
+  parts_plain parameters names (s.then_part (s.local d) xs) p = (local_plain parameters d p.0, parts_plain parameters names xs p.1)
+  parts_plain parameters names xs p = tests_plain parameters names xs p
+
+  function_plain : (f : FunctionTree) → IsSmallFunction bytes f → IsPlain bytes f
+  function_plain (s.function None b (s.declarator n zero (Some at) (s.with_parameters (s.then_parameter p ps) false) s.no_initialiser) (s.statement m (s.block parts))) h = parts_plain _ _ parts h.2
+  function_plain f h = absurd h
+
+-- a function that the tokens of an input print is plain
+pub prints_plain : (bytes : List ℕ) (tokens : List Token) (f : FunctionTree) → Prints bytes tokens f → IsPlain bytes f
+prints_plain bytes tokens f h = from h.unit h.small h.laid_out where
+  from : (u : UnitTree) → IsSmall bytes u → unit_laid_out (spans_of tokens) u ≡ s.defines h.node f → IsPlain bytes f
+  from (s.defines n g) small e =
+      let same : laid_function (spans_of tokens) 0 0 g ≡ f = cc in
+      subst (IsPlain bytes) same (laid_plain (spans_of tokens) bytes 0 0 g (function_plain bytes g small))
+  from u small e = absurd small

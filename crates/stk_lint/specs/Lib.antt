@@ -14,3 +14,4 @@ pub mod Maps
 pub mod Judging
 pub mod SetLaws
 pub mod Judged
+pub mod Lint

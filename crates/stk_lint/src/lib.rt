@@ -4,6 +4,7 @@
 mod building;
 mod judging;
 mod lexing;
+mod lint;
 mod maps;
 mod nodes;
 mod reading;
@@ -12,8 +13,10 @@ mod report;
 mod scan;
 mod set_laws;
 mod small;
+mod stub;
 mod texts;
 
 pub use lexing::{Token, lex, one_cut};
+pub use lint::LIMIT;
 pub use records::Counts;
-pub use report::Report;
+pub use report::{Report, report_of};

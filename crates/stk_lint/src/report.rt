@@ -1,20 +1,25 @@
 //! The text of records for an input, and the status that goes with it.
 
-ghost use Rattle.std.specs.Prelude.{◌≡◌, ◌≤◌, ◌∷◌, [], IfOk, length};
+ghost use Rattle.std.specs.Prelude.{◌≡◌, ◌≤◌, ◌∷◌, ◌++◌, [], None, IfOk, IfSome, length};
+ghost use Rattle.stk_tree.specs.Syntax.{FunctionTree};
 ghost use Rattle.stk_tree.specs.View.{view_function};
 ghost use Rattle.stk_meaning.specs.Forms.{IsPlain};
 ghost use Rattle.stk_meaning.specs.Parts.{conditions, candidates};
-ghost use Rattle.stk_lint.specs.Records.{function_nodes};
-ghost use Rattle.stk_lint.specs.LawfulText.{unstable_count, status_of, IsLawfulText};
+ghost use Rattle.stk_lint.specs.Records.{function_nodes, summary_text, other_form_text};
+ghost use Rattle.stk_lint.specs.LawfulText.{unstable_count, status_of, nothing_counted, one_skipped, Prints, IsLawfulText};
+ghost use Rattle.stk_lint.specs.Lint.{IsWritten};
+ghost use Rattle.stk_lint.specs.Cut.{IsCut};
 ghost use Rattle.stk_lint.specs.Judged.{AddsFindings, IsJudged};
 
 use crate::judging::judge;
+use crate::lexing::{Token, lex};
 use crate::nodes::nodes_of;
-use crate::records::{Counts, add_finding, add_summary};
+use crate::records::{Counts, add_finding, add_other_form, add_summary};
+use crate::stub::read_small;
 use std::alloc::Global;
 use stk_base::{NoMemory, Status};
 use stk_meaning::{Candidate, Condition, Finding, candidates_of, conditions_of};
-use stk_tree::{Function, Node};
+use stk_tree::{Function, Node, Unit};
 
 /// The text of the records of an input, and the status of the run that writes it.
 #[derive(Debug, Drop)]
@@ -97,4 +102,81 @@ fn judged(alloc: Global, bytes: &[u8], function: &Function) -> Result<Report, No
     add_summary(&mut text, counts)?;
     let status = status_of(unstable);
     Ok(Report { text, status })
+}
+
+// The text of an input without a token.
+fn empty(alloc: Global) -> Result<Report, NoMemory>
+    ensures { IfOk result (λ report. (report.text.items ≡ summary_text nothing_counted) × (report.status ≡ Status.Stable)) }
+{
+    let mut text = Vec::new(alloc);
+    let counts = Counts {
+        functions: 0,
+        candidates: 0,
+        unstable: 0,
+        undecided: 0,
+        skipped: 0,
+    };
+    add_summary(&mut text, counts)?;
+    let status = Status::Stable;
+    Ok(Report { text, status })
+}
+
+// The text of an input that is of another form, whose first token begins at this byte.
+fn skipped(alloc: Global, bytes: &[u8], at: u32) -> Result<Report, NoMemory>
+    ensures { IfOk result (λ report. (report.text.items ≡ other_form_text bytes.now at ++ summary_text one_skipped) × (report.status ≡ Status.Stable)) }
+{
+    let mut text = Vec::new(alloc);
+    add_other_form(&mut text, bytes, at)?;
+    let counts = Counts {
+        functions: 0,
+        candidates: 0,
+        unstable: 0,
+        undecided: 0,
+        skipped: 1,
+    };
+    add_summary(&mut text, counts)?;
+    let status = Status::Stable;
+    Ok(Report { text, status })
+}
+
+// The function that is printed by the tokens of an input, or `None` exactly where no tree of the small form prints them.
+fn function_of(alloc: Global, bytes: &[u8], tokens: &[Token]) -> Result<Option<Function>, NoMemory>
+    requires size { length bytes.now ≤ 16777216 }
+    requires cut { IsCut bytes.now tokens.now }
+    ensures found { IfOk result (λ found. IfSome found (λ function. Prints bytes.now tokens.now (view_function function))) }
+    ensures none { IfOk result (λ found. found ≡ None → (f : FunctionTree) → Prints bytes.now tokens.now f → ⊥) }
+{
+    match read_small(alloc, bytes, tokens)? {
+        Some(Unit::Defines(_, function)) => Ok(Some(function)),
+        None | Some(Unit::Empty(_)) | Some(Unit::Declares(_, _)) => Ok(None),
+    }
+}
+
+// The text of an input of these tokens, the first of which begins at a byte.
+fn report_on(alloc: Global, bytes: &[u8], tokens: &[Token]) -> Result<Report, NoMemory>
+    requires size { length bytes.now ≤ 16777216 }
+    requires cut { IsCut bytes.now tokens.now }
+    ensures lawful { IfOk result (λ report. IsLawfulText bytes.now report.text.items report.status) }
+    ensures written { IfOk result (λ report. IsWritten report.status) }
+{
+    let [first, ..] = tokens else {
+        return empty(alloc);
+    };
+    let at = first.span.from;
+    match function_of(alloc, bytes, tokens)? {
+        Some(function) => judged(alloc, bytes, &function),
+        None => skipped(alloc, bytes, at),
+    }
+}
+
+/// The text of the records of an input of at most 16,777,216 bytes, and the status that goes with it: the summary alone
+/// where it has no token; a skip line and the summary where no tree of the small form prints its tokens; and else the
+/// records of the function's candidates and the summary. The only refusal is want of memory.
+pub fn report_of(alloc: Global, bytes: &[u8]) -> Result<Report, NoMemory>
+    requires { length bytes.now ≤ 16777216 }
+    ensures lawful { IfOk result (λ report. IsLawfulText bytes.now report.text.items report.status) }
+    ensures written { IfOk result (λ report. IsWritten report.status) }
+{
+    let tokens = lex(alloc, bytes)?;
+    report_on(alloc, bytes, tokens.as_slice())
 }
