@@ -7,7 +7,7 @@ use mir.Syntax.{w128}
 use Rattle.std.proofs.lemmas.Int.{ints}
 use Rattle.std.proofs.lemmas.List.{append-nil}
 use Rattle.stk_meaning.specs.Keys.{AreBytes, Precedes}
-use Rattle.stk_lint.specs.Maps.{IsMap, IsFirst, IsNext, IsLast}
+use Rattle.stk_lint.specs.Maps.{IsFirst, IsNext, IsLast}
 
 -- so many numbers that are all the same
 abbrev pub all_of : ℕ → ℤ → List ℤ
@@ -50,8 +50,10 @@ before_greatest zero [] e b = inr refl
 before_greatest zero (y ∷ ys) e b = absurd (omega arith)
 before_greatest (suc n) [] e b = absurd (omega arith)
 before_greatest (suc n) (y ∷ ys) e b =
-    elim (below_or_greatest y b.1) [ inl less ↦ inl (inl less)
-    | inr greatest ↦ elim (before_greatest n ys (omega arith) b.2) [ inl p ↦ inl (inr (greatest, p)) | inr same ↦ inr (cc) ] ]
+    elim (below_or_greatest y b.1) [
+      | inl less ↦ inl (inl less)
+      | inr greatest ↦ elim (before_greatest n ys (omega arith) b.2) [ inl p ↦ inl (inr (greatest, p)) | inr same ↦ inr (cc) ]
+    ]
 
 -- the greatest numbers are the last map
 pub greatest_last : (n : ℕ) → IsLast (all_of n (pos 255))
@@ -63,13 +65,19 @@ below_or_same x y h = grind (arith, ints)
 none_between : (front : List ℤ) (x : ℤ) (n : ℕ) (other : List ℤ) → length other ≡ length (front ++ x ∷ all_of n (pos 255)) → AreBytes other → Precedes other (front ++ (x +ℤ pos 1) ∷ all_of n (pos 0)) → Precedes other (front ++ x ∷ all_of n (pos 255)) ⊎ (other ≡ front ++ x ∷ all_of n (pos 255))
 none_between [] x n [] e b p = absurd p
 none_between [] x n (y ∷ ys) e b p =
-    elim p [ inl less ↦ elim (below_or_same x y less) [ inl l ↦ inl (inl l)
-      | inr s ↦ elim (before_greatest n ys (omega (arith, length-all_of n (pos 255))) b.2) [ inl q ↦ inl (inr (s, q)) | inr q ↦ inr (cc) ] ]
-    | inr same ↦ absurd (none_before_zeros n ys b.2 same.1) ]
+    elim p [
+      | inl less ↦ elim (below_or_same x y less) [
+        | inl l ↦ inl (inl l)
+        | inr s ↦ elim (before_greatest n ys (omega (arith, length-all_of n (pos 255))) b.2) [ inl q ↦ inl (inr (s, q)) | inr q ↦ inr (cc) ]
+      ]
+      | inr same ↦ absurd (none_before_zeros n ys b.2 same.1)
+    ]
 none_between (z ∷ front) x n [] e b p = absurd p
 none_between (z ∷ front) x n (y ∷ ys) e b p =
-    elim p [ inl less ↦ inl (inl less)
-    | inr same ↦ elim (none_between front x n ys (omega arith) b.2 same.1) [ inl q ↦ inl (inr (same.0, q)) | inr q ↦ inr (cc) ] ]
+    elim p [
+      | inl less ↦ inl (inl less)
+      | inr same ↦ elim (none_between front x n ys (omega arith) b.2 same.1) [ inl q ↦ inl (inr (same.0, q)) | inr q ↦ inr (cc) ]
+    ]
 
 length-front : (front : List ℤ) (x y : ℤ) (n : ℕ) (v w : ℤ) → length (front ++ x ∷ all_of n v) ≡ length (front ++ y ∷ all_of n w)
 length-front [] x y n v w = ap suc (length-all_of n v ∙ sym (length-all_of n w))
@@ -207,7 +215,7 @@ grow old now front x n i at was is bytes h =
     let small = below x (ap (λ (u : ℤ). lt_z u (pos 255)) (sym same) ∙ h) in
     let number : to_z w128 (of_z w128 (read now i +ℤ pos 1)) ≡ x +ℤ pos 1 = ap (λ (u : ℤ). to_z w128 (of_z w128 (u +ℤ pos 1))) same ∙ kept_next x byte in
     let e : set now i (to_z w128 (of_z w128 (read now i +ℤ pos 1))) ≡ front ++ (x +ℤ pos 1) ∷ all_of n (pos 0) =
-      ap (set now i) number ∙ (ap (λ (u : List ℤ). set u i (x +ℤ pos 1)) is ∙ (ap (λ (k : ℕ). set (front ++ x ∷ all_of n (pos 0)) k (x +ℤ pos 1)) at ∙ set-middle front x _ (x +ℤ pos 1))) in
+    ap (set now i) number ∙ (ap (λ (u : List ℤ). set u i (x +ℤ pos 1)) is ∙ (ap (λ (k : ℕ). set (front ++ x ∷ all_of n (pos 0)) k (x +ℤ pos 1)) at ∙ set-middle front x _ (x +ℤ pos 1))) in
     subst (λ (u : List ℤ). IsNext u (set now i (to_z w128 (of_z w128 (read now i +ℤ pos 1))))) (sym was) (subst (λ (u : List ℤ). IsNext (front ++ x ∷ all_of n (pos 255)) u) (sym e) (next_of front x n bytes small))
 
 -- a number below its greatest grows by one, which gives the next map
@@ -253,11 +261,13 @@ fewer_maps [] ys e a b p = absurd p
 fewer_maps (x ∷ xs) [] e a b p = absurd p
 fewer_maps (x ∷ xs) (y ∷ ys) e a b p =
     let long : length ys ≡ length xs = omega arith in
-    elim p [ inl less ↦
-      let few : maps_behind ys < 256 ^ length xs = subst (λ (k : ℕ). maps_behind ys < 256 ^ k) long (few_maps ys) in
-      subst (λ (k : ℕ). numbers_behind y * 256 ^ k + maps_behind ys < numbers_behind x * 256 ^ length xs + maps_behind xs) (sym long)
-      (less_in_front (numbers_behind y) (numbers_behind x) (256 ^ length xs) (maps_behind ys) (maps_behind xs) (fewer_numbers x y a.0 less b.1) few)
-    | inr same ↦
-      let more = fewer_maps xs ys long a.2 b.2 same.1 in
-      subst (λ (k : ℕ). numbers_behind y * 256 ^ k + maps_behind ys < numbers_behind x * 256 ^ length xs + maps_behind xs) (sym long)
-      (subst (λ (u : ℤ). numbers_behind u * 256 ^ length xs + maps_behind ys < numbers_behind x * 256 ^ length xs + maps_behind xs) same.0 (omega (arith, more))) ]
+    elim p [
+      | inl less ↦
+          let few : maps_behind ys < 256 ^ length xs = subst (λ (k : ℕ). maps_behind ys < 256 ^ k) long (few_maps ys) in
+          subst (λ (k : ℕ). numbers_behind y * 256 ^ k + maps_behind ys < numbers_behind x * 256 ^ length xs + maps_behind xs) (sym long)
+          (less_in_front (numbers_behind y) (numbers_behind x) (256 ^ length xs) (maps_behind ys) (maps_behind xs) (fewer_numbers x y a.0 less b.1) few)
+      | inr same ↦
+          let more = fewer_maps xs ys long a.2 b.2 same.1 in
+          subst (λ (k : ℕ). numbers_behind y * 256 ^ k + maps_behind ys < numbers_behind x * 256 ^ length xs + maps_behind xs) (sym long)
+          (subst (λ (u : ℤ). numbers_behind u * 256 ^ length xs + maps_behind ys < numbers_behind x * 256 ^ length xs + maps_behind xs) same.0 (omega (arith, more)))
+    ]

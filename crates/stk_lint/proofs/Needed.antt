@@ -1,6 +1,6 @@
 -- The members of a minimal set are needed: what is free of more conditions is free of fewer.
-use Rattle.std.proofs.Common.{◌≡◌, ℕ, List, [], ◌∷◌, ◌++◌, Bool, true, false, refl, sym, ap, ◌∙◌, subst, append_assoc}
-use Rattle.std.specs.Prelude.{not, ◌&&◌, ◌||◌, ℤ, Some}
+use Rattle.std.proofs.Common.{◌≡◌, ℕ, List, [], ◌∷◌, ◌++◌, Bool, true, false, refl, sym, ap, subst, append_assoc}
+use Rattle.std.specs.Prelude.{not, ◌&&◌, ◌||◌, ℤ}
 use Rattle.std.specs.List.{list_any}
 use Rattle.stk_tree.specs.Syntax.{FunctionTree}
 use Rattle.stk_meaning.specs.declared.candidate.Candidate.{Candidate}
@@ -76,19 +76,19 @@ module _ (bytes : List ℕ) (f : FunctionTree) (c : Candidate) where
 
   by_first : (below : List Condition) (k : Condition) (start : List ℤ) (needs back : List Need) (n : Need) → IsFirstAnswer bytes f c (below ++ members needs) start → need k start ≡ n → needs ≡ back → IsNeeded bytes f c (below ++ members back) n
   by_first below k start needs back n first is_n is_back =
-    let a : Answers bytes f c (below ++ members back) start = subst (λ (u : List Need). Answers bytes f c (below ++ members u) start) is_back first.answers in
-    record { start = record { numbers = start }; shown = ap (λ (x : Need). x.shown) (sym is_n); answers = a }
+      let a : Answers bytes f c (below ++ members back) start = subst (λ (u : List Need). Answers bytes f c (below ++ members u) start) is_back first.answers in
+      record { start = record { numbers = start }; shown = ap (λ (x : Need). x.shown) (sym is_n); answers = a }
 
   needed_behind : {below rest : List Condition} {needs : List Need} → IsMinimal bytes f c below rest needs → (front : List Need) (n : Need) (back : List Need) → needs ≡ front ++ n ∷ back → IsNeeded bytes f c (below ++ members (front ++ back)) n
   needed_behind no_more [] n back e = absurd cc
   needed_behind no_more (x ∷ front) n back e = absurd cc
   needed_behind {below = below} (member {k = k} {start = start} {needs = needs} m first) [] n back e = by_first below k start needs back n first (cc) (cc)
   needed_behind {below = below} (member {k = k} {start = start} {needs = needs} m first) (x ∷ front) n back e =
-    let is_x : need k start ≡ x = cc in
-    let tail : needs ≡ front ++ n ∷ back = cc in
-    subst (λ (u : Need). IsNeeded bytes f c (below ++ u.condition ∷ members (front ++ back)) n) is_x (regroup below k (members (front ++ back)) n (needed_behind m front n back tail))
+      let is_x : need k start ≡ x = cc in
+      let tail : needs ≡ front ++ n ∷ back = cc in
+      subst (λ (u : Need). IsNeeded bytes f c (below ++ u.condition ∷ members (front ++ back)) n) is_x (regroup below k (members (front ++ back)) n (needed_behind m front n back tail))
   needed_behind {below = below} (no_member {k = k} {needs = needs} m none) front n back e =
-    fewer below k (members (front ++ back)) n (regroup below k (members (front ++ back)) n (needed_behind m front n back e))
+      fewer below k (members (front ++ back)) n (regroup below k (members (front ++ back)) n (needed_behind m front n back e))
 
   pub each_needed : (rest : List Condition) (front : List Need) (n : Need) (back : List Need) → IsMinimal bytes f c [] rest (front ++ n ∷ back) → IsNeeded bytes f c (members (front ++ back)) n
   each_needed rest front n back m = needed_behind m front n back refl

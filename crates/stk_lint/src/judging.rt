@@ -1,6 +1,6 @@
 //! What is found for a candidate, by trying all input maps in their order.
 
-ghost use Rattle.std.specs.Prelude.{◌≡◌, ◌↔◌, ◌++◌, [], IfOk, IsTrue, MatchOption, map, reverse};
+ghost use Rattle.std.specs.Prelude.{◌≡◌, ◌↔◌, ◌++◌, [], IfOk, IsTrue, MatchOption, reverse};
 ghost use Rattle.stk_tree.specs.View.{view_function};
 ghost use Rattle.stk_meaning.specs.Findings.{members, Answers, NoAnswer, IsFirstAnswer, IsLawful};
 ghost use Rattle.stk_meaning.specs.Forms.{IsPlain};
@@ -59,11 +59,7 @@ fn first_answer(
 }
 
 // The conditions of a query: those below, and the members of the set.
-fn query_set(
-    alloc: Global,
-    below: &[Condition],
-    needs: &[Need],
-) -> Result<Vec<Condition>, NoMemory>
+fn query_set(alloc: Global, below: &[Condition], needs: &[Need]) -> Result<Vec<Condition>, NoMemory>
     ensures { IfOk result (λ set. set.items ≡ below.now ++ members (reverse needs.now)) }
 {
     let mut set = Vec::new(alloc);

@@ -5,12 +5,10 @@ ghost use Rattle.stk_lint.specs.SetLaws.{SufficientSetHasMember, EachMemberIsNee
 /// A set that suffices for an unstable candidate has a member: no report names an empty set.
 pub fn sufficient_set_has_member()
     ensures { SufficientSetHasMember }
-{
-}
+{}
 
 /// Each member of a minimal set is needed beside the others: the run from its start hits the candidate and violates none
 /// of the others before.
 pub fn each_member_is_needed()
     ensures { EachMemberIsNeeded }
-{
-}
+{}
