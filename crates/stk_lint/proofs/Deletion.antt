@@ -1,5 +1,5 @@
 -- Deletion from the greatest condition to the least: what is known of those behind an index, and how it goes on.
-use Rattle.std.proofs.Common.{◌≡◌, ℕ, ◌+◌, ◌-◌, ◌<◌, ◌≤◌, List, [], ◌∷◌, ◌++◌, length, take, drop, get_or, reverse, refl, sym, ap, ◌∙◌, subst, arith, append_assoc, add-one, zero, suc, drop-cons}
+use Rattle.std.proofs.Common.{◌≡◌, ℕ, ◌-◌, ◌<◌, ◌≤◌, List, [], ◌∷◌, ◌++◌, length, take, drop, get_or, reverse, sym, ap, ◌∙◌, subst, arith, append_assoc, zero, suc, drop-cons}
 use Rattle.std.proofs.Math.Seq.{take-suc, take-length, drop-length}
 use Rattle.std.proofs.lemmas.List.{reverse-append, append-nil}
 use Rattle.std.specs.Prelude.{ℤ, Option, Some, None, MatchOption}
@@ -9,7 +9,7 @@ use Rattle.stk_meaning.specs.declared.condition.Condition.{Condition}
 use Rattle.stk_meaning.specs.declared.condition.UbKind.TheVariants.{Overflow}
 use Rattle.stk_meaning.specs.declared.finding.Need.{Need}
 use Rattle.stk_meaning.specs.declared.inputs.Inputs.{Inputs}
-use Rattle.stk_meaning.specs.Findings.{members, need, Answers, NoAnswer, IsFirstAnswer, IsMinimal, no_more, member, no_member}
+use Rattle.stk_meaning.specs.Findings.{members, need, NoAnswer, IsFirstAnswer, IsMinimal, no_more, member, no_member}
 use Rattle.stk_lint.specs.Judging.{IsNeededSet}
 
 -- The members among the conditions from an index on, the greatest first: they are minimal, and with the conditions

@@ -7,7 +7,7 @@ use mir.Syntax.{w128}
 use Rattle.std.proofs.lemmas.Int.{ints}
 use Rattle.std.proofs.lemmas.List.{append-nil}
 use Rattle.stk_meaning.specs.Keys.{AreBytes, Precedes}
-use Rattle.stk_lint.specs.Maps.{IsMap, IsFirst, IsNext, IsLast}
+use Rattle.stk_lint.specs.Maps.{IsFirst, IsNext, IsLast}
 
 -- so many numbers that are all the same
 abbrev pub all_of : ℕ → ℤ → List ℤ

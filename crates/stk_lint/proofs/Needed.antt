@@ -1,6 +1,6 @@
 -- The members of a minimal set are needed: what is free of more conditions is free of fewer.
-use Rattle.std.proofs.Common.{◌≡◌, ℕ, List, [], ◌∷◌, ◌++◌, Bool, true, false, refl, sym, ap, ◌∙◌, subst, append_assoc}
-use Rattle.std.specs.Prelude.{not, ◌&&◌, ◌||◌, ℤ, Some}
+use Rattle.std.proofs.Common.{◌≡◌, ℕ, List, [], ◌∷◌, ◌++◌, Bool, true, false, refl, sym, ap, subst, append_assoc}
+use Rattle.std.specs.Prelude.{not, ◌&&◌, ◌||◌, ℤ}
 use Rattle.std.specs.List.{list_any}
 use Rattle.stk_tree.specs.Syntax.{FunctionTree}
 use Rattle.stk_meaning.specs.declared.candidate.Candidate.{Candidate}

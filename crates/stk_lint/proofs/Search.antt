@@ -1,5 +1,5 @@
 -- The search through all input maps: no map before the one that is reached answers the query.
-use Rattle.std.proofs.Common.{◌≡◌, ℕ, ◌+◌, ◌<◌, List, [], ◌∷◌, length, map, refl, sym, ap, ◌∙◌, subst, ◌⊎◌, inl, inr, Bool, true, false, arith, add-one, take, drop, ◌++◌}
+use Rattle.std.proofs.Common.{◌≡◌, ℕ, ◌+◌, ◌<◌, List, [], ◌∷◌, length, map, refl, sym, ap, ◌∙◌, subst, inl, inr, add-one, take, drop, ◌++◌}
 use Rattle.std.proofs.lemmas.List.{take_at}
 use Rattle.std.specs.Prelude.{ℤ}
 use Rattle.stk_tree.specs.Syntax.{FunctionTree}
@@ -7,10 +7,10 @@ use Rattle.stk_tree.specs.View.{view_parameter, parameters}
 use Rattle.stk_tree.specs.declared.declaration.Param.{Param}
 use Rattle.stk_meaning.specs.declared.candidate.Candidate.{Candidate}
 use Rattle.stk_meaning.specs.declared.condition.Condition.{Condition}
-use Rattle.stk_meaning.specs.Findings.{Answers, NoAnswer, IsFirstAnswer}
-use Rattle.stk_meaning.specs.Keys.{AreBytes, Covers, Precedes, key_count, parameter_count}
+use Rattle.stk_meaning.specs.Findings.{Answers, NoAnswer}
+use Rattle.stk_meaning.specs.Keys.{Covers, Precedes, key_count, parameter_count}
 use Rattle.stk_meaning.specs.Runs.{parameters_of}
-use Rattle.stk_lint.specs.Maps.{IsMap, IsFirst, IsNext, IsLast, IsStep}
+use Rattle.stk_lint.specs.Maps.{IsMap, IsFirst, IsNext, IsLast}
 use Rattle.stk_lint.proofs.MapOrder.{maps_behind, fewer_maps}
 
 -- a map that is reached covers the keys, and no map before it answers the query

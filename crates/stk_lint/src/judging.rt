@@ -1,6 +1,6 @@
 //! What is found for a candidate, by trying all input maps in their order.
 
-ghost use Rattle.std.specs.Prelude.{◌≡◌, ◌↔◌, ◌++◌, [], IfOk, IsTrue, MatchOption, map, reverse};
+ghost use Rattle.std.specs.Prelude.{◌≡◌, ◌↔◌, ◌++◌, [], IfOk, IsTrue, MatchOption, reverse};
 ghost use Rattle.stk_tree.specs.View.{view_function};
 ghost use Rattle.stk_meaning.specs.Findings.{members, Answers, NoAnswer, IsFirstAnswer, IsLawful};
 ghost use Rattle.stk_meaning.specs.Forms.{IsPlain};

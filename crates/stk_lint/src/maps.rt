@@ -8,7 +8,8 @@ use std::alloc::Global;
 use stk_base::{List, NoMemory};
 use stk_meaning::Inputs;
 
-// The first input map for so many keys, a number of `unsigned char` for each. The only refusal is want of memory.
+/// The first input map for so many keys: a number of `unsigned char` for each, all 0 (C11 6.2.5p9). The only refusal is
+/// want of memory.
 pub fn first_map(alloc: Global, count: usize) -> Result<Inputs, NoMemory>
     ensures { IfOk result (λ map. IsFirst count map.numbers) }
 {
@@ -21,8 +22,8 @@ pub fn first_map(alloc: Global, count: usize) -> Result<Inputs, NoMemory>
     })
 }
 
-// Goes on to the next input map, where there is one; the first key changes slowest. Behind the last map it begins again
-// with the first, and the answer is false.
+/// Goes on to the next input map, where there is one; the first key changes slowest, and each number goes from 0 to 255.
+/// Behind the last map it begins again with the first, and the answer is false.
 pub fn advance(numbers: &mut [i128]) -> bool
     requires { AreBytes numbers.old }
     ensures { IsStep result numbers.old numbers.new }

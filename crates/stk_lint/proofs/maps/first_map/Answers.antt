@@ -1,4 +1,4 @@
-use Rattle.std.proofs.Common.{ℕ, ◌≡◌, List, [], ◌++◌, ap, ◌∙◌, subst, sym, arith}
+use Rattle.std.proofs.Common.{ℕ, ◌≡◌, List, ◌++◌, ap, ◌∙◌, subst, sym, arith}
 use Rattle.std.specs.Prelude.{ℤ, pos}
 use Rattle.stk_lint.specs.Maps.{IsFirst}
 use Rattle.stk_lint.proofs.MapOrder.{all_of, one_more, zeros_first}
