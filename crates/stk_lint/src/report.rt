@@ -1,6 +1,6 @@
 //! The text of records for an input, and the status that goes with it.
 
-ghost use Rattle.std.specs.Prelude.{◌≡◌, ◌≤◌, ◌∷◌, ◌++◌, [], None, IfOk, IfSome, length};
+ghost use Rattle.std.specs.Prelude.{◌≡◌, ◌≤◌, ◌∷◌, ◌++◌, [], None, IfOk, IfSome, IfNone, length};
 ghost use Rattle.stk_tree.specs.Syntax.{FunctionTree};
 ghost use Rattle.stk_tree.specs.View.{view_function};
 ghost use Rattle.stk_meaning.specs.Forms.{IsPlain};
@@ -152,21 +152,36 @@ fn function_of(alloc: Global, bytes: &[u8], tokens: &[Token]) -> Result<Option<F
     }
 }
 
-// The text of an input of these tokens, the first of which begins at a byte.
+// The text of a function that was found, or of an input of another form whose first token begins at this byte.
+fn report_found(
+    alloc: Global,
+    bytes: &[u8],
+    found: &Option<Function>,
+    at: u32,
+) -> Result<Report, NoMemory>
+    requires { IfSome found.now (λ function. IsPlain bytes.now (view_function function)) }
+    ensures some { IfSome found.now (λ function. IfOk result (λ report. IsJudged bytes.now (view_function function) report.text.items report.status)) }
+    ensures none { IfNone found.now (IfOk result (λ report. (report.text.items ≡ other_form_text bytes.now at ++ summary_text one_skipped) × (report.status ≡ Status.Stable))) }
+{
+    match found {
+        Some(function) => judged(alloc, bytes, function),
+        None => skipped(alloc, bytes, at),
+    }
+}
+
+// The text of an input of these tokens.
 fn report_on(alloc: Global, bytes: &[u8], tokens: &[Token]) -> Result<Report, NoMemory>
     requires size { length bytes.now ≤ 16777216 }
     requires cut { IsCut bytes.now tokens.now }
     ensures lawful { IfOk result (λ report. IsLawfulText bytes.now report.text.items report.status) }
     ensures written { IfOk result (λ report. IsWritten report.status) }
 {
-    let [first, ..] = tokens else {
+    let Some(first) = tokens.first() else {
         return empty(alloc);
     };
     let at = first.span.from;
-    match function_of(alloc, bytes, tokens)? {
-        Some(function) => judged(alloc, bytes, &function),
-        None => skipped(alloc, bytes, at),
-    }
+    let found = function_of(alloc, bytes, tokens)?;
+    report_found(alloc, bytes, &found, at)
 }
 
 /// The text of the records of an input of at most 16,777,216 bytes, and the status that goes with it: the summary alone

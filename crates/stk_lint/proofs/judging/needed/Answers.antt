@@ -16,13 +16,8 @@ loop-i-init c =
 
 pub loop-i-preserved : goal.loop-i-preserved
 loop-i-preserved c = elim c.match-branch-3.branch [
-<<<<<<< HEAD
-  | in-Some+in_ok-push w ↦ after_answer _ _ _ _ c.loop-i.i c.loop-i.needs.items c.as_slice.result.now c.match-branch-3.needs.items c.as_slice-in-loop-i.result.now c.in_ok-set.set.items no_condition c.in_ok-start.field-0 w.in-Some.start c.loop-i-test.true c.loop-i.auto.i c.loop-i.invariant c.as_slice.ensures.value c.as_slice-in-loop-i.ensures.value c.in_ok-set.ensures c.in_ok-start.ensures w.in-Some.is (ap items_of w.needs-is ∙ w.in_ok-push.ensures.items)
-  | in_default w ↦ after_none _ _ _ _ c.loop-i.i c.loop-i.needs.items c.as_slice.result.now c.match-branch-3.needs.items c.as_slice-in-loop-i.result.now c.in_ok-set.set.items no_condition c.in_ok-start.field-0 c.loop-i-test.true c.loop-i.auto.i c.loop-i.invariant c.as_slice.ensures.value c.as_slice-in-loop-i.ensures.value c.in_ok-set.ensures c.in_ok-start.ensures w.in_default.is (ap items_of w.needs-is)
-=======
   | in-Some+in_ok-push w ↦ after_answer _ _ _ _ c.loop-i.i c.loop-i.needs.items c.as_slice.result.now c.match-branch-3.needs.items c.as_slice-in-loop-i.result.now c.in_ok-set.set.items no_condition c.in_ok-start.field-0 w.in-Some.start (omega arith) c.loop-i.auto.i c.loop-i.invariant c.as_slice.ensures.value c.as_slice-in-loop-i.ensures.value c.in_ok-set.ensures c.in_ok-start.ensures w.in-Some.is (ap items_of w.needs-is ∙ w.in_ok-push.ensures.items)
   | in_default w ↦ after_none _ _ _ _ c.loop-i.i c.loop-i.needs.items c.as_slice.result.now c.match-branch-3.needs.items c.as_slice-in-loop-i.result.now c.in_ok-set.set.items no_condition c.in_ok-start.field-0 (omega arith) c.loop-i.auto.i c.loop-i.invariant c.as_slice.ensures.value c.as_slice-in-loop-i.ensures.value c.in_ok-set.ensures c.in_ok-start.ensures w.in_default.is (ap items_of w.needs-is)
->>>>>>> 71d8e8c22ec58618fde10e4d061dc86b172ffb51
 ]
 
 pub returns : goal.returns
