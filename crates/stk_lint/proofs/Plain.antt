@@ -1,5 +1,5 @@
 -- Functions of the small form are of the plain form that runs are defined for, also once their nodes are laid out.
-use Rattle.std.proofs.Common.{◌≡◌, ℕ, zero, suc, ◌+◌, ◌<◌, ◌≤◌, Bool, true, false, List, [], ◌∷◌, ◌++◌, Option, Some, None, refl, sym, ap, ◌∙◌, subst, arith, leb}
+use Rattle.std.proofs.Common.{◌≡◌, ℕ, zero, suc, ◌+◌, ◌<◌, ◌≤◌, Bool, true, false, List, [], ◌∷◌, ◌++◌, map, Option, Some, None, refl, sym, ap, ◌∙◌, subst, arith, leb}
 use Rattle.std.specs.Prelude.{◌&&◌, nat_le}
 use Rattle.std.proofs.lemmas.Bool.{leb-true}
 use Rattle.stk_base.specs.declared.span.Span.{Span}
@@ -11,7 +11,13 @@ use Rattle.stk_tree.specs.Syntax as s
 use Rattle.stk_tree.specs.Layout.{laid_expression, laid_declarator, laid_declarators, laid_declaration, laid_statement, laid_part, laid_parts, laid_function}
 use Rattle.stk_tree.specs.Layout.{unit_laid_out}
 use Rattle.stk_lint.specs.declared.lexing.Token.{Token}
-use Rattle.stk_lint.specs.LawfulText.{Prints, spans_of}
+use Rattle.stk_lint.specs.LawfulText.{Prints, spans_of, IsLawfulText, judged}
+use Rattle.stk_lint.specs.Judged.{IsJudged, IsReadAs, IsJudgedAs}
+use Rattle.stk_lint.specs.Cut.{IsCut}
+use Rattle.stk_lint.specs.Texts.{lexeme_of}
+use Rattle.stk_base.specs.declared.status.Status.{Status}
+use Rattle.stk_tree.specs.declared.node.Node.{Node}
+use Rattle.stk_tree.specs.Tokens.{unit_tokens}
 use Rattle.stk_lint.specs.SmallForm.{IsOperand, IsTermOperator, IsComparison, IsTerm, IsSum, IsCondition, IsReturn, IsTest, IsLocal, AreTests, AreParts, IsSmallFunction, IsSmall, is_small_number, decimal}
 use Rattle.stk_meaning.specs.Values.{compares, is_arithmetic}
 use Rattle.stk_meaning.specs.Forms.{IsPlainTerm, IsPlainTest, IsPlainDeclarator, ArePlainDeclarators, IsPlainLocal, IsPlainStatement, IsPlainPart, ArePlainParts, IsPlain}
@@ -118,11 +124,36 @@ module _ (bytes : List ℕ) where
   function_plain (s.function None b (s.declarator n zero (Some at) (s.with_parameters (s.then_parameter p ps) false) s.no_initialiser) (s.statement m (s.block parts))) h = parts_plain _ _ parts h.2
   function_plain f h = absurd h
 
--- a function that the tokens of an input print is plain
-pub prints_plain : (bytes : List ℕ) (tokens : List Token) (f : FunctionTree) → Prints bytes tokens f → IsPlain bytes f
-prints_plain bytes tokens f h = from h.unit h.small h.laid_out where
-  from : (u : UnitTree) → IsSmall bytes u → unit_laid_out (spans_of tokens) u ≡ s.defines h.node f → IsPlain bytes f
-  from (s.defines n g) small e =
-      let same : laid_function (spans_of tokens) 0 0 g ≡ f = cc in
-      subst (IsPlain bytes) same (laid_plain (spans_of tokens) bytes 0 0 g (function_plain bytes g small))
-  from u small e = absurd small
+-- what is read as a function is one that the tokens print, and it is plain
+read_function : (bytes : List ℕ) (tokens : List Token) (n : Node) (f : FunctionTree) (u : UnitTree) → IsSmall bytes u → unit_tokens u ≡ map (lexeme_of bytes) tokens → s.defines n f ≡ unit_laid_out (spans_of tokens) u → Prints bytes tokens f × IsPlain bytes f
+read_function bytes tokens n f (s.defines m g) small printed e =
+    let same : laid_function (spans_of tokens) 0 0 g ≡ f = cc in
+    (record { unit = s.defines m g; node = n; small = small; printed = printed; laid_out = sym e }, subst (IsPlain bytes) same (laid_plain (spans_of tokens) bytes 0 0 g (function_plain bytes g small)))
+read_function bytes tokens n f u small printed e = absurd small
+
+pub read_prints : (bytes : List ℕ) (tokens : List Token) (n : Node) (f : FunctionTree) → IsReadAs bytes tokens (s.defines n f) → Prints bytes tokens f
+read_prints bytes tokens n f h = (read_function bytes tokens n f h.tree h.small h.printed h.laid_out).0
+
+pub read_plain : (bytes : List ℕ) (tokens : List Token) (n : Node) (f : FunctionTree) → IsReadAs bytes tokens (s.defines n f) → IsPlain bytes f
+read_plain bytes tokens n f h = (read_function bytes tokens n f h.tree h.small h.printed h.laid_out).1
+
+-- nothing else is read
+not_empty : (bytes : List ℕ) (spans : List Span) (n : Node) (u : UnitTree) → IsSmall bytes u → s.empty_unit n ≡ unit_laid_out spans u → ⊥
+not_empty bytes spans n (s.defines m g) small e = cc
+not_empty bytes spans n u small e = absurd small
+
+not_declares : (bytes : List ℕ) (spans : List Span) (n : Node) (d : DeclarationTree) (u : UnitTree) → IsSmall bytes u → s.declares n d ≡ unit_laid_out spans u → ⊥
+not_declares bytes spans n d (s.defines m g) small e = cc
+not_declares bytes spans n d u small e = absurd small
+
+pub read_not_empty : (bytes : List ℕ) (tokens : List Token) (n : Node) → IsReadAs bytes tokens (s.empty_unit n) → ⊥
+read_not_empty bytes tokens n h = not_empty bytes (spans_of tokens) n h.tree h.small h.laid_out
+
+pub read_not_declares : (bytes : List ℕ) (tokens : List Token) (n : Node) (d : DeclarationTree) → IsReadAs bytes tokens (s.declares n d) → ⊥
+read_not_declares bytes tokens n d h = not_declares bytes (spans_of tokens) n d h.tree h.small h.laid_out
+
+-- the text of a function that the tokens print is lawful
+pub lawful_judged : (bytes : List ℕ) (tokens : List Token) (text : List ℕ) (status : Status) → IsCut bytes tokens → IsJudgedAs bytes tokens text status → IsLawfulText bytes text status
+lawful_judged bytes tokens text status cut h =
+    let made = judged h.judged.findings cut h.prints h.judged.lawful in
+    rw (h.judged.same_text, h.judged.same_status) made

@@ -1,15 +1,14 @@
 //! The text of records for an input, and the status that goes with it.
 
-ghost use Rattle.std.specs.Prelude.{◌≡◌, ◌≤◌, ◌∷◌, ◌++◌, [], None, IfOk, IfSome, IfNone, length};
+ghost use Rattle.std.specs.Prelude.{◌≡◌, ◌≤◌, ◌∷◌, ◌++◌, [], None, IfOk, IfSome, length};
 ghost use Rattle.stk_tree.specs.Syntax.{FunctionTree};
-ghost use Rattle.stk_tree.specs.View.{view_function};
+ghost use Rattle.stk_tree.specs.View.{view_function, view_unit};
 ghost use Rattle.stk_meaning.specs.Forms.{IsPlain};
 ghost use Rattle.stk_meaning.specs.Parts.{conditions, candidates};
 ghost use Rattle.stk_lint.specs.Records.{function_nodes, summary_text, other_form_text};
 ghost use Rattle.stk_lint.specs.LawfulText.{unstable_count, status_of, nothing_counted, one_skipped, Prints, IsLawfulText};
-ghost use Rattle.stk_lint.specs.Lint.{IsWritten};
 ghost use Rattle.stk_lint.specs.Cut.{IsCut};
-ghost use Rattle.stk_lint.specs.Judged.{AddsFindings, IsJudged};
+ghost use Rattle.stk_lint.specs.Judged.{AddsFindings, IsJudged, IsReadAs, IsJudgedAs};
 
 use crate::judging::judge;
 use crate::lexing::{Token, lex};
@@ -17,7 +16,7 @@ use crate::nodes::nodes_of;
 use crate::records::{Counts, add_finding, add_other_form, add_summary};
 use crate::stub::read_small;
 use std::alloc::Global;
-use stk_base::{NoMemory, Status};
+use stk_base::{Boxed, NoMemory, Status};
 use stk_meaning::{Candidate, Condition, Finding, candidates_of, conditions_of};
 use stk_tree::{Function, Node, Unit};
 
@@ -139,33 +138,40 @@ fn skipped(alloc: Global, bytes: &[u8], at: u32) -> Result<Report, NoMemory>
     Ok(Report { text, status })
 }
 
-// The function that is printed by the tokens of an input, or `None` exactly where no tree of the small form prints them.
-fn function_of(alloc: Global, bytes: &[u8], tokens: &[Token]) -> Result<Option<Function>, NoMemory>
+// The unit that the tokens of an input print, its nodes laid out, or `None` exactly where no tree of the small form prints
+// them.
+fn unit_of(alloc: Global, bytes: &[u8], tokens: &[Token]) -> Result<Option<Boxed<Unit>>, NoMemory>
     requires size { length bytes.now ≤ 16777216 }
     requires cut { IsCut bytes.now tokens.now }
-    ensures found { IfOk result (λ found. IfSome found (λ function. Prints bytes.now tokens.now (view_function function))) }
+    ensures found { IfOk result (λ found. IfSome found (λ unit. IsReadAs bytes.now tokens.now (view_unit unit))) }
     ensures none { IfOk result (λ found. found ≡ None → (f : FunctionTree) → Prints bytes.now tokens.now f → ⊥) }
 {
     match read_small(alloc, bytes, tokens)? {
-        Some(Unit::Defines(_, function)) => Ok(Some(function)),
-        None | Some(Unit::Empty(_)) | Some(Unit::Declares(_, _)) => Ok(None),
+        Some(unit) => Ok(Some(Boxed::new(alloc, unit)?)),
+        None => Ok(None),
     }
 }
 
-// The text of a function that was found, or of an input of another form whose first token begins at this byte.
-fn report_found(
+// The text of an input that is read as this unit.
+fn report_unit(
     alloc: Global,
     bytes: &[u8],
-    found: &Option<Function>,
-    at: u32,
+    tokens: &[Token],
+    unit: &Unit,
 ) -> Result<Report, NoMemory>
-    requires { IfSome found.now (λ function. IsPlain bytes.now (view_function function)) }
-    ensures some { IfSome found.now (λ function. IfOk result (λ report. IsJudged bytes.now (view_function function) report.text.items report.status)) }
-    ensures none { IfNone found.now (IfOk result (λ report. (report.text.items ≡ other_form_text bytes.now at ++ summary_text one_skipped) × (report.status ≡ Status.Stable))) }
+    requires { IsReadAs bytes.now tokens.now (view_unit unit.now) }
+    ensures { IfOk result (λ report. IsJudgedAs bytes.now tokens.now report.text.items report.status) }
 {
-    match found {
-        Some(function) => judged(alloc, bytes, function),
-        None => skipped(alloc, bytes, at),
+    let _read = tokens;
+    match unit {
+        Unit::Defines(_, function) => {
+            let report = judged(alloc, bytes, function)?;
+            Ok(report)
+        }
+        Unit::Empty(_) | Unit::Declares(_, _) => {
+            let report = empty(alloc)?;
+            Ok(report)
+        }
     }
 }
 
@@ -174,14 +180,23 @@ fn report_on(alloc: Global, bytes: &[u8], tokens: &[Token]) -> Result<Report, No
     requires size { length bytes.now ≤ 16777216 }
     requires cut { IsCut bytes.now tokens.now }
     ensures lawful { IfOk result (λ report. IsLawfulText bytes.now report.text.items report.status) }
-    ensures written { IfOk result (λ report. IsWritten report.status) }
 {
     let Some(first) = tokens.first() else {
-        return empty(alloc);
+        let report = empty(alloc)?;
+        return Ok(report);
     };
     let at = first.span.from;
-    let found = function_of(alloc, bytes, tokens)?;
-    report_found(alloc, bytes, &found, at)
+    let found = unit_of(alloc, bytes, tokens)?;
+    match &found {
+        Some(unit) => {
+            let report = report_unit(alloc, bytes, tokens, unit.get())?;
+            Ok(report)
+        }
+        None => {
+            let report = skipped(alloc, bytes, at)?;
+            Ok(report)
+        }
+    }
 }
 
 /// The text of the records of an input of at most 16,777,216 bytes, and the status that goes with it: the summary alone
@@ -190,7 +205,6 @@ fn report_on(alloc: Global, bytes: &[u8], tokens: &[Token]) -> Result<Report, No
 pub fn report_of(alloc: Global, bytes: &[u8]) -> Result<Report, NoMemory>
     requires { length bytes.now ≤ 16777216 }
     ensures lawful { IfOk result (λ report. IsLawfulText bytes.now report.text.items report.status) }
-    ensures written { IfOk result (λ report. IsWritten report.status) }
 {
     let tokens = lex(alloc, bytes)?;
     report_on(alloc, bytes, tokens.as_slice())

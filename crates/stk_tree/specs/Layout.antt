@@ -9,7 +9,7 @@ use Rattle.stk_tree.specs.Syntax.{BaseTree, BaseFormTree, MemberTree, MemberTree
 use Rattle.stk_tree.specs.Syntax.{DeclarationTree, StartTree, LabelTree, LabelTrees, StmtTree, StmtTrees, MaybeStmtTree, StmtFormTree, PartTree, PartTrees, SectionTree, SectionTrees, FunctionTree, UnitTree}
 use Rattle.stk_tree.specs.Syntax as s
 use Rattle.stk_tree.specs.Nodes.{base_form_nodes, base_nodes, declaration_nodes, declarator_nodes, designator_nodes, designators_nodes, dimension_nodes, dimensions_nodes, enumerator_nodes, expression_form_nodes, expression_nodes, function_nodes, item_nodes, label_nodes, labels_nodes, maybe_expression_nodes, maybe_initialiser_nodes, member_nodes, parameter_nodes, part_nodes, section_nodes, start_nodes, statement_form_nodes, statement_nodes, statements_nodes, tail_nodes, type_name_nodes}
-use Rattle.stk_tree.specs.Tokens.{base_form_tokens, base_tokens, declaration_tokens, declarator_tokens, designator_tokens, dimension_tokens, dimensions_tokens, enumerator_tokens, expression_form_tokens, expression_tokens, function_tokens, item_tokens, label_tokens, labels_tokens, member_tokens, optional_tokens, optional_word, parameter_tokens, part_tokens, path_tokens, section_tokens, start_tokens, statement_form_tokens, statement_tokens, statements_tokens, storage_tokens, tail_tokens, type_name_tokens}
+use Rattle.stk_tree.specs.Tokens.{base_form_tokens, base_tokens, declaration_tokens, declarator_tokens, designator_tokens, designators_tokens, dimension_tokens, dimensions_tokens, enumerator_tokens, expression_form_tokens, expression_tokens, function_tokens, initial_tokens, item_tokens, label_tokens, labels_tokens, member_tokens, optional_tokens, optional_word, parameter_tokens, part_tokens, path_end, section_tokens, start_tokens, statement_form_tokens, statement_tokens, statements_tokens, storage_tokens, tail_tokens, type_name_tokens}
 
 -- the first byte and the end of the token t; 0 where there is no such token
 abbrev pub span_at : List Span → ℕ → Span
@@ -47,6 +47,9 @@ declarator_width x = length (declarator_tokens x)
 abbrev pub tail_width : TailTree → ℕ
 tail_width x = length (tail_tokens x)
 
+abbrev pub initial_width : MaybeInitTree → ℕ
+initial_width x = length (initial_tokens x)
+
 abbrev pub dimension_width : DimensionTree → ℕ
 dimension_width x = length (dimension_tokens x)
 
@@ -62,8 +65,8 @@ type_name_width x = length (type_name_tokens x)
 abbrev pub item_width : ItemTree → ℕ
 item_width x = length (item_tokens x)
 
-abbrev pub path_width : DesigTrees → ℕ
-path_width x = length (path_tokens x)
+abbrev pub designators_width : DesigTrees → ℕ
+designators_width x = length (designators_tokens x)
 
 abbrev pub designator_width : DesigTree → ℕ
 designator_width x = length (designator_tokens x)
@@ -131,7 +134,7 @@ module _ (spans : List Span) where
 
     pub laid_declarator : ℕ → ℕ → DeclrTree → DeclrTree
     laid_declarator n t (s.declarator node count at x i) =
-        s.declarator (node_at spans (n + tail_nodes x + maybe_initialiser_nodes i) t (declarator_width (s.declarator node count at x i))) count at
+        s.declarator (node_at spans (n + tail_nodes x + maybe_initialiser_nodes i) t (count + length (optional_word at) + tail_width x + initial_width i)) count at
         (laid_tail n (t + count + length (optional_word at)) x)
         (laid_maybe_initialiser (n + tail_nodes x) (t + count + length (optional_word at) + tail_width x + 1) i)
 
@@ -176,7 +179,7 @@ module _ (spans : List Span) where
     laid_maybe_initialiser n t (s.some_initialiser i) = s.some_initialiser (laid_initialiser n t i)
 
     pub laid_item : ℕ → ℕ → ItemTree → ItemTree
-    laid_item n t (s.item ds i) = s.item (laid_designators n t ds) (laid_initialiser (n + designators_nodes ds) (t + path_width ds) i)
+    laid_item n t (s.item ds i) = s.item (laid_designators n t ds) (laid_initialiser (n + designators_nodes ds) (t + designators_width ds + length (path_end ds)) i)
 
     pub laid_items : ℕ → ℕ → ItemTrees → ItemTrees
     laid_items n t s.no_items = s.no_items

@@ -110,6 +110,11 @@ step_tokens step.DecBefore e = Token fixed.MinusMinus ∷ e
 step_tokens step.IncAfter e = e ++ (Token fixed.PlusPlus ∷ [])
 step_tokens step.DecAfter e = e ++ (Token fixed.MinusMinus ∷ [])
 
+-- the `=` after designators, where there are any
+abbrev pub path_end : DesigTrees → List Lexeme
+path_end s.no_designators = []
+path_end (s.then_designator d ds) = Token fixed.Assign ∷ []
+
 abbrev mutual
   -- a base
   pub base_tokens : BaseTree → List Lexeme
@@ -204,7 +209,7 @@ abbrev mutual
 
   -- an item of an initialiser's braces, and items with a comma between each two
   pub item_tokens : ItemTree → List Lexeme
-  item_tokens (s.item ds i) = path_tokens ds ++ initialiser_tokens i
+  item_tokens (s.item ds i) = designators_tokens ds ++ path_end ds ++ initialiser_tokens i
 
   pub items_tokens : ItemTrees → List Lexeme
   items_tokens s.no_items = []
@@ -214,7 +219,7 @@ abbrev mutual
   more_items s.no_items = []
   more_items (s.then_item x xs) = Token fixed.Comma ∷ item_tokens x ++ more_items xs
 
-  -- a designator, designators in a row, and the designators of an item, with `=` where there are any
+  -- a designator, and designators in a row
   pub designator_tokens : DesigTree → List Lexeme
   designator_tokens (s.dot_designator at) = Token fixed.Dot ∷ word at
   designator_tokens (s.at_designator e) = Token fixed.LeftBracket ∷ expression_tokens e ++ Token fixed.RightBracket ∷ []
@@ -222,10 +227,6 @@ abbrev mutual
   pub designators_tokens : DesigTrees → List Lexeme
   designators_tokens s.no_designators = []
   designators_tokens (s.then_designator x xs) = designator_tokens x ++ designators_tokens xs
-
-  pub path_tokens : DesigTrees → List Lexeme
-  path_tokens s.no_designators = []
-  path_tokens (s.then_designator d ds) = designator_tokens d ++ designators_tokens ds ++ Token fixed.Assign ∷ []
 
   -- an expression, and expressions with a comma between each two
   pub expression_tokens : ExprTree → List Lexeme

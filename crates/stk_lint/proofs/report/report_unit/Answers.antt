@@ -1,0 +1,5 @@
+use Rattle.stk_lint.proofs.Plain.{read_plain}
+use Rattle.stk_lint.proofs.report.report_unit.Goals as goal
+
+pub judged-requires : goal.judged-requires
+judged-requires c = ?
