@@ -1,16 +1,7 @@
-pub mod Longest
-pub mod First
-pub mod Cuts
-pub mod Apart
-pub mod OneCut
-pub mod SmallPrints
-pub mod Rows
-pub mod SmallSound
-pub mod SmallComplete
 pub mod Joined
 pub mod Plain
+pub mod Findings
 pub mod MapOrder
 pub mod Search
 pub mod Deletion
 pub mod Needed
-pub mod Findings

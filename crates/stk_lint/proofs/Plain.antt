@@ -1,5 +1,5 @@
 -- Functions of the small form are of the plain form that runs are defined for, also once their nodes are laid out.
-use Rattle.std.proofs.Common.{◌≡◌, ℕ, zero, suc, ◌+◌, ◌<◌, ◌≤◌, Bool, true, false, List, [], ◌∷◌, ◌++◌, map, Option, Some, None, refl, sym, ap, ◌∙◌, subst, arith, leb}
+use Rattle.std.proofs.Common.{◌≡◌, ℕ, zero, suc, ◌+◌, ◌-◌, ◌*◌, ◌<◌, ◌≤◌, Bool, true, false, List, [], ◌∷◌, ◌++◌, map, Option, Some, None, refl, sym, ap, ◌∙◌, subst, arith, leb}
 use Rattle.std.specs.Prelude.{◌&&◌, nat_le}
 use Rattle.std.proofs.lemmas.Bool.{leb-true}
 use Rattle.stk_base.specs.declared.span.Span.{Span}
@@ -10,15 +10,15 @@ use Rattle.stk_tree.specs.Syntax.{ExprTree, DeclrTree, DeclrTrees, DeclarationTr
 use Rattle.stk_tree.specs.Syntax as s
 use Rattle.stk_tree.specs.Layout.{laid_expression, laid_declarator, laid_declarators, laid_declaration, laid_statement, laid_part, laid_parts, laid_function}
 use Rattle.stk_tree.specs.Layout.{unit_laid_out}
-use Rattle.stk_lint.specs.declared.lexing.Token.{Token}
+use Rattle.stk_small.specs.declared.lexing.Token.{Token}
 use Rattle.stk_lint.specs.LawfulText.{Prints, spans_of, IsLawfulText, judged}
 use Rattle.stk_lint.specs.Judged.{IsJudged, IsReadAs, IsJudgedAs}
-use Rattle.stk_lint.specs.Cut.{IsCut}
-use Rattle.stk_lint.specs.Texts.{lexeme_of}
+use Rattle.stk_small.specs.Cut.{IsCut}
+use Rattle.stk_small.specs.Texts.{lexeme_of}
 use Rattle.stk_base.specs.declared.status.Status.{Status}
 use Rattle.stk_tree.specs.declared.node.Node.{Node}
 use Rattle.stk_tree.specs.Tokens.{unit_tokens}
-use Rattle.stk_lint.specs.SmallForm.{IsOperand, IsTermOperator, IsComparison, IsTerm, IsSum, IsCondition, IsReturn, IsTest, IsLocal, AreTests, AreParts, IsSmallFunction, IsSmall, is_small_number, decimal}
+use Rattle.stk_small.specs.SmallForm.{IsOperand, IsTermOperator, IsComparison, IsTerm, IsSum, IsCondition, IsReturn, IsTest, IsLocal, AreTests, AreParts, IsSmallFunction, IsSmall, is_small_number, decimal}
 use Rattle.stk_meaning.specs.Values.{compares, is_arithmetic}
 use Rattle.stk_meaning.specs.Forms.{IsPlainTerm, IsPlainTest, IsPlainDeclarator, ArePlainDeclarators, IsPlainLocal, IsPlainStatement, IsPlainPart, ArePlainParts, IsPlain}
 
@@ -62,10 +62,26 @@ module _ (spans : List Span) (bytes : List ℕ) where
   laid_plain n t (s.function storage b (s.declarator k stars at (s.with_parameters ps more) init) (s.statement m (s.block parts))) p = laid_all _ _ parts p
   laid_plain n t f p = absurd p
 
+-- the value of a decimal text, told in two places
+same_decimal : (n : ℕ) (ds : List ℕ) → decimal n ds ≡ texts.decimal_behind n ds
+same_decimal n [] = refl
+same_decimal n (d ∷ ds) = same_decimal (n * 10 + (d - 48)) ds
+
+second_holds : (a b : Bool) → a && b ≡ true → b ≡ true
+second_holds true b e = e
+second_holds false b e = absurd cc
+
+number_plain : (text : List ℕ) → is_small_number text ≡ true → texts.decimal text < 256
+unfolding is_small_number
+number_plain text h =
+    let small : decimal 0 text ≤ 255 = leb-true (decimal 0 text) 255 (second_holds _ _ h) in
+    let same : decimal 0 text ≡ texts.decimal text = same_decimal 0 text in
+    omega arith
+
 module _ (bytes : List ℕ) where
   operand_plain : (names : List (List ℕ)) (e : ExprTree) → IsOperand bytes names e → IsPlainTerm bytes e
   operand_plain names (s.expression n (s.name at)) p = tt
-  operand_plain names (s.expression n (s.number at)) p = ?
+  operand_plain names (s.expression n (s.number at)) p = number_plain _ p
   operand_plain names (s.expression n f) p = absurd p
 
   operator_plain : (op : BinaryOp) → IsTermOperator op → is_arithmetic op ≡ true

@@ -9,9 +9,9 @@ use Rattle.stk_meaning.specs.declared.finding.Finding.{Finding}
 use Rattle.stk_meaning.specs.Parts.{candidates}
 use Rattle.stk_lint.specs.Records.{findings_text, summary_text}
 use Rattle.stk_lint.specs.LawfulText.{AreLawful, unstable_count, status_of, one_judged, spans_of, Prints}
-use Rattle.stk_lint.specs.declared.lexing.Token.{Token}
-use Rattle.stk_lint.specs.SmallForm.{IsSmall}
-use Rattle.stk_lint.specs.Texts.{lexeme_of}
+use Rattle.stk_small.specs.declared.lexing.Token.{Token}
+use Rattle.stk_small.specs.SmallForm.{IsSmall}
+use Rattle.stk_small.specs.Texts.{lexeme_of}
 
 -- the records of lawful findings for these candidates were added to a text; so many of them are reports
 pub record AddsFindings (bytes : List ℕ) (f : FunctionTree) (list : List Candidate) (old new : List ℕ) (unstable : ℕ) : Type 0 where

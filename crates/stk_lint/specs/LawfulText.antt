@@ -13,12 +13,12 @@ use Rattle.stk_meaning.specs.declared.finding.Finding.{Finding}
 use Rattle.stk_meaning.specs.declared.finding.Finding.TheVariants.{Clear, Unstable, Undecided}
 use Rattle.stk_meaning.specs.Findings.{IsLawful}
 use Rattle.stk_meaning.specs.Parts.{candidates}
-use Rattle.stk_lint.specs.declared.lexing.Token.{Token}
+use Rattle.stk_small.specs.declared.lexing.Token.{Token}
 use Rattle.stk_lint.specs.declared.records.Counts.{Counts}
-use Rattle.stk_lint.specs.Cut.{IsCut}
+use Rattle.stk_small.specs.Cut.{IsCut}
 use Rattle.stk_lint.specs.Records.{findings_text, summary_text, other_form_text}
-use Rattle.stk_lint.specs.SmallForm.{IsSmall}
-use Rattle.stk_lint.specs.Texts.{lexeme_of}
+use Rattle.stk_small.specs.SmallForm.{IsSmall}
+use Rattle.stk_small.specs.Texts.{lexeme_of}
 
 -- each candidate has a lawful finding
 abbrev pub AreLawful : List ℕ → FunctionTree → List Candidate → List Finding → Type 0

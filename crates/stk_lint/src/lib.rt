@@ -1,22 +1,19 @@
 //! The top call: from the bytes of a source to records on a sink.
 #![tactic(auto)]
 
-mod building;
 mod judging;
-mod lexing;
 mod lint;
 mod maps;
 mod nodes;
-mod reading;
 mod records;
 mod report;
-mod scan;
 mod set_laws;
-mod small;
-mod stub;
-mod texts;
 
-pub use lexing::{Token, lex, one_cut};
-pub use lint::LIMIT;
+pub use judging::judge;
+pub use lint::{LIMIT, lint_main};
 pub use records::Counts;
 pub use report::{Report, report_of};
+pub use set_laws::{each_member_is_needed, sufficient_set_has_member};
+
+#[cfg(test)]
+mod tests;

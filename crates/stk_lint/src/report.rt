@@ -7,17 +7,16 @@ ghost use Rattle.stk_meaning.specs.Forms.{IsPlain};
 ghost use Rattle.stk_meaning.specs.Parts.{conditions, candidates};
 ghost use Rattle.stk_lint.specs.Records.{function_nodes, summary_text, other_form_text};
 ghost use Rattle.stk_lint.specs.LawfulText.{unstable_count, status_of, nothing_counted, one_skipped, Prints, IsLawfulText};
-ghost use Rattle.stk_lint.specs.Cut.{IsCut};
+ghost use Rattle.stk_small.specs.Cut.{IsCut};
 ghost use Rattle.stk_lint.specs.Judged.{AddsFindings, IsJudged, IsReadAs, IsJudgedAs};
 
 use crate::judging::judge;
-use crate::lexing::{Token, lex};
 use crate::nodes::nodes_of;
 use crate::records::{Counts, add_finding, add_other_form, add_summary};
-use crate::stub::read_small;
 use std::alloc::Global;
 use stk_base::{Boxed, NoMemory, Status};
 use stk_meaning::{Candidate, Condition, Finding, candidates_of, conditions_of};
+use stk_small::{Token, lex, read_small};
 use stk_tree::{Function, Node, Unit};
 
 /// The text of the records of an input, and the status of the run that writes it.

@@ -1,0 +1,47 @@
+//! The checker as a program: it reads C on standard input, writes records to standard output, and tells of a failure on
+//! standard error. The exit status is that of the top call.
+#![tactic(auto)]
+
+mod outside;
+
+use outside::{RealSink, RealSource};
+use stk_base::{Status, write_all};
+use stk_lint::lint_main;
+use std::env;
+use std::io::ErrorKind;
+use std::process::ExitCode;
+use std::rt::Env;
+
+// The words after the program's name, or how to end where they can't be gathered.
+fn words_of<R: Env + AllocGlobal>(rt: &R) -> Result<Vec<String>, Status> {
+    let mut words = Vec::new(rt.alloc());
+    let args = match env::args(rt) {
+        Ok(args) => args,
+        Err(error) if error.kind() == ErrorKind::OutOfMemory => return Err(Status::NoMemory),
+        Err(_) => return Err(Status::BadWords),
+    };
+    let mut is_name = true;
+    for arg in args {
+        if is_name {
+            is_name = false;
+        } else if words.push(arg).is_err() {
+            return Err(Status::NoMemory);
+        }
+    }
+    Ok(words)
+}
+
+fn main(rt: HostRuntime) -> ExitCode {
+    let mut source = RealSource::new(rt.stdin());
+    let mut out = RealSink::new(rt.stdout());
+    let mut fault = RealSink::new(rt.stderr());
+    let status = match words_of(&rt) {
+        Ok(words) => lint_main(rt.alloc(), words.as_slice(), &mut source, &mut out, &mut fault),
+        Err(Status::BadWords) => {
+            let _ = write_all(&mut fault, b"stack: bad words\n");
+            Status::BadWords
+        }
+        Err(status) => status,
+    };
+    ExitCode::from(status.code())
+}

@@ -1,0 +1,16 @@
+pub mod Longest
+pub mod First
+pub mod Cuts
+pub mod Apart
+pub mod OneCut
+pub mod SmallPrints
+pub mod Rows
+pub mod SmallSound
+pub mod SmallComplete
+pub mod NameSets
+pub mod SmallTokens
+pub mod Views
+pub mod SmallShapes
+pub mod SmallOutlines
+pub mod SmallNodes
+pub mod SmallReads

@@ -1,0 +1,166 @@
+//! The texts of tokens: the lexeme that a token is, and the words that are never names.
+
+ghost use Rattle.std.specs.Prelude.{◌≡◌};
+ghost use Rattle.std.specs.List.{list_any};
+ghost use Rattle.std.specs.Map.{lookup};
+ghost use Rattle.std.specs.Str.{bytes_eq};
+ghost use Rattle.stk_small.specs.Texts.{fixed_of, is_reserved, lexeme_of, text_of};
+
+use crate::lexing::Token;
+use stk_base::{Class, Span};
+use stk_tree::{Fixed, Lexeme};
+
+/// The words and marks of the small form.
+const SPELLINGS: [(&str, Fixed); 21] = [
+    ("int", Fixed::Int),
+    ("unsigned", Fixed::Unsigned),
+    ("char", Fixed::Char),
+    ("if", Fixed::If),
+    ("return", Fixed::Return),
+    ("(", Fixed::LeftParen),
+    (")", Fixed::RightParen),
+    ("{", Fixed::LeftBrace),
+    ("}", Fixed::RightBrace),
+    (",", Fixed::Comma),
+    (";", Fixed::Semicolon),
+    ("=", Fixed::Assign),
+    ("+", Fixed::Plus),
+    ("*", Fixed::Star),
+    ("/", Fixed::Slash),
+    ("<", Fixed::Less),
+    (">", Fixed::Greater),
+    ("<=", Fixed::LessEqual),
+    (">=", Fixed::GreaterEqual),
+    ("==", Fixed::EqualEqual),
+    ("!=", Fixed::NotEqual),
+];
+
+/// The keywords (C11 6.4.1), other words that compilers reserve, and the words that are dropped before reading.
+const RESERVED: [&str; 72] = [
+    "auto",
+    "break",
+    "case",
+    "char",
+    "const",
+    "continue",
+    "default",
+    "do",
+    "double",
+    "else",
+    "enum",
+    "extern",
+    "float",
+    "for",
+    "goto",
+    "if",
+    "inline",
+    "int",
+    "long",
+    "register",
+    "restrict",
+    "return",
+    "short",
+    "signed",
+    "sizeof",
+    "static",
+    "struct",
+    "switch",
+    "typedef",
+    "union",
+    "unsigned",
+    "void",
+    "volatile",
+    "while",
+    "_Alignas",
+    "_Alignof",
+    "_Atomic",
+    "_Bool",
+    "_Complex",
+    "_Generic",
+    "_Imaginary",
+    "_Noreturn",
+    "_Static_assert",
+    "_Thread_local",
+    "asm",
+    "__asm",
+    "__asm__",
+    "__attribute",
+    "__attribute__",
+    "typeof",
+    "__typeof",
+    "__typeof__",
+    "__volatile",
+    "__volatile__",
+    "__label__",
+    "__thread",
+    "__signed",
+    "__signed__",
+    "__alignof__",
+    "__int128",
+    "__builtin_va_list",
+    "__builtin_va_arg",
+    "__builtin_offsetof",
+    "__builtin_types_compatible_p",
+    "__builtin_choose_expr",
+    "__const",
+    "__const__",
+    "__extension__",
+    "__inline",
+    "__inline__",
+    "__restrict",
+    "__restrict__",
+];
+
+/// The bytes of a stretch of the input, as far as the input has them.
+pub fn text_of(bytes: &[u8], at: Span) -> &[u8]
+    ensures { result.now ≡ text_of bytes.now at }
+{
+    let from = bytes.len().min(at.from as usize);
+    let to = bytes.len().min(at.to as usize);
+    &bytes[from..to.max(from)]
+}
+
+/// What a table gives for a text.
+fn entry_of(table: &[(&str, Fixed)], text: &[u8]) -> Option<Fixed>
+    ensures { result ≡ lookup (λ word. bytes_eq text.now word.now) table.now }
+{
+    for entry in table {
+        if text == entry.0.as_bytes() {
+            return Some(entry.1);
+        }
+    }
+    None
+}
+
+/// The word or mark of the small form with this text.
+#[tactic(auto, unfolding(crate::specs::Texts::fixed_of))]
+fn fixed_of(text: &[u8]) -> Option<Fixed>
+    ensures { result ≡ fixed_of text.now }
+{
+    entry_of(&SPELLINGS, text)
+}
+
+/// Whether a text is one of these words.
+fn is_among(words: &[&str], text: &[u8]) -> bool
+    ensures { result ≡ list_any (λ word. bytes_eq text.now word.now) words.now }
+{
+    words.iter().any(|word| text == word.as_bytes())
+}
+
+/// Whether this word is never a name.
+#[tactic(auto, unfolding(crate::specs::Texts::is_reserved))]
+pub fn is_reserved(text: &[u8]) -> bool
+    ensures { result ≡ is_reserved text.now }
+{
+    is_among(&RESERVED, text)
+}
+
+/// The lexeme that a token is.
+pub fn lexeme_of(bytes: &[u8], token: Token) -> Lexeme
+    ensures { result ≡ lexeme_of bytes.now token }
+{
+    match (token.class, fixed_of(text_of(bytes, token.span))) {
+        (Class::Word | Class::Mark, Some(fixed)) => Lexeme::Fixed(fixed),
+        (class, _) => Lexeme::Leaf(class, token.span),
+    }
+}
