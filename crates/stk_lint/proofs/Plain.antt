@@ -1,6 +1,6 @@
 -- Functions of the small form are of the plain form that runs are defined for, also once their nodes are laid out.
 use Rattle.std.proofs.Common.{◌≡◌, ℕ, zero, suc, ◌+◌, ◌-◌, ◌*◌, ◌<◌, ◌≤◌, Bool, true, false, List, [], ◌∷◌, ◌++◌, map, Option, Some, None, refl, sym, ap, ◌∙◌, subst, arith, leb}
-use Rattle.std.specs.Prelude.{◌&&◌, nat_le}
+use Rattle.std.specs.Prelude.{◌&&◌, nat_le, slice_get}
 use Rattle.std.proofs.lemmas.Bool.{leb-true}
 use Rattle.stk_base.specs.declared.span.Span.{Span}
 use Rattle.stk_base.specs.Text as texts
@@ -11,55 +11,57 @@ use Rattle.stk_tree.specs.Syntax as s
 use Rattle.stk_tree.specs.Layout.{laid_expression, laid_declarator, laid_declarators, laid_declaration, laid_statement, laid_part, laid_parts, laid_function}
 use Rattle.stk_tree.specs.Layout.{unit_laid_out}
 use Rattle.stk_small.specs.declared.lexing.Token.{Token}
-use Rattle.stk_lint.specs.LawfulText.{Prints, spans_of, IsLawfulText, judged}
+use Rattle.stk_lint.specs.LawfulText.{Prints, spans_of, IsLawfulText, judged, no_token, other_form, nothing_counted, one_skipped}
+use Rattle.stk_lint.specs.Records.{summary_text, other_form_text}
+use Rattle.stk_base.specs.declared.status.Status.TheVariants.{Stable}
 use Rattle.stk_lint.specs.Judged.{IsJudged, IsReadAs, IsJudgedAs}
 use Rattle.stk_small.specs.Cut.{IsCut}
 use Rattle.stk_small.specs.Texts.{lexeme_of}
 use Rattle.stk_base.specs.declared.status.Status.{Status}
 use Rattle.stk_tree.specs.declared.node.Node.{Node}
 use Rattle.stk_tree.specs.Tokens.{unit_tokens}
-use Rattle.stk_small.specs.SmallForm.{IsOperand, IsTermOperator, IsComparison, IsTerm, IsSum, IsCondition, IsReturn, IsTest, IsLocal, AreTests, AreParts, IsSmallFunction, IsSmall, is_small_number, decimal}
+use Rattle.stk_small.specs.SmallForm.{IsOperand, IsTermOperator, IsComparison, IsTerm, IsSum, IsCondition, IsReturn, IsTest, IsLocal, AreTests, AreParts, IsSmallFunction, IsSmall, is_small_number, is_decimal, decimal}
 use Rattle.stk_meaning.specs.Values.{compares, is_arithmetic}
 use Rattle.stk_meaning.specs.Forms.{IsPlainTerm, IsPlainTest, IsPlainDeclarator, ArePlainDeclarators, IsPlainLocal, IsPlainStatement, IsPlainPart, ArePlainParts, IsPlain}
 
 module _ (spans : List Span) (bytes : List ℕ) where
-  laid_term : (n t : ℕ) (e : ExprTree) → IsPlainTerm bytes e → IsPlainTerm bytes (laid_expression spans n t e)
-  laid_term n t (s.expression k (s.name at)) p = p
-  laid_term n t (s.expression k (s.number at)) p = p
-  laid_term n t (s.expression k (s.binary op a b)) p = (p.0, laid_term _ _ a p.1, laid_term _ _ b p.2)
-  laid_term n t (s.expression k f) p = absurd p
+  laid_term : (e : ExprTree) (n t : ℕ) → IsPlainTerm bytes e → IsPlainTerm bytes (laid_expression spans n t e)
+  laid_term (s.expression k (s.name at)) n t p = p
+  laid_term (s.expression k (s.number at)) n t p = p
+  laid_term (s.expression k (s.binary op a b)) n t p = (p.0, laid_term a _ _ p.1, laid_term b _ _ p.2)
+  laid_term (s.expression k f) n t p = absurd p
 
-  laid_test : (n t : ℕ) (e : ExprTree) → IsPlainTest bytes e → IsPlainTest bytes (laid_expression spans n t e)
-  laid_test n t (s.expression k (s.binary op a b)) p = (p.0, laid_term _ _ a p.1, laid_term _ _ b p.2)
-  laid_test n t (s.expression k f) p = absurd p
+  laid_test : (e : ExprTree) (n t : ℕ) → IsPlainTest bytes e → IsPlainTest bytes (laid_expression spans n t e)
+  laid_test (s.expression k (s.binary op a b)) n t p = (p.0, laid_term a _ _ p.1, laid_term b _ _ p.2)
+  laid_test (s.expression k f) n t p = absurd p
 
-  laid_object : (n t : ℕ) (d : DeclrTree) → IsPlainDeclarator bytes d → IsPlainDeclarator bytes (laid_declarator spans n t d)
-  laid_object n t (s.declarator k stars (Some at) tail (s.some_initialiser (s.plain e))) p = laid_term _ _ e p
-  laid_object n t (s.declarator k stars at tail init) p = absurd p
+  laid_object : (d : DeclrTree) (n t : ℕ) → IsPlainDeclarator bytes d → IsPlainDeclarator bytes (laid_declarator spans n t d)
+  laid_object (s.declarator k stars (Some at) tail (s.some_initialiser (s.plain e))) n t p = laid_term e _ _ p
+  laid_object (s.declarator k stars at tail init) n t p = absurd p
 
-  laid_objects : (n t : ℕ) (ds : DeclrTrees) → ArePlainDeclarators bytes ds → ArePlainDeclarators bytes (laid_declarators spans n t ds)
-  laid_objects n t s.no_declarators p = tt
-  laid_objects n t (s.then_declarator d ds) p = (laid_object _ _ d p.0, laid_objects _ _ ds p.1)
+  laid_objects : (ds : DeclrTrees) (n t : ℕ) → ArePlainDeclarators bytes ds → ArePlainDeclarators bytes (laid_declarators spans n t ds)
+  laid_objects s.no_declarators n t p = tt
+  laid_objects (s.then_declarator d ds) n t p = (laid_object d _ _ p.0, laid_objects ds _ _ p.1)
 
-  laid_local : (n t : ℕ) (d : DeclarationTree) → IsPlainLocal bytes d → IsPlainLocal bytes (laid_declaration spans n t d)
-  laid_local n t (s.declaration storage b ds) p = laid_objects _ _ ds p
+  laid_local : (d : DeclarationTree) (n t : ℕ) → IsPlainLocal bytes d → IsPlainLocal bytes (laid_declaration spans n t d)
+  laid_local (s.declaration storage b ds) n t p = laid_objects ds _ _ p
 
-  laid_run : (n t : ℕ) (x : StmtTree) → IsPlainStatement bytes x → IsPlainStatement bytes (laid_statement spans n t x)
-  laid_run n t (s.statement k (s.if_statement e x s.no_statement)) p = (laid_test _ _ e p.0, laid_run _ _ x p.1)
-  laid_run n t (s.statement k (s.return_statement (s.some_expression e))) p = laid_term _ _ e p
-  laid_run n t (s.statement k f) p = absurd p
+  laid_run : (x : StmtTree) (n t : ℕ) → IsPlainStatement bytes x → IsPlainStatement bytes (laid_statement spans n t x)
+  laid_run (s.statement k (s.if_statement e x s.no_statement)) n t p = (laid_test e _ _ p.0, laid_run x _ _ p.1)
+  laid_run (s.statement k (s.return_statement (s.some_expression e))) n t p = laid_term e _ _ p
+  laid_run (s.statement k f) n t p = absurd p
 
-  laid_one : (n t : ℕ) (x : PartTree) → IsPlainPart bytes x → IsPlainPart bytes (laid_part spans n t x)
-  laid_one n t (s.local d) p = laid_local _ _ d p
-  laid_one n t (s.run x) p = laid_run _ _ x p
+  laid_one : (x : PartTree) (n t : ℕ) → IsPlainPart bytes x → IsPlainPart bytes (laid_part spans n t x)
+  laid_one (s.local d) n t p = laid_local d _ _ p
+  laid_one (s.run x) n t p = laid_run x _ _ p
 
-  laid_all : (n t : ℕ) (xs : PartTrees) → ArePlainParts bytes xs → ArePlainParts bytes (laid_parts spans n t xs)
-  laid_all n t s.no_parts p = tt
-  laid_all n t (s.then_part x xs) p = (laid_one _ _ x p.0, laid_all _ _ xs p.1)
+  laid_all : (xs : PartTrees) (n t : ℕ) → ArePlainParts bytes xs → ArePlainParts bytes (laid_parts spans n t xs)
+  laid_all s.no_parts n t p = tt
+  laid_all (s.then_part x xs) n t p = (laid_one x _ _ p.0, laid_all xs _ _ p.1)
 
   -- a plain function is plain once its nodes are laid out
   pub laid_plain : (n t : ℕ) (f : FunctionTree) → IsPlain bytes f → IsPlain bytes (laid_function spans n t f)
-  laid_plain n t (s.function storage b (s.declarator k stars at (s.with_parameters ps more) init) (s.statement m (s.block parts))) p = laid_all _ _ parts p
+  laid_plain n t (s.function storage b (s.declarator k stars at (s.with_parameters ps more) init) (s.statement m (s.block parts))) p = laid_all parts _ _ p
   laid_plain n t f p = absurd p
 
 -- the value of a decimal text, told in two places
@@ -74,7 +76,7 @@ second_holds false b e = absurd cc
 number_plain : (text : List ℕ) → is_small_number text ≡ true → texts.decimal text < 256
 unfolding is_small_number
 number_plain text h =
-    let small : decimal 0 text ≤ 255 = leb-true (decimal 0 text) 255 (second_holds _ _ h) in
+    let small : decimal 0 text ≤ 255 = leb-true (decimal 0 text) 255 (second_holds (is_decimal text) (nat_le (decimal 0 text) 255) h) in
     let same : decimal 0 text ≡ texts.decimal text = same_decimal 0 text in
     omega arith
 
@@ -173,3 +175,16 @@ pub lawful_judged : (bytes : List ℕ) (tokens : List Token) (text : List ℕ) (
 lawful_judged bytes tokens text status cut h =
     let made = judged h.judged.findings cut h.prints h.judged.lawful in
     rw (h.judged.same_text, h.judged.same_status) made
+
+-- the text of an input without a token is lawful
+pub lawful_empty : (bytes : List ℕ) (tokens : List Token) (text : List ℕ) (status : Status) → None ≡ slice_get tokens 0 → IsCut bytes tokens → text ≡ summary_text nothing_counted → status ≡ Stable → IsLawfulText bytes text status
+lawful_empty bytes [] text status none cut e f = rw (e, f) (no_token cut)
+lawful_empty bytes (t ∷ ts) text status none cut e f = absurd cc
+
+-- the text of an input that no small tree prints is lawful
+pub lawful_other : (bytes : List ℕ) (tokens : List Token) (first : Token) (text : List ℕ) (status : Status) → Some first ≡ slice_get tokens 0 → IsCut bytes tokens → ((f : FunctionTree) → Prints bytes tokens f → ⊥) → text ≡ other_form_text bytes first.span.from ++ summary_text one_skipped → status ≡ Stable → IsLawfulText bytes text status
+lawful_other bytes [] first text status some cut none_prints e f = absurd cc
+lawful_other bytes (t ∷ ts) first text status some cut none_prints e f =
+    let same : first ≡ t = cc in
+    let e' : text ≡ other_form_text bytes t.span.from ++ summary_text one_skipped = e ∙ ap (λ (x : Token). other_form_text bytes x.span.from ++ summary_text one_skipped) same in
+    rw (e', f) (other_form cut none_prints)

@@ -2,10 +2,10 @@
 //! independent brute-force program, not by this one.
 
 use super::*;
-use stk_base::{MemSink, MemSource, Status};
 use std::alloc::Global;
 use std::process::Abort;
 use std::test::Fail;
+use stk_base::{MemSink, MemSource, Status};
 
 /// An input, and the records that it has.
 struct Row {
@@ -197,34 +197,105 @@ fn each_row_has_its_records(rt: HostRuntime) -> Result<(), Fail> {
     for row in &ROWS {
         let records = row.records.as_bytes();
         let is_found = records.windows(found.len()).any(|piece| piece == found);
-        let status = if is_found { Status::Found } else { Status::Stable };
-        check(rt.alloc(), &rt, &CALM, row.input.as_bytes(), status, records, b"")?;
+        let status = if is_found {
+            Status::Found
+        } else {
+            Status::Stable
+        };
+        check(
+            rt.alloc(),
+            &rt,
+            &CALM,
+            row.input.as_bytes(),
+            status,
+            records,
+            b"",
+        )?;
     }
     Ok(())
 }
 
 const INPUT: &[u8] = b"int f(unsigned char x) { int y = 10 / x; if (x == 0) return 1; return y; }";
 
-const RECORDS: &[u8] = b"-:1:54: unstable: never entered in f\n  hit: x=0\n  needs division by zero at -:1:34; without it: x=0\n1 functions, 1 candidates, 1 unstable, 0 undecided, 0 skipped\n";
+const RECORDS: &[u8] =
+    b"-:1:54: unstable: never entered in f\n  hit: x=0\n  needs division by zero at -:1:34; without it: x=0\n1 functions, 1 candidates, 1 unstable, 0 undecided, 0 skipped\n";
 
 #[test]
 fn each_failure_has_its_status(rt: HostRuntime) -> Result<(), Fail> {
     let alloc = rt.alloc();
     let bad_words = Outside { words: 1, ..CALM };
-    check(alloc, &rt, &bad_words, INPUT, Status::BadWords, b"", b"stack: bad words\n")?;
-    let read = Outside { source_fails: Some(0), ..CALM };
+    check(
+        alloc,
+        &rt,
+        &bad_words,
+        INPUT,
+        Status::BadWords,
+        b"",
+        b"stack: bad words\n",
+    )?;
+    let read = Outside {
+        source_fails: Some(0),
+        ..CALM
+    };
     let cannot_be_read = b"stack: the input cannot be read\n";
-    check(alloc, &rt, &read, INPUT, Status::ReadFault, b"", cannot_be_read)?;
-    let late = Outside { most: 1, source_fails: Some(74), ..CALM };
-    check(alloc, &rt, &late, INPUT, Status::ReadFault, b"", cannot_be_read)?;
+    check(
+        alloc,
+        &rt,
+        &read,
+        INPUT,
+        Status::ReadFault,
+        b"",
+        cannot_be_read,
+    )?;
+    let late = Outside {
+        most: 1,
+        source_fails: Some(74),
+        ..CALM
+    };
+    check(
+        alloc,
+        &rt,
+        &late,
+        INPUT,
+        Status::ReadFault,
+        b"",
+        cannot_be_read,
+    )?;
     let slow = Outside { most: 1, ..CALM };
     check(alloc, &rt, &slow, INPUT, Status::Found, RECORDS, b"")?;
-    let write = Outside { most: 16, out_fails: Some(1), ..CALM };
+    let write = Outside {
+        most: 16,
+        out_fails: Some(1),
+        ..CALM
+    };
     let cannot_be_written = b"stack: the output cannot be written\n";
-    check(alloc, &rt, &write, INPUT, Status::WriteFault, b"-:1:54: unstable", cannot_be_written)?;
-    let flush = Outside { out_fails: Some(1), ..CALM };
-    check(alloc, &rt, &flush, INPUT, Status::WriteFault, RECORDS, cannot_be_written)?;
-    let silent = Outside { source_fails: Some(0), fault_fails: Some(0), ..CALM };
+    check(
+        alloc,
+        &rt,
+        &write,
+        INPUT,
+        Status::WriteFault,
+        b"-:1:54: unstable",
+        cannot_be_written,
+    )?;
+    let flush = Outside {
+        out_fails: Some(1),
+        ..CALM
+    };
+    check(
+        alloc,
+        &rt,
+        &flush,
+        INPUT,
+        Status::WriteFault,
+        RECORDS,
+        cannot_be_written,
+    )?;
+    let silent = Outside {
+        source_fails: Some(0),
+        fault_fails: Some(0),
+        ..CALM
+    };
     check(alloc, &rt, &silent, INPUT, Status::ReadFault, b"", b"")?;
     Ok(())
 }
@@ -234,8 +305,24 @@ fn an_input_over_the_limit_is_too_large(rt: HostRuntime) -> Result<(), Fail> {
     let alloc = rt.alloc();
     let spaces = vec![in alloc; b' '; 16_777_217]?;
     let line = b"stack: the input is larger than 16777216 bytes\n";
-    check(alloc, &rt, &CALM, spaces.as_slice(), Status::TooLarge, b"", line)?;
+    check(
+        alloc,
+        &rt,
+        &CALM,
+        spaces.as_slice(),
+        Status::TooLarge,
+        b"",
+        line,
+    )?;
     let summary = b"0 functions, 0 candidates, 0 unstable, 0 undecided, 0 skipped\n";
-    check(alloc, &rt, &CALM, &spaces[1..], Status::Stable, summary, b"")?;
+    check(
+        alloc,
+        &rt,
+        &CALM,
+        &spaces[1..],
+        Status::Stable,
+        summary,
+        b"",
+    )?;
     Ok(())
 }

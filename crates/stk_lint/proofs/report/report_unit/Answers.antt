@@ -1,5 +1,5 @@
-use Rattle.stk_lint.proofs.Plain.{read_plain, read_prints, read_not_empty, read_not_declares}
+use Rattle.stk_lint.proofs.Plain.{read_plain}
 use Rattle.stk_lint.proofs.report.report_unit.Goals as goal
 
 pub judged-requires : goal.judged-requires
-judged-requires c = ?
+judged-requires c = read_plain _ _ c.in-Defines.field-0 _ (rw c.in-Defines.is at c.requires)
