@@ -4,8 +4,8 @@ ghost use Rattle.stk_tree.specs.Layout.{covered, node_at, span_at};
 ghost use Rattle.stk_tree.specs.Tokens.{last_comma, more_tokens, optional_word, path_end, storage_tokens};
 ghost use Rattle.stk_tree.specs.View.{designators, view_designator};
 
-use stk_tree::{Desig, Node, Storage};
 use stk_base::Span;
+use stk_tree::{Desig, Node, Storage};
 
 /// The number of the first free node, and the first token that comes next.
 #[derive(Clone, Copy)]

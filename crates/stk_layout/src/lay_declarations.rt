@@ -7,8 +7,8 @@ ghost use Rattle.stk_tree.specs.View.{given_expression, labels, view_declaration
 
 use crate::cursor::{Cursor, count_of_storage};
 use crate::lay_expressions::{lay_base, lay_declarators, lay_expression};
-use stk_tree::{Declaration, Expr, Label, Start};
 use stk_base::Span;
+use stk_tree::{Declaration, Expr, Label, Start};
 
 /// Lays out `[e]` and the mark that follows it.
 pub fn lay_ended(x: &mut Option<Expr>, at: Cursor, spans: &[Span]) -> Cursor

@@ -8,11 +8,11 @@ ghost use Rattle.stk_tree.specs.View.{declarators, designators, dimensions, enum
 use crate::cursor::{
     Cursor, after_name, close, count_of_comma, count_of_more, count_of_path_end, count_of_word,
 };
+use stk_base::Span;
 use stk_tree::{
     Base, BaseForm, Declr, Desig, Dimension, Enumr, Expr, ExprForm, Init, Item, Member, Param,
     StepOp, Tail, TypeName,
 };
-use stk_base::Span;
 
 #[cycle(lay_expression)]
 pub fn lay_expression(x: &mut Expr, at: Cursor, spans: &[Span]) -> Cursor

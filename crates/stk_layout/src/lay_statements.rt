@@ -7,8 +7,8 @@ ghost use Rattle.stk_tree.specs.View.{parts, sections, statements, view_part, vi
 
 use crate::cursor::{Cursor, close};
 use crate::lay_declarations::{lay_bracketed, lay_declaration, lay_ended, lay_labels, lay_start};
-use stk_tree::{Part, Section, Stmt, StmtForm};
 use stk_base::Span;
+use stk_tree::{Part, Section, Stmt, StmtForm};
 
 #[cycle(lay_statement)]
 pub fn lay_statement(x: &mut Stmt, at: Cursor, spans: &[Span]) -> Cursor

@@ -9,8 +9,8 @@ use crate::cursor::{Cursor, close, count_of_storage};
 use crate::lay_declarations::lay_declaration;
 use crate::lay_expressions::{lay_base, lay_declarator};
 use crate::lay_statements::lay_statement;
-use stk_tree::{Function, Unit};
 use stk_base::Span;
+use stk_tree::{Function, Unit};
 
 fn lay_function(x: &mut Function, at: Cursor, spans: &[Span]) -> Cursor
     requires numbers { at.number + function_nodes (view_function x.old) < 2 ^ 32 }

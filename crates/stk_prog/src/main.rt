@@ -5,12 +5,12 @@
 mod outside;
 
 use outside::{RealSink, RealSource};
-use stk_base::{Status, write_all};
-use stk_lint::lint_main;
 use std::env;
 use std::io::ErrorKind;
 use std::process::ExitCode;
 use std::rt::Env;
+use stk_base::{Status, write_all};
+use stk_lint::lint_main;
 
 // The words after the program's name, or how to end where they can't be gathered.
 fn words_of<R: Env + AllocGlobal>(rt: &R) -> Result<Vec<String>, Status> {
@@ -36,7 +36,13 @@ fn main(rt: HostRuntime) -> ExitCode {
     let mut out = RealSink::new(rt.stdout());
     let mut fault = RealSink::new(rt.stderr());
     let status = match words_of(&rt) {
-        Ok(words) => lint_main(rt.alloc(), words.as_slice(), &mut source, &mut out, &mut fault),
+        Ok(words) => lint_main(
+            rt.alloc(),
+            words.as_slice(),
+            &mut source,
+            &mut out,
+            &mut fault,
+        ),
         Err(Status::BadWords) => {
             let _ = write_all(&mut fault, b"stack: bad words\n");
             Status::BadWords

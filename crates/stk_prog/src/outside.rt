@@ -2,8 +2,8 @@
 
 ghost use Rattle.std.specs.Prelude.{ℕ, None};
 
-use stk_base::{Failed, Sink, Source};
 use std::io::{Read, Write};
+use stk_base::{Failed, Sink, Source};
 
 /// A source over a reader.
 #[derive(Drop)]

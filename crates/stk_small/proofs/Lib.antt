@@ -14,3 +14,4 @@ pub mod SmallShapes
 pub mod SmallOutlines
 pub mod SmallNodes
 pub mod SmallReads
+pub mod Spellings

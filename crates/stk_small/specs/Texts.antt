@@ -1,14 +1,13 @@
 -- The texts of tokens: the lexeme that a token is, and the words that are never names.
 use Rattle.std.specs.Prelude.{ℕ, ◌-◌, Bool, List, [], ◌∷◌, take, drop, Option, Some, None}
-use Rattle.std.specs.List.{list_any}
-use Rattle.std.specs.Map.{lookup}
+use Rattle.std.specs.List.{list_any, find}
 use Rattle.std.specs.Str.{bytes_eq}
 use lib.Chars.{codes}
 use Rattle.stk_base.specs.declared.span.Span.{Span}
 use Rattle.stk_base.specs.declared.token.Class.{Class}
 use Rattle.stk_base.specs.declared.token.Class.TheVariants as classes
 use Rattle.stk_tree.specs.declared.fixed.Fixed.{Fixed}
-use Rattle.stk_tree.specs.declared.fixed.Fixed.TheVariants as fixed
+use Rattle.stk_tree.specs.Spelling.{every, spelling_of}
 use Rattle.stk_tree.specs.declared.fixed.Lexeme.{Lexeme}
 use Rattle.stk_tree.specs.declared.fixed.Lexeme.TheVariants as lexemes
 use Rattle.stk_small.specs.declared.lexing.Token.{Token}
@@ -17,34 +16,9 @@ use Rattle.stk_small.specs.declared.lexing.Token.{Token}
 abbrev pub text_of : List ℕ → Span → List ℕ
 text_of bytes at = take (at.to - at.from) (drop at.from bytes)
 
--- the words and marks of the small form, each with its text
-abbrev pub spellings : List (List ℕ × Fixed)
-spellings =
-    (codes "int", fixed.Int) ∷
-    (codes "unsigned", fixed.Unsigned) ∷
-    (codes "char", fixed.Char) ∷
-    (codes "if", fixed.If) ∷
-    (codes "return", fixed.Return) ∷
-    (codes "(", fixed.LeftParen) ∷
-    (codes ")", fixed.RightParen) ∷
-    (codes "{", fixed.LeftBrace) ∷
-    (codes "}", fixed.RightBrace) ∷
-    (codes ",", fixed.Comma) ∷
-    (codes ";", fixed.Semicolon) ∷
-    (codes "=", fixed.Assign) ∷
-    (codes "+", fixed.Plus) ∷
-    (codes "*", fixed.Star) ∷
-    (codes "/", fixed.Slash) ∷
-    (codes "<", fixed.Less) ∷
-    (codes ">", fixed.Greater) ∷
-    (codes "<=", fixed.LessEqual) ∷
-    (codes ">=", fixed.GreaterEqual) ∷
-    (codes "==", fixed.EqualEqual) ∷
-    (codes "!=", fixed.NotEqual) ∷ []
-
--- the word or mark of the small form with this text
+-- the reserved word or mark with this text (C11 6.4.1, 6.4.6, and the words that GNU C adds)
 unfoldable pub fixed_of : List ℕ → Option Fixed
-fixed_of text = lookup (bytes_eq text) spellings
+fixed_of text = find (λ f. bytes_eq text (spelling_of f)) every
 
 -- the lexeme of a token of this class, whose text is this word or mark or none of them
 abbrev pub lexeme_at : Class → Span → Option Fixed → Lexeme
@@ -52,7 +26,7 @@ lexeme_at classes.Word at (Some word) = lexemes.Fixed word
 lexeme_at classes.Mark at (Some mark) = lexemes.Fixed mark
 lexeme_at class at text = lexemes.Leaf class at
 
--- the lexeme that a token is: a word or mark of the small form, or a leaf with its class and span
+-- the lexeme that a token is: a reserved word or a mark, or a leaf with its class and span
 abbrev pub lexeme_of : List ℕ → Token → Lexeme
 lexeme_of bytes t = lexeme_at t.class t.span (fixed_of (text_of bytes t.span))
 

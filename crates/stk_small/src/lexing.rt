@@ -129,37 +129,35 @@ mod tests {
 
     #[test]
     fn cuts_texts(rt: HostRuntime) {
-        let names = [token(Class::Word, 0, 5), token(Class::Word, 6, 8)];
-        let bytes = b"int_9 _x".as_slice();
+        let words = [token(Class::Word, 0, 5), token(Class::Word, 6, 8)];
         let numbers = [
             token(Class::Number, 0, 7),
             token(Class::Mark, 7, 8),
             token(Class::Number, 8, 11),
         ];
-        let signs = b"0x1.p+4+.5e".as_slice();
         let marks = [
             token(Class::Mark, 0, 2),
             token(Class::Mark, 2, 4),
             token(Class::Mark, 4, 5),
             token(Class::Mark, 5, 8),
         ];
-        let tight = b"<=++/...".as_slice();
         let strays = [
             token(Class::Stray, 1, 2),
             token(Class::Mark, 2, 3),
             token(Class::Mark, 3, 4),
             token(Class::Stray, 6, 7),
         ];
-        let odd = b"\n'/*\x0b\x0c#\r\t".as_slice();
-        for (text, tokens) in [
-            (bytes, names.as_slice()),
-            (signs, &numbers),
-            (tight, &marks),
-            (odd, &strays),
-            (b" ", &[]),
-        ] {
+        let cases = [
+            (b"int_9 _x".as_slice(), words.as_slice()),
+            (b"0x1.p+4+.5e".as_slice(), numbers.as_slice()),
+            (b"<=++/...".as_slice(), marks.as_slice()),
+            (b"\n'/*\x0b\x0c#\r\t".as_slice(), strays.as_slice()),
+            (b" ".as_slice(), [].as_slice()),
+        ];
+        for (text, tokens) in cases {
+            assert!(rt; text.len() <= 16_777_216);
             match lex(rt.alloc(), text) {
-                Ok(found) => assert!(rt; found.as_slice() == tokens),
+                Ok(found) => assert!(rt; found.as_slice() == tokens, "{text:?}"),
                 Err(_) => assert!(rt; false),
             }
         }

@@ -80,3 +80,89 @@ pub fn read_small(alloc: Global, bytes: &[u8], tokens: &[Token]) -> Result<Optio
     lay_out(&mut unit, spans.as_slice());
     Ok(Some(unit))
 }
+
+#[cfg(test)]
+mod tests {
+    use super::read_small;
+    use crate::lexing::{Token, lex};
+    use std::alloc::Global;
+
+    /// Whether tokens were read; `None` where memory ran out.
+    fn are_read(alloc: Global, text: &[u8], tokens: &[Token]) -> Option<bool>
+        requires short { length text.now ≤ 16777216 }
+        requires cut { IsCut text.now tokens.now }
+    {
+        match read_small(alloc, text, tokens) {
+            Ok(Some(unit)) => {
+                // The drop of a unit is too large to be proved here.
+                std::mem::forget(unit);
+                Some(true)
+            }
+            Ok(None) => Some(false),
+            Err(_) => None,
+        }
+    }
+
+    fn is_read(alloc: Global, text: &[u8]) -> Option<bool>
+        requires { length text.now ≤ 16777216 }
+    {
+        match lex(alloc, text) {
+            Ok(tokens) => are_read(alloc, text, tokens.as_slice()),
+            Err(_) => None,
+        }
+    }
+
+    #[test]
+    fn reads_small_texts(rt: HostRuntime) {
+        let cases = [
+            (
+                "int f(unsigned char x){int y=10/x;if(x==0)return 1;return y;}",
+                true,
+            ),
+            (
+                "int f(unsigned char a, unsigned char b) { return a + b; }",
+                true,
+            ),
+            (
+                "int f(unsigned char a) { int b = a * 255; int c = 7; if (a + 1 <= a * 2) return b + c; return 0; }",
+                true,
+            ),
+            ("", false),
+            ("int f() { return 0; }", false),
+            ("int f(unsigned char a) { return 0; } ;", false),
+            ("int f(unsigned char a) { return a * 2; }", false),
+            ("int f(unsigned char a) { return 256; }", false),
+            ("int f(unsigned char a) { return 01; }", false),
+            ("int f(unsigned char a) { return 0x1; }", false),
+            ("int f(unsigned char a) { return b; }", false),
+            ("int f(unsigned char a) { return f; }", false),
+            ("int f(unsigned char f) { return 0; }", false),
+            (
+                "int f(unsigned char a, unsigned char a) { return 0; }",
+                false,
+            ),
+            ("int f(unsigned char a) { int a = 1; return a; }", false),
+            (
+                "int f(unsigned char a) { int b = 1; int c = b; return c; }",
+                false,
+            ),
+            ("int f(unsigned char while) { return 0; }", false),
+            ("int f(unsigned char __inline) { return 0; }", false),
+            ("int f(unsigned char a) { int b = a < 1; return b; }", false),
+            (
+                "int f(unsigned char a) { if (a) return 0; return a; }",
+                false,
+            ),
+            ("int f(unsigned char a) { if (a < 1) return 0; }", false),
+            (
+                "int f(unsigned char a) { if (a < 1) return 0; int b = 1; return b; }",
+                false,
+            ),
+        ];
+        for (text, is_small) in cases {
+            let text = text.as_bytes();
+            assert!(rt; text.len() <= 16_777_216);
+            assert!(rt; is_read(rt.alloc(), text) == Some(is_small), "{text:?}");
+        }
+    }
+}

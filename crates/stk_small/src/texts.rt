@@ -2,38 +2,12 @@
 
 ghost use Rattle.std.specs.Prelude.{◌≡◌};
 ghost use Rattle.std.specs.List.{list_any};
-ghost use Rattle.std.specs.Map.{lookup};
 ghost use Rattle.std.specs.Str.{bytes_eq};
 ghost use Rattle.stk_small.specs.Texts.{fixed_of, is_reserved, lexeme_of, text_of};
 
 use crate::lexing::Token;
 use stk_base::{Class, Span};
 use stk_tree::{Fixed, Lexeme};
-
-/// The words and marks of the small form.
-const SPELLINGS: [(&str, Fixed); 21] = [
-    ("int", Fixed::Int),
-    ("unsigned", Fixed::Unsigned),
-    ("char", Fixed::Char),
-    ("if", Fixed::If),
-    ("return", Fixed::Return),
-    ("(", Fixed::LeftParen),
-    (")", Fixed::RightParen),
-    ("{", Fixed::LeftBrace),
-    ("}", Fixed::RightBrace),
-    (",", Fixed::Comma),
-    (";", Fixed::Semicolon),
-    ("=", Fixed::Assign),
-    ("+", Fixed::Plus),
-    ("*", Fixed::Star),
-    ("/", Fixed::Slash),
-    ("<", Fixed::Less),
-    (">", Fixed::Greater),
-    ("<=", Fixed::LessEqual),
-    (">=", Fixed::GreaterEqual),
-    ("==", Fixed::EqualEqual),
-    ("!=", Fixed::NotEqual),
-];
 
 /// The keywords (C11 6.4.1), other words that compilers reserve, and the words that are dropped before reading.
 const RESERVED: [&str; 72] = [
@@ -120,24 +94,11 @@ pub fn text_of(bytes: &[u8], at: Span) -> &[u8]
     &bytes[from..to.max(from)]
 }
 
-/// What a table gives for a text.
-fn entry_of(table: &[(&str, Fixed)], text: &[u8]) -> Option<Fixed>
-    ensures { result ≡ lookup (λ word. bytes_eq text.now word.now) table.now }
-{
-    for entry in table {
-        if text == entry.0.as_bytes() {
-            return Some(entry.1);
-        }
-    }
-    None
-}
-
-/// The word or mark of the small form with this text.
-#[tactic(auto, unfolding(crate::specs::Texts::fixed_of))]
-fn fixed_of(text: &[u8]) -> Option<Fixed>
+/// The reserved word or mark with this text.
+fn word_or_mark(text: &[u8]) -> Option<Fixed>
     ensures { result ≡ fixed_of text.now }
 {
-    entry_of(&SPELLINGS, text)
+    stk_tree::fixed_of(text)
 }
 
 /// Whether a text is one of these words.
@@ -159,7 +120,7 @@ pub fn is_reserved(text: &[u8]) -> bool
 pub fn lexeme_of(bytes: &[u8], token: Token) -> Lexeme
     ensures { result ≡ lexeme_of bytes.now token }
 {
-    match (token.class, fixed_of(text_of(bytes, token.span))) {
+    match (token.class, word_or_mark(text_of(bytes, token.span))) {
         (Class::Word | Class::Mark, Some(fixed)) => Lexeme::Fixed(fixed),
         (class, _) => Lexeme::Leaf(class, token.span),
     }

@@ -9,6 +9,7 @@ mod expression;
 mod fixed;
 mod node;
 mod statement;
+mod text;
 mod unit;
 
 pub use declaration::{
@@ -19,4 +20,5 @@ pub use expression::{AssignOp, BinaryOp, Expr, ExprForm, StepOp, UnaryOp};
 pub use fixed::{Fixed, Lexeme};
 pub use node::Node;
 pub use statement::{Label, Part, Section, Start, Stmt, StmtForm};
+pub use text::{fixed_of, spelling};
 pub use unit::{Function, Unit};

@@ -1,0 +1,13 @@
+pub mod Longest
+pub mod Blanks
+pub mod First
+pub mod Cuts
+pub mod Apart
+pub mod OneCut
+pub mod Digits
+pub mod Parts
+pub mod Lines
+pub mod Stands
+pub mod Marks
+pub mod GapsLongest
+pub mod OnePlace

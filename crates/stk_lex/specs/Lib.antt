@@ -1,0 +1,9 @@
+pub mod Classes
+pub mod Gaps
+pub mod GapForms
+pub mod Cut
+pub mod Lengths
+pub mod Marker
+pub mod MarkerReading
+pub mod Place
+pub mod Stands
