@@ -7,140 +7,173 @@ use std::process::Abort;
 use std::test::Fail;
 use stk_base::{MemSink, MemSource, Status};
 
-/// An input, and the records that it has.
+/// An input, the records that it has, and the status of its run.
 struct Row {
     input: &'static str,
     records: &'static str,
+    status: Status,
 }
 
 const ROWS: [Row; 31] = [
     Row {
         input: "",
         records: "0 functions, 0 candidates, 0 unstable, 0 undecided, 0 skipped\n",
+        status: Status::Stable,
     },
     Row {
         input: "int f(unsigned char x) { int y = 10 / x; if (x == 0) return 1; return y; }",
         records: "-:1:54: unstable: never entered in f\n  hit: x=0\n  needs division by zero at -:1:34; without it: x=0\n1 functions, 1 candidates, 1 unstable, 0 undecided, 0 skipped\n",
+        status: Status::Found,
     },
     Row {
         input: "int f(unsigned char x, unsigned char y) { int a = 1 / x; int b = 1 / y; if (x * y == 0) return 1; return a + b; }",
         records: "-:1:89: unstable: never entered in f\n  hit: x=0 y=0\n  needs division by zero at -:1:51; without it: x=0 y=1\n  needs division by zero at -:1:66; without it: x=1 y=0\n1 functions, 1 candidates, 1 unstable, 0 undecided, 0 skipped\n",
+        status: Status::Found,
     },
     Row {
         input: "int f(unsigned char x) { int a = 1 / x; int b = 1 / x; if (x == 0) return 1; return a + b; }",
         records: "-:1:68: unstable: never entered in f\n  hit: x=0\n  needs division by zero at -:1:34; without it: x=0\n1 functions, 1 candidates, 1 unstable, 0 undecided, 0 skipped\n",
+        status: Status::Found,
     },
     Row {
         input: "int f(unsigned char x) { int y = 10 / 0; if (x == 0) return 1; return y; }",
         records: "-:1:54: unstable: never entered in f\n  hit: x=0\n  needs division by zero at -:1:34; without it: x=0\n1 functions, 1 candidates, 1 unstable, 0 undecided, 0 skipped\n",
+        status: Status::Found,
     },
     Row {
         input: "int f(unsigned char x) { if (1 / x == 0) return 1; return 0; }",
         records: "1 functions, 1 candidates, 0 unstable, 0 undecided, 0 skipped\n",
+        status: Status::Stable,
     },
     Row {
         input: "int f(unsigned char x) { if (1 / x <= 0) return 1; return 0; }",
         records: "1 functions, 1 candidates, 0 unstable, 0 undecided, 0 skipped\n",
+        status: Status::Stable,
     },
     Row {
         input: "int f(unsigned char x) { if (x == 0) return 1; if (1 / x == 0) return 2; return 3; }",
         records: "1 functions, 2 candidates, 0 unstable, 0 undecided, 0 skipped\n",
+        status: Status::Stable,
     },
     Row {
         input: "int f(unsigned char x) { if (x != x) return 1; return 0; }",
         records: "1 functions, 1 candidates, 0 unstable, 0 undecided, 0 skipped\n",
+        status: Status::Stable,
     },
     Row {
         input: "int f(unsigned char x) { int y = x / x; if (x <= 0) return y; return 255; }",
         records: "-:1:53: unstable: never entered in f\n  hit: x=0\n  needs division by zero at -:1:34; without it: x=0\n1 functions, 1 candidates, 1 unstable, 0 undecided, 0 skipped\n",
+        status: Status::Found,
     },
     Row {
         input: "int f(unsigned char x) { int y = 0 / x; if (x < 1) return y + 1; return y; }",
         records: "-:1:52: unstable: never entered in f\n  hit: x=0\n  needs division by zero at -:1:34; without it: x=0\n1 functions, 1 candidates, 1 unstable, 0 undecided, 0 skipped\n",
+        status: Status::Found,
     },
     Row {
         input: "int f(unsigned char x) { int y = 1 / x; if (x != 0) return 1; return y; }",
         records: "1 functions, 1 candidates, 0 unstable, 0 undecided, 0 skipped\n",
+        status: Status::Stable,
     },
     Row {
         input: "int f(unsigned char x) { return x; }",
         records: "1 functions, 0 candidates, 0 unstable, 0 undecided, 0 skipped\n",
+        status: Status::Stable,
     },
     Row {
         input: "int g(unsigned char a) { int b = 7 / 0; if (a >= 255) return 0; if (a > 254) return 1; return b + a; }",
         records: "-:1:55: unstable: never entered in g\n  hit: a=255\n  needs division by zero at -:1:34; without it: a=255\n1 functions, 2 candidates, 1 unstable, 0 undecided, 0 skipped\n",
+        status: Status::Found,
     },
     Row {
         input: "int f(unsigned char x, unsigned char y) { int a = 1 / x; int b = 1 / y; int c = 2 / x; if (x * y == 0) return c; return a + b; }",
         records: "-:1:104: unstable: never entered in f\n  hit: x=0 y=0\n  needs division by zero at -:1:51; without it: x=0 y=1\n  needs division by zero at -:1:66; without it: x=1 y=0\n1 functions, 1 candidates, 1 unstable, 0 undecided, 0 skipped\n",
+        status: Status::Found,
     },
     Row {
         input: "int f(unsigned char x, unsigned char y) { int a = x / y; if (y == 0) return 1; if (x / y > 255) return 2; return a; }",
         records: "-:1:70: unstable: never entered in f\n  hit: x=0 y=0\n  needs division by zero at -:1:51; without it: x=0 y=0\n1 functions, 2 candidates, 1 unstable, 0 undecided, 0 skipped\n",
+        status: Status::Found,
     },
     Row {
         input: "int\tf\n(\runsigned\x0bchar\x0cx ) {\nint y=3/x;\n  if(x==0)return 1;return y;}\n",
         records: "-:4:11: unstable: never entered in f\n  hit: x=0\n  needs division by zero at -:3:7; without it: x=0\n1 functions, 1 candidates, 1 unstable, 0 undecided, 0 skipped\n",
+        status: Status::Found,
     },
     Row {
         input: "int f(unsigned char x) { return 255; }",
         records: "1 functions, 0 candidates, 0 unstable, 0 undecided, 0 skipped\n",
+        status: Status::Stable,
     },
     Row {
         input: "int f(unsigned char x) { return 256; }",
         records: "-:1:1: skipped: other form\n0 functions, 0 candidates, 0 unstable, 0 undecided, 1 skipped\n",
+        status: Status::Stable,
     },
     Row {
         input: "int f(unsigned char x) { return 01; }",
         records: "-:1:1: skipped: other form\n0 functions, 0 candidates, 0 unstable, 0 undecided, 1 skipped\n",
+        status: Status::Stable,
     },
     Row {
         input: "int while(unsigned char x) { return x; }",
         records: "-:1:1: skipped: other form\n0 functions, 0 candidates, 0 unstable, 0 undecided, 1 skipped\n",
+        status: Status::Stable,
     },
     Row {
         input: "int f(unsigned char f) { return f; }",
         records: "-:1:1: skipped: other form\n0 functions, 0 candidates, 0 unstable, 0 undecided, 1 skipped\n",
+        status: Status::Stable,
     },
     Row {
         input: "int f(unsigned char x) { int x = 1; return x; }",
         records: "-:1:1: skipped: other form\n0 functions, 0 candidates, 0 unstable, 0 undecided, 1 skipped\n",
+        status: Status::Stable,
     },
     Row {
         input: "int f(unsigned char x) { return y; }",
         records: "-:1:1: skipped: other form\n0 functions, 0 candidates, 0 unstable, 0 undecided, 1 skipped\n",
+        status: Status::Stable,
     },
     Row {
         input: "int f(unsigned char x) {",
         records: "-:1:1: skipped: other form\n0 functions, 0 candidates, 0 unstable, 0 undecided, 1 skipped\n",
+        status: Status::Stable,
     },
     Row {
         input: "int f(void) { return 1; }",
         records: "-:1:1: skipped: other form\n0 functions, 0 candidates, 0 unstable, 0 undecided, 1 skipped\n",
+        status: Status::Stable,
     },
     Row {
         input: "int f(unsigned char x) { if (x == 0) return 1 }",
         records: "-:1:1: skipped: other form\n0 functions, 0 candidates, 0 unstable, 0 undecided, 1 skipped\n",
+        status: Status::Stable,
     },
     Row {
         input: "int f(unsigned char x) { return x * 2; }",
         records: "-:1:1: skipped: other form\n0 functions, 0 candidates, 0 unstable, 0 undecided, 1 skipped\n",
+        status: Status::Stable,
     },
     Row {
         input: "int f(unsigned char x) { /* c */ return x; }",
         records: "-:1:1: skipped: other form\n0 functions, 0 candidates, 0 unstable, 0 undecided, 1 skipped\n",
+        status: Status::Stable,
     },
     Row {
         input: "#",
         records: "-:1:1: skipped: other form\n0 functions, 0 candidates, 0 unstable, 0 undecided, 1 skipped\n",
+        status: Status::Stable,
     },
     Row {
         input: "\n\n  @",
         records: "-:3:3: skipped: other form\n0 functions, 0 candidates, 0 unstable, 0 undecided, 1 skipped\n",
+        status: Status::Stable,
     },
 ];
 
 /// How a source and the sinks behave in a run: the most bytes of a call, and the calls that fail.
+#[derive(Clone, Copy)]
 struct Outside {
     words: usize,
     most: usize,
@@ -193,24 +226,9 @@ const CALM: Outside = Outside {
 
 #[test]
 fn each_row_has_its_records(rt: HostRuntime) -> Result<(), Fail> {
-    let found = b"  hit: ";
     for row in &ROWS {
-        let records = row.records.as_bytes();
-        let is_found = records.windows(found.len()).any(|piece| piece == found);
-        let status = if is_found {
-            Status::Found
-        } else {
-            Status::Stable
-        };
-        check(
-            rt.alloc(),
-            &rt,
-            &CALM,
-            row.input.as_bytes(),
-            status,
-            records,
-            b"",
-        )?;
+        let (input, records) = (row.input.as_bytes(), row.records.as_bytes());
+        check(rt.alloc(), &rt, &CALM, input, row.status, records, b"")?;
     }
     Ok(())
 }
@@ -220,83 +238,74 @@ const INPUT: &[u8] = b"int f(unsigned char x) { int y = 10 / x; if (x == 0) retu
 const RECORDS: &[u8] =
     b"-:1:54: unstable: never entered in f\n  hit: x=0\n  needs division by zero at -:1:34; without it: x=0\n1 functions, 1 candidates, 1 unstable, 0 undecided, 0 skipped\n";
 
+// How the outside behaves.
+fn of_outside(
+    words: usize,
+    most: usize,
+    source_fails: Option<u64>,
+    out_fails: Option<u64>,
+    fault_fails: Option<u64>,
+) -> Outside {
+    Outside {
+        words,
+        most,
+        source_fails,
+        out_fails,
+        fault_fails,
+    }
+}
+
 #[test]
 fn each_failure_has_its_status(rt: HostRuntime) -> Result<(), Fail> {
-    let alloc = rt.alloc();
-    let bad_words = Outside { words: 1, ..CALM };
-    check(
-        alloc,
-        &rt,
-        &bad_words,
-        INPUT,
-        Status::BadWords,
-        b"",
-        b"stack: bad words\n",
-    )?;
-    let read = Outside {
-        source_fails: Some(0),
-        ..CALM
-    };
-    let cannot_be_read = b"stack: the input cannot be read\n";
-    check(
-        alloc,
-        &rt,
-        &read,
-        INPUT,
-        Status::ReadFault,
-        b"",
-        cannot_be_read,
-    )?;
-    let late = Outside {
-        most: 1,
-        source_fails: Some(74),
-        ..CALM
-    };
-    check(
-        alloc,
-        &rt,
-        &late,
-        INPUT,
-        Status::ReadFault,
-        b"",
-        cannot_be_read,
-    )?;
-    let slow = Outside { most: 1, ..CALM };
-    check(alloc, &rt, &slow, INPUT, Status::Found, RECORDS, b"")?;
-    let write = Outside {
-        most: 16,
-        out_fails: Some(1),
-        ..CALM
-    };
-    let cannot_be_written = b"stack: the output cannot be written\n";
-    check(
-        alloc,
-        &rt,
-        &write,
-        INPUT,
-        Status::WriteFault,
-        b"-:1:54: unstable",
-        cannot_be_written,
-    )?;
-    let flush = Outside {
-        out_fails: Some(1),
-        ..CALM
-    };
-    check(
-        alloc,
-        &rt,
-        &flush,
-        INPUT,
-        Status::WriteFault,
-        RECORDS,
-        cannot_be_written,
-    )?;
-    let silent = Outside {
-        source_fails: Some(0),
-        fault_fails: Some(0),
-        ..CALM
-    };
-    check(alloc, &rt, &silent, INPUT, Status::ReadFault, b"", b"")?;
+    let unread: &[u8] = b"stack: the input cannot be read\n";
+    let unwritten: &[u8] = b"stack: the output cannot be written\n";
+    let table: [(Outside, Status, &[u8], &[u8]); 7] = [
+        (
+            of_outside(1, 9, None, None, None),
+            Status::BadWords,
+            b"",
+            b"stack: bad words\n",
+        ),
+        (
+            of_outside(0, 9, Some(0), None, None),
+            Status::ReadFault,
+            b"",
+            unread,
+        ),
+        (
+            of_outside(0, 1, Some(74), None, None),
+            Status::ReadFault,
+            b"",
+            unread,
+        ),
+        (
+            of_outside(0, 1, None, None, None),
+            Status::Found,
+            RECORDS,
+            b"",
+        ),
+        (
+            of_outside(0, 16, None, Some(1), None),
+            Status::WriteFault,
+            b"-:1:54: unstable",
+            unwritten,
+        ),
+        (
+            of_outside(0, 999, None, Some(1), None),
+            Status::WriteFault,
+            RECORDS,
+            unwritten,
+        ),
+        (
+            of_outside(0, 9, Some(0), None, Some(0)),
+            Status::ReadFault,
+            b"",
+            b"",
+        ),
+    ];
+    for (outside, status, records, line) in &table {
+        check(rt.alloc(), &rt, outside, INPUT, *status, records, line)?;
+    }
     Ok(())
 }
 

@@ -344,7 +344,7 @@ some_statements (s.then_statement x xs) = true
 -- only the last section may be without statements
 abbrev pub may_precede : SectionTree → SectionTrees → Bool
 may_precede x s.no_sections = true
-may_precede (s.section n labels body) (s.then_section y ys) = some_statements body
+may_precede (s.section n ls body) (s.then_section y ys) = some_statements body
 
 -- a statement that ends with an `if` without `else`, to which a following `else` would belong (C11 6.8.4.1)
 abbrev mutual
