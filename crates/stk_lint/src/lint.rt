@@ -131,6 +131,11 @@ pub fn lint_main<S: Source, K: Sink, E: Sink>(
     ensures write_fault { result ≡ Status.WriteFault → Rose (K.faults out.old) (K.faults out.new) }
     ensures too_large { (came : List ℕ) × Came (S.left source.old) (S.left source.new) came × ((result ≡ Status.TooLarge) ↔ (LIMIT < length came)) }
 
+    // Without words, over a source that tells no more bytes than the limit, and where nothing fails.
+    ensures complete { (bytes : List ℕ) → length words.now ≡ 0 → S.left source.old ≡ Some bytes → length bytes ≤ LIMIT
+        → ¬ Rose (S.faults source.old) (S.faults source.new) → ¬ Rose (K.faults out.old) (K.faults out.new)
+        → IsWritten result ⊎ (result ≡ Status.NoMemory) }
+
     // The line of a failure.
     ensures line { ¬ Rose (E.faults fault.old) (E.faults fault.new) → Appended (E.taken fault.old) (E.taken fault.new) (fault_line result) }
 {

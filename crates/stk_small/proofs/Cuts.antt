@@ -1,6 +1,5 @@
 -- How a cut grows, and where its spans lie.
 use Rattle.std.proofs.Common.{◌≡◌, ℕ, ◌+◌, ◌-◌, ◌≤◌, List, [], ◌∷◌, length, drop, subst, arith}
-use Rattle.std.proofs.lemmas.List.{length-drop}
 use Rattle.stk_base.specs.declared.token.Class.{Class}
 use Rattle.stk_small.specs.declared.lexing.Token.{Token}
 use Rattle.stk_small.specs.Gaps.{gap, AreGaps, no_gap, more_gaps}

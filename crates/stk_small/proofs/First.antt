@@ -5,7 +5,7 @@ use Rattle.std.proofs.lemmas.List.{take_all}
 use Rattle.stk_base.specs.declared.token.Class.{Class}
 use Rattle.stk_base.specs.declared.token.Class.TheVariants as classes
 use Rattle.stk_small.specs.Classes.{is_word, is_number, is_mark}
-use Rattle.stk_small.specs.Cut.{NoneBegins, is_form, byte, InClass, IsFirst}
+use Rattle.stk_small.specs.Cut.{is_form, byte, InClass, IsFirst}
 use Rattle.stk_small.specs.Lengths.{word_length, number_length, mark_length, form_length}
 use Rattle.stk_small.proofs.Longest.{IsLongest, either, word_is_longest, number_is_longest, mark_is_longest}
 

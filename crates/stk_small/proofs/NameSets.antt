@@ -15,7 +15,7 @@ use Rattle.stk_small.specs.declared.small.Outline.{Outline}
 use Rattle.stk_small.specs.Texts.{text_of, is_reserved}
 use Rattle.stk_small.specs.SmallForm.{is_among}
 use Rattle.stk_small.specs.SmallTexts.{are_names, inner_names, parts_fit, outline_fits}
-use Rattle.stk_small.specs.Names.{texts_in, is_in}
+use Rattle.stk_small.specs.Names.{is_in}
 
 among_is : (ks : List (Bor (List ℕ))) (text : List ℕ) → list_any (λ k. is_eq (slice_cmp nat_cmp text k.now)) ks ≡ is_among text (map (λ k. k.now) ks)
 among_is [] text = refl

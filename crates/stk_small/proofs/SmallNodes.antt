@@ -1,5 +1,5 @@
 -- The tree of an outline has no more nodes than the outline has terminals.
-use Rattle.std.proofs.Common.{◌≡◌, ℕ, ◌+◌, ◌<◌, ◌≤◌, List, [], ◌∷◌, ◌++◌, map, length, refl, arith}
+use Rattle.std.proofs.Common.{◌≡◌, ℕ, ◌+◌, ◌≤◌, List, [], ◌∷◌, ◌++◌, map, length, refl, arith}
 use Rattle.stk_base.specs.declared.span.Span.{Span}
 use Rattle.stk_tree.specs.Syntax as s
 use Rattle.stk_tree.specs.Nodes.{expression_nodes, statement_nodes, part_nodes, parts_nodes, parameters_nodes, unit_nodes}
@@ -15,8 +15,8 @@ use Rattle.stk_small.specs.declared.small.Outline.{Outline}
 use Rattle.stk_small.specs.declared.small.Terminal.{Terminal}
 use Rattle.stk_small.specs.declared.small.Terminal.TheVariants as terminals
 use Rattle.stk_small.specs.Cut.{AreSpans}
-use Rattle.stk_small.specs.SmallTree.{operand_tree, term_tree, result_tree, local_tree, test_tree, parameter_tree, part_trees, unit_tree}
-use Rattle.stk_small.proofs.SmallPrints.{print_term, print_result, print_local, print_test, print_parameter, print_next_parameter, print_row, print_parameters, print_parts, print_outline}
+use Rattle.stk_small.specs.SmallTree.{operand_tree, term_tree, result_tree, local_tree, test_tree, parameter_tree, unit_tree}
+use Rattle.stk_small.proofs.SmallPrints.{print_term, print_result, print_local, print_test, print_next_parameter, print_row, print_parameters, print_parts, print_outline}
 
 operand_nodes : (a : Operand) → expression_nodes (operand_tree a) ≡ 1
 operand_nodes (operand.Name at) = refl

@@ -1,11 +1,10 @@
 -- A tree of the small form has an outline, whose tree prints the same tokens.
-use Rattle.std.proofs.Common.{◌≡◌, ℕ, zero, ◌<◌, Bool, true, false, List, [], ◌∷◌, ◌++◌, map, length, Option, Some, None, refl, sym, ap, subst, ◌∙◌, arith}
-use Rattle.std.specs.Prelude.{◌&&◌, not}
+use Rattle.std.proofs.Common.{◌≡◌, ℕ, zero, Bool, true, false, List, [], ◌∷◌, ◌++◌, map, Option, Some, None, refl, sym, ap, subst, ◌∙◌, arith}
+use Rattle.std.specs.Prelude.{◌&&◌}
 use Rattle.std.specs.List.{list_all}
 use Rattle.std.proofs.lemmas.List.{map-append}
 use Rattle.stk_base.specs.declared.span.Span.{Span}
 use Rattle.stk_base.specs.declared.token.Class.TheVariants as classes
-use Rattle.stk_tree.specs.declared.node.Node.{Node}
 use Rattle.stk_tree.specs.declared.declaration.Storage.{Storage}
 use Rattle.stk_tree.specs.declared.fixed.Fixed.{Fixed}
 use Rattle.stk_tree.specs.declared.fixed.Fixed.TheVariants as fixed
@@ -14,7 +13,7 @@ use Rattle.stk_tree.specs.declared.fixed.Lexeme.TheVariants as lexemes
 use Rattle.stk_tree.specs.declared.expression.BinaryOp.{BinaryOp}
 use Rattle.stk_tree.specs.declared.expression.BinaryOp.TheVariants as binary
 use Rattle.stk_tree.specs.Syntax as s
-use Rattle.stk_tree.specs.Tokens.{binary_mark, base_tokens, expression_tokens, statement_tokens, declaration_tokens, declarator_tokens, part_tokens, parts_tokens, parameter_tokens, parameters_tokens, more_parameters, unit_tokens}
+use Rattle.stk_tree.specs.Tokens.{binary_mark, base_tokens, expression_tokens, statement_tokens, declaration_tokens, part_tokens, parts_tokens, parameter_tokens, more_parameters, unit_tokens}
 use Rattle.stk_tree.specs.View.{parameters, parts}
 use Rattle.stk_small.specs.declared.small.Operand.{Operand}
 use Rattle.stk_small.specs.declared.small.Operand.TheVariants as operand
@@ -23,11 +22,11 @@ use Rattle.stk_small.specs.declared.small.Term.TheVariants as term
 use Rattle.stk_small.specs.declared.small.Local.{Local}
 use Rattle.stk_small.specs.declared.small.Test.{Test}
 use Rattle.stk_small.specs.declared.small.Outline.{Outline}
-use Rattle.stk_small.specs.Texts.{text_of, is_reserved}
+use Rattle.stk_small.specs.Texts.{text_of}
 use Rattle.stk_small.specs.SmallReading.{is_term_operator, is_comparison}
-use Rattle.stk_small.specs.SmallForm.{is_among, IsOperand, IsTermOperator, IsComparison, IsTerm, IsSum, IsCondition, IsReturn, IsTest, IsLocal, IsBase, AreTests, AreParts, IsParameter, AreParameters, AreNames, names_of_declarators, names_of_parameters, names_of_locals, IsSmall}
+use Rattle.stk_small.specs.SmallForm.{IsOperand, IsTermOperator, IsComparison, IsTerm, IsSum, IsReturn, IsTest, IsLocal, IsBase, AreTests, AreParts, IsParameter, AreParameters, AreNames, names_of_declarators, names_of_parameters, names_of_locals, IsSmall}
 use Rattle.stk_small.specs.SmallTexts.{operand_fits, term_fits, sum_fits, local_fits, test_fits, are_names, inner_names, parts_fit, outline_fits}
-use Rattle.stk_small.specs.SmallTree.{bare, base_tree, operand_tree, term_tree, result_tree, local_tree, condition_tree, test_tree, parameter_tree, part_trees, unit_tree}
+use Rattle.stk_small.specs.SmallTree.{base_tree, operand_tree, term_tree, result_tree, local_tree, test_tree, parameter_tree, part_trees, unit_tree}
 use Rattle.stk_small.proofs.SmallPrints.{is_well_term, is_well_local, is_well_test, IsWell}
 use Rattle.stk_small.proofs.SmallShapes.{among}
 

@@ -1,5 +1,5 @@
 -- What the reader of the small form answers, in terms of trees and their tokens.
-use Rattle.std.proofs.Common.{◌≡◌, ℕ, ◌<◌, ◌≤◌, Bool, true, false, cond, List, [], ◌∷◌, map, length, Option, Some, None, refl, sym, ap, ◌∙◌, arith}
+use Rattle.std.proofs.Common.{◌≡◌, ℕ, ◌≤◌, Bool, true, false, cond, List, [], ◌∷◌, map, length, Option, Some, None, refl, sym, ap, ◌∙◌, arith}
 use Rattle.std.specs.List.{list_all}
 use Rattle.stk_tree.specs.declared.fixed.Lexeme.{Lexeme}
 use Rattle.stk_tree.specs.Syntax.{UnitTree}
@@ -17,7 +17,7 @@ use Rattle.stk_small.specs.SmallForm.{IsSmall}
 use Rattle.stk_small.specs.SmallTexts.{outline_fits, fitting_outline}
 use Rattle.stk_small.specs.SmallTree.{unit_tree}
 use Rattle.stk_small.proofs.Rows.{some_is, bind_some}
-use Rattle.stk_small.proofs.SmallPrints.{print_outline, IsWell}
+use Rattle.stk_small.proofs.SmallPrints.{print_outline}
 use Rattle.stk_small.proofs.SmallSound.{outline_is}
 use Rattle.stk_small.proofs.SmallComplete.{outline_reads}
 use Rattle.stk_small.proofs.SmallTokens.{shown, is_known, all_shown, all_terminals, known_outline, shown_outline}

@@ -1,5 +1,5 @@
 -- The tree of an outline whose texts fit is of the small form.
-use Rattle.std.proofs.Common.{◌≡◌, ℕ, ◌<◌, Bool, true, false, List, [], ◌∷◌, ◌++◌, map, length, Some, None, refl, sym, ap, subst, ◌∙◌, arith}
+use Rattle.std.proofs.Common.{◌≡◌, ℕ, ◌<◌, Bool, true, false, List, [], ◌∷◌, ◌++◌, map, length, Some, None, refl, ap, subst, arith}
 use Rattle.std.specs.Prelude.{◌&&◌, not}
 use Rattle.std.specs.List.{list_all}
 use Rattle.std.proofs.lemmas.List.{map-append}
@@ -18,7 +18,7 @@ use Rattle.stk_small.specs.declared.small.Test.{Test}
 use Rattle.stk_small.specs.declared.small.Outline.{Outline}
 use Rattle.stk_small.specs.Texts.{text_of, is_reserved}
 use Rattle.stk_small.specs.SmallReading.{is_term_operator, is_comparison}
-use Rattle.stk_small.specs.SmallForm.{is_among, IsOperand, IsTermOperator, IsComparison, IsTerm, IsSum, IsCondition, IsReturn, IsTest, IsLocal, AreTests, AreParts, AreParameters, AreNames, names_of_parameters, names_of_locals, IsSmall}
+use Rattle.stk_small.specs.SmallForm.{is_among, IsOperand, IsTermOperator, IsComparison, IsTerm, IsSum, IsCondition, IsReturn, AreTests, AreParts, AreParameters, AreNames, names_of_parameters, names_of_locals, IsSmall}
 use Rattle.stk_small.specs.SmallTexts.{operand_fits, term_fits, sum_fits, local_fits, test_fits, are_names, inner_names, parts_fit, outline_fits}
 use Rattle.stk_small.specs.SmallTree.{bare, base_tree, operand_tree, term_tree, result_tree, local_tree, condition_tree, test_tree, parameter_tree, part_trees, unit_tree}
 use Rattle.stk_small.proofs.Rows.{both_true}

@@ -1,5 +1,5 @@
 -- What the readers of the small form find prints what stood there.
-use Rattle.std.proofs.Common.{◌≡◌, ℕ, zero, suc, ◌<◌, ◌≤◌, Bool, true, false, cond, List, [], ◌∷◌, ◌++◌, length, Option, Some, None, refl, sym, ap, subst, ◌∙◌, arith}
+use Rattle.std.proofs.Common.{◌≡◌, suc, ◌<◌, Bool, true, false, cond, List, [], ◌∷◌, ◌++◌, length, Some, None, refl, sym, ap, subst, ◌∙◌, arith}
 use Rattle.std.specs.Prelude.{◌&&◌}
 use Rattle.std.specs.List.{list_all}
 use Rattle.stk_base.specs.declared.span.Span.{Span}
@@ -14,8 +14,8 @@ use Rattle.stk_small.specs.declared.small.Outline.{Outline}
 use Rattle.stk_small.specs.declared.small.Terminal.{Terminal}
 use Rattle.stk_small.specs.declared.small.Terminal.TheVariants as terminals
 use Rattle.stk_small.specs.SmallReading.{◌>>=◌, Found, is_term_operator, is_comparison, second_operand, term_behind, term_at, behind_semicolon, behind_right_paren, behind_return, comparison_at, head_at, parameter_at, behind_comma, behind_opening, local_head_at, behind_if, is_closing, result_at, local_at, test_at, next_parameter_at, begins_comma, begins_int, begins_if, row, parameters_at, locals_at, tests_at, outline_of}
-use Rattle.stk_small.proofs.SmallPrints.{print_term, print_result, print_local, print_test, print_parameter, print_next_parameter, print_row, print_parameters, print_parts, print_outline, is_well_term, is_well_local, is_well_test, is_well_name, IsWell, term_longer, local_longer, test_longer, next_parameter_longer}
-use Rattle.stk_small.proofs.Rows.{some_is, bind_some, both_true, IsRow, row_is}
+use Rattle.stk_small.proofs.SmallPrints.{print_term, print_result, print_local, print_test, print_parameter, print_next_parameter, print_row, print_parameters, print_parts, print_outline, is_well_term, is_well_local, is_well_test, is_well_name, IsWell, local_longer, test_longer, next_parameter_longer}
+use Rattle.stk_small.proofs.Rows.{some_is, bind_some, row_is}
 
 -- ---- single terminals
 

@@ -1,20 +1,18 @@
 -- The terminals that an outline prints are those of its tree's tokens.
-use Rattle.std.proofs.Common.{◌≡◌, ℕ, Bool, true, false, List, [], ◌∷◌, ◌++◌, map, refl, sym, ap, ◌∙◌, append_assoc}
+use Rattle.std.proofs.Common.{◌≡◌, Bool, true, false, List, [], ◌∷◌, ◌++◌, map, refl, ap, ◌∙◌, append_assoc}
 use Rattle.std.specs.Prelude.{◌&&◌, ◌||◌}
 use Rattle.std.specs.List.{list_all}
 use Rattle.std.proofs.lemmas.List.{append-nil}
 use Rattle.stk_base.specs.declared.span.Span.{Span}
 use Rattle.stk_base.specs.declared.token.Class.TheVariants as classes
-use Rattle.stk_tree.specs.declared.fixed.Fixed.{Fixed}
 use Rattle.stk_tree.specs.declared.fixed.Fixed.TheVariants as fixed
 use Rattle.stk_tree.specs.declared.fixed.Lexeme.{Lexeme}
 use Rattle.stk_tree.specs.declared.fixed.Lexeme.TheVariants as lexemes
 use Rattle.stk_tree.specs.declared.expression.BinaryOp.{BinaryOp}
 use Rattle.stk_tree.specs.declared.expression.BinaryOp.TheVariants as binary
 use Rattle.stk_tree.specs.Syntax as s
-use Rattle.stk_tree.specs.Tokens.{binary_mark, expression_tokens, statement_tokens, part_tokens, parts_tokens, parameter_tokens, parameters_tokens, more_parameters, unit_tokens}
+use Rattle.stk_tree.specs.Tokens.{binary_mark, expression_tokens, statement_tokens, part_tokens, parts_tokens, parameters_tokens, more_parameters, unit_tokens}
 use Rattle.stk_tree.specs.View.{parameters, parts}
-use Rattle.stk_small.specs.declared.small.Operand.{Operand}
 use Rattle.stk_small.specs.declared.small.Operand.TheVariants as operand
 use Rattle.stk_small.specs.declared.small.Term.{Term}
 use Rattle.stk_small.specs.declared.small.Term.TheVariants as term
@@ -24,9 +22,9 @@ use Rattle.stk_small.specs.declared.small.Outline.{Outline}
 use Rattle.stk_small.specs.declared.small.Terminal.{Terminal}
 use Rattle.stk_small.specs.declared.small.Terminal.TheVariants as terminals
 use Rattle.stk_small.specs.SmallReading.{terminal_of, is_term_operator, is_comparison}
-use Rattle.stk_small.specs.SmallTree.{operand_tree, term_tree, result_tree, local_tree, test_tree, parameter_tree, part_trees, unit_tree}
+use Rattle.stk_small.specs.SmallTree.{term_tree, result_tree, local_tree, test_tree, parameter_tree, part_trees, unit_tree}
 use Rattle.stk_small.proofs.Rows.{both_true}
-use Rattle.stk_small.proofs.SmallPrints.{print_term, print_result, print_local, print_test, print_parameter, print_next_parameter, print_row, print_parameters, print_parts, print_outline, is_well_term, is_well_local, is_well_test, IsWell}
+use Rattle.stk_small.proofs.SmallPrints.{print_term, print_result, print_local, print_test, print_next_parameter, print_row, print_parameters, print_parts, print_outline, is_well_term, is_well_local, is_well_test, IsWell}
 
 -- ---- terminals and lexemes
 

@@ -1,5 +1,5 @@
 -- Reading the small form from left to right: what stands at the front of its terminals, and what stands behind that.
-use Rattle.std.specs.Prelude.{◌≡◌, ℕ, zero, suc, Bool, true, false, cond, ◌||◌, List, [], ◌∷◌, ◌++◌, length, Option, Some, None}
+use Rattle.std.specs.Prelude.{ℕ, zero, suc, Bool, true, false, cond, List, [], ◌∷◌, ◌++◌, length, Option, Some, None}
 use Rattle.stk_base.specs.declared.span.Span.{Span}
 use Rattle.stk_base.specs.declared.token.Class.TheVariants as classes
 use Rattle.stk_tree.specs.declared.fixed.Fixed.TheVariants as fixed

@@ -1,4 +1,4 @@
-use Rattle.std.proofs.Common.{◌≡◌, ℕ, ◌-◌, ◌||◌, List, refl, ap, ◌∙◌, get_or, arith}
+use Rattle.std.proofs.Common.{ℕ, ◌-◌, ◌||◌, List, refl, ap, ◌∙◌, get_or, arith}
 use Rattle.std.proofs.Math.Seq.{drop-length}
 use Rattle.std.specs.Str.{bytes_eq}
 use Rattle.stk_base.specs.declared.span.Span.{Span}

@@ -1,4 +1,4 @@
-use Rattle.std.proofs.Common.{◌≡◌, ◌&&◌, Bool, sym, ap, ◌∙◌}
+use Rattle.std.proofs.Common.{◌&&◌, Bool, sym, ap, ◌∙◌}
 use Rattle.stk_small.specs.SmallTexts.{parts_fit}
 use Rattle.stk_small.specs.Names.{is_in}
 use Rattle.stk_small.proofs.NameSets.{checked}

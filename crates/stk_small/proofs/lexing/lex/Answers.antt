@@ -1,4 +1,4 @@
-use Rattle.std.proofs.Common.{◌≡◌, ◌++◌, [], length, subst, append_assoc, arith}
+use Rattle.std.proofs.Common.{◌≡◌, [], length, subst, append_assoc, arith}
 use Rattle.std.proofs.lemmas.List.{append-nil}
 use Rattle.stk_small.specs.Gaps.{AreGaps, no_gap}
 use Rattle.stk_small.specs.Cut.{IsCutFrom}

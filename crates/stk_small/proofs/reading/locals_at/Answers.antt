@@ -1,4 +1,4 @@
-use Rattle.std.proofs.Common.{◌≡◌, sym, ◌∙◌, arith}
+use Rattle.std.proofs.Common.{sym, ◌∙◌, arith}
 use Rattle.stk_small.specs.SmallReading.{begins_int, local_at, locals_at}
 use Rattle.stk_small.proofs.Rows.{row_turn, row_end, row_none}
 use Rattle.stk_small.proofs.SmallSound.{local_shorter}

@@ -1,4 +1,4 @@
-use Rattle.std.proofs.Common.{◌≡◌, ◌<◌, ℕ, suc, [], length}
+use Rattle.std.proofs.Common.{◌≡◌, ◌<◌, ℕ, suc, length}
 use Rattle.stk_small.specs.SmallReading.{row, begins_comma, next_parameter_at}
 use Rattle.stk_small.proofs.reading.more_parameters.Given as goal
 

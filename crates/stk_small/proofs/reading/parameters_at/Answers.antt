@@ -1,5 +1,4 @@
 use Rattle.std.proofs.Common.{sym}
-use Rattle.stk_small.specs.SmallReading.{parameters_at}
 use Rattle.stk_small.proofs.SmallSound.{no_parameters, parameters_step}
 use Rattle.stk_small.proofs.reading.parameters_at.Goals as goal
 

@@ -1,0 +1,7 @@
+use Rattle.std.proofs.Common.{length}
+use Rattle.stk_base.specs.Causes.{Rose}
+use Rattle.stk_lint.proofs.Complete.{complete}
+use Rattle.stk_lint.proofs.lint.lint_main.Goals as goal
+
+pub returns-clause-complete : goal.returns-clause-complete
+returns-clause-complete g c = complete _ _ _ _ _ _ c.run-status.ensures.only c.run-status.ensures.bad_words c.run-status.ensures.read_fault c.run-status.ensures.write_fault c.run-status.ensures.too_large
