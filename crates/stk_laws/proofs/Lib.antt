@@ -1,0 +1,4 @@
+pub mod Apart
+pub mod Once
+pub mod Ranges
+pub mod Exact
