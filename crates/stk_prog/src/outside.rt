@@ -76,3 +76,55 @@ impl<W: Write> Sink for RealSink<W> {
         }
     }
 }
+
+#[cfg(test)]
+mod tests {
+    use super::{RealSink, RealSource};
+    use std::io;
+    use std::io::{ErrorKind, Read, Write};
+    use std::test::Fail;
+    use stk_base::{Sink, Source};
+
+    // A reader that fails, and a writer that takes nothing.
+    #[derive(Drop)]
+    struct Stubborn;
+
+    impl Read for Stubborn {
+        fn read(&mut self, _buf: &mut [u8]) -> io::Result<usize> {
+            Err(io::Error::from(ErrorKind::Other))
+        }
+    }
+
+    impl Write for Stubborn {
+        fn write(&mut self, _buf: &[u8]) -> io::Result<usize> {
+            Ok(0)
+        }
+
+        fn flush(&mut self) -> io::Result<()> {
+            Err(io::Error::from(ErrorKind::Other))
+        }
+    }
+
+    #[test]
+    fn a_source_gives_what_its_reader_gives(rt: HostRuntime) -> Result<(), Fail> {
+        let mut piece = [0u8; 4];
+        let mut source = RealSource::new(b"ab".as_slice());
+        assert!(rt; source.read(&mut piece) == Ok(2) && source.faults == 0);
+        assert!(rt; piece == *b"ab\0\0");
+        assert!(rt; source.read(&mut piece) == Ok(0));
+        let mut broken = RealSource::new(Stubborn);
+        assert!(rt; broken.read(&mut piece).is_err() && broken.faults == 1);
+        Ok(())
+    }
+
+    #[test]
+    fn a_sink_takes_what_its_writer_takes(rt: HostRuntime) -> Result<(), Fail> {
+        let mut sink = RealSink::new(Vec::new(rt.alloc()));
+        assert!(rt; sink.write(b"ab").is_ok() && sink.flush().is_ok() && sink.faults == 0);
+        assert!(rt; sink.writer.as_slice() == b"ab".as_slice());
+        let mut broken = RealSink::new(Stubborn);
+        assert!(rt; broken.write(b"").is_ok() && broken.write(b"a").is_err() && broken.faults == 1);
+        assert!(rt; broken.flush().is_err() && broken.faults == 2);
+        Ok(())
+    }
+}
