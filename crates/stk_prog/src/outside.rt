@@ -1,6 +1,6 @@
 //! The real source and sinks: adapters over std's reader and writer. They tell no bytes and count their errors.
 
-ghost use Rattle.std.specs.Prelude.{ℕ, None};
+ghost use Rattle.std.specs.Prelude.{◌≡◌, ℕ, None};
 
 use std::io::{Read, Write};
 use stk_base::{Failed, Sink, Source};
@@ -9,12 +9,15 @@ use stk_base::{Failed, Sink, Source};
 #[derive(Drop)]
 pub struct RealSource<R> {
     reader: R,
-    faults: u64,
+    /// How many calls of the reader failed.
+    pub faults: u64,
 }
 
 impl<R: Read> RealSource<R> {
     /// A source of what the reader gives, without a fault so far.
-    pub fn new(reader: R) -> RealSource<R> {
+    pub fn new(reader: R) -> RealSource<R>
+        ensures { result.faults ≡ 0 }
+    {
         RealSource { reader, faults: 0 }
     }
 }
@@ -39,12 +42,15 @@ impl<R: Read> Source for RealSource<R> {
 #[derive(Drop)]
 pub struct RealSink<W> {
     writer: W,
-    faults: u64,
+    /// How many calls of the writer failed.
+    pub faults: u64,
 }
 
 impl<W: Write> RealSink<W> {
     /// A sink that the writer takes from, without a fault so far.
-    pub fn new(writer: W) -> RealSink<W> {
+    pub fn new(writer: W) -> RealSink<W>
+        ensures { result.faults ≡ 0 }
+    {
         RealSink { writer, faults: 0 }
     }
 }
