@@ -1,14 +1,15 @@
 -- What few digits make.
-use Rattle.std.proofs.Common.{◌≡◌, ℕ, zero, suc, ◌+◌, ◌*◌, ◌≤◌, ◌<◌, ◌^◌, Bool, true, false, List, [], ◌∷◌, take, refl, sym, ap, ◌∙◌, arith}
+use Rattle.std.proofs.Common.{◌≡◌, ℕ, zero, suc, ◌+◌, ◌-◌, ◌*◌, ◌≤◌, ◌<◌, ◌^◌, Bool, true, false, List, [], ◌∷◌, length, take, refl, sym, ap, subst, ◌∙◌, arith}
 use Rattle.std.proofs.Math.Nat.{pow-succ', le-mul_of_pos_right, pow-le-pow_right}
 use Rattle.std.proofs.lemmas.Bool.{false≢true}
 use Rattle.std.proofs.lemmas.Bool.Decides.{nat_tests}
 use Rattle.std.specs.Prelude.{◌&&◌}
 use Rattle.std.specs.List.{list_all}
 use Rattle.std.specs.Char.{is_ascii_digit}
+use Rattle.stk_base.specs.Text.{decimal, decimal_behind}
 use Rattle.stk_lex.specs.MarkerReading.{run}
 
-ten_positive : (n : ℕ) → 0 < 10 ^ n
+pub ten_positive : (n : ℕ) → 0 < 10 ^ n
 ten_positive zero = omega arith
 ten_positive (suc n) = let e = pow-succ' 10 n in let k = ten_positive n in omega (arith, e)
 
@@ -46,3 +47,16 @@ pub run_passes : (p : ℕ → Bool) (bs : List ℕ) → list_all p (take (run p 
 unfolding run
 run_passes p [] = refl
 run_passes p (b ∷ bs) = run_on p b bs (p b) refl (run_passes p bs)
+
+-- behind a number below a bound, digits make one below the bound followed by so many zeros
+decimal_below : (v bound : ℕ) (bs : List ℕ) → v < bound → list_all is_ascii_digit bs ≡ true → decimal_behind v bs < bound * 10 ^ length bs
+decimal_below v bound [] h all = omega (arith, h)
+decimal_below v bound (b ∷ bs) h all =
+    let d = first_digit b bs all in
+    let k : decimal_behind (v * 10 + (b - 48)) bs < bound * 10 * 10 ^ length bs = decimal_below (v * 10 + (b - 48)) (bound * 10) bs (omega (arith, h, d.1)) d.2 in
+    let less : decimal_behind (v * 10 + (b - 48)) bs < bound * (10 * 10 ^ length bs) = omega (arith, k) in
+    subst (λ x. decimal_behind (v * 10 + (b - 48)) bs < bound * x) (sym (pow-succ' 10 (length bs))) less
+
+-- at most nine digits make a number below 1,000,000,000
+pub few_decimal : (bs : List ℕ) → length bs ≤ 9 → list_all is_ascii_digit bs ≡ true → decimal bs < 1000000000
+few_decimal bs few all = omega (arith, decimal_below 0 1 bs (omega arith) all, few_digits (length bs) few)

@@ -11,3 +11,4 @@ pub mod Stands
 pub mod Marks
 pub mod GapsLongest
 pub mod OnePlace
+pub mod PlaceOf

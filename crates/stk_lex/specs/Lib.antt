@@ -7,3 +7,4 @@ pub mod Marker
 pub mod MarkerReading
 pub mod Place
 pub mod Stands
+pub mod Placing

@@ -2,6 +2,7 @@
 
 ghost use Rattle.std.specs.Prelude.{◌≡◌, ◌≤◌, length, IfOk};
 ghost use Rattle.stk_lex.specs.Place.{IsPlace};
+ghost use Rattle.stk_lex.specs.Placing.{place_of};
 
 use crate::gaps::is_blank;
 use crate::placing::{Stand, first_stand, place_from, step};
@@ -81,7 +82,8 @@ impl<'a> Places<'a> {
     /// memory.
     pub fn place(&self, at: usize) -> Place
         requires { at ≤ length self.now }
-        ensures { IsPlace self.now at result }
+        ensures is { IsPlace self.now at result }
+        ensures value { result ≡ place_of self.now at }
     {
         let before = self.stands.partition_point(|stand| stand.at <= at);
         let last = match self.stands.get(before.saturating_sub(1)) {

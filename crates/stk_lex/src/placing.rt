@@ -4,6 +4,7 @@ ghost use Rattle.std.specs.Prelude.{◌≡◌, ℕ, ◌+◌, ◌-◌, ◌≤◌,
 ghost use Rattle.stk_base.specs.declared.token.Place.{Place};
 ghost use Rattle.stk_lex.specs.Gaps.{gap};
 ghost use Rattle.stk_lex.specs.Place.{IsPart, MarkerStands, NoMarker, IsPlace, name_of};
+ghost use Rattle.stk_lex.specs.Placing.{place_of};
 ghost use Rattle.stk_lex.specs.Stands.{IsLine, IsStand};
 
 use crate::gaps::gap;
@@ -146,8 +147,8 @@ pub fn first_stand(bytes: &[u8]) -> Stand
     Stand { at: 0, line }
 }
 
-/// The place of a byte, from an earlier stand.
-pub fn place_from(bytes: &[u8], from: Stand, at: usize) -> Place
+/// The place of a byte, behind an earlier stand.
+fn place_behind(bytes: &[u8], from: Stand, at: usize) -> Place
     requires short { length bytes.now ≤ 16777216 }
     requires stand { IsStand bytes.now from }
     requires within { (from.at ≤ at) × (at ≤ length bytes.now) }
@@ -162,6 +163,17 @@ pub fn place_from(bytes: &[u8], from: Stand, at: usize) -> Place
     }
 }
 
+/// The place of a byte, from an earlier stand.
+pub fn place_from(bytes: &[u8], from: Stand, at: usize) -> Place
+    requires short { length bytes.now ≤ 16777216 }
+    requires stand { IsStand bytes.now from }
+    requires within { (from.at ≤ at) × (at ≤ length bytes.now) }
+    ensures is { IsPlace bytes.now at result }
+    ensures value { result ≡ place_of bytes.now at }
+{
+    place_behind(bytes, from, at)
+}
+
 /// Where a byte of a text of at most 16,777,216 bytes stands in its source file, or where the text ends.
 ///
 /// A line marker is a directive line (C11 6.10) of spaces or tabs, one to nine digits, spaces or tabs, a name in double
@@ -173,7 +185,8 @@ pub fn place_from(bytes: &[u8], from: Stand, at: usize) -> Place
 pub fn place(bytes: &[u8], at: usize) -> Place
     requires short { length bytes.now ≤ 16777216 }
     requires within { at ≤ length bytes.now }
-    ensures { IsPlace bytes.now at result }
+    ensures is { IsPlace bytes.now at result }
+    ensures value { result ≡ place_of bytes.now at }
 {
     place_from(bytes, first_stand(bytes), at)
 }
@@ -181,4 +194,9 @@ pub fn place(bytes: &[u8], at: usize) -> Place
 /// A byte of a text has one place: with the clause of `place`, its answer is the definition.
 pub fn one_place()
     ensures { (text : List ℕ) (at : ℕ) (p q : Place) → IsPlace text at p → IsPlace text at q → p ≡ q }
+{}
+
+/// Each byte of a text has a place, and so has the text's end. It is the one that is read from left to right.
+pub fn place_of_each_byte()
+    ensures { (text : List ℕ) (at : ℕ) → at ≤ length text → IsPlace text at (place_of text at) }
 {}
