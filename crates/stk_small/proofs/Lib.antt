@@ -1,8 +1,3 @@
-pub mod Longest
-pub mod First
-pub mod Cuts
-pub mod Apart
-pub mod OneCut
 pub mod SmallPrints
 pub mod Rows
 pub mod SmallSound
@@ -14,4 +9,3 @@ pub mod SmallShapes
 pub mod SmallOutlines
 pub mod SmallNodes
 pub mod SmallReads
-pub mod Spellings

@@ -12,7 +12,8 @@ use Rattle.std.proofs.lemmas.Slice.Eq.{bytes_eq-Decides}
 use Rattle.std.proofs.Math.Path.{fun_ext}
 use Rattle.stk_base.specs.declared.span.Span.{Span}
 use Rattle.stk_small.specs.declared.small.Outline.{Outline}
-use Rattle.stk_small.specs.Texts.{text_of, is_reserved}
+use Rattle.stk_base.specs.Text.{text_of}
+use Rattle.stk_small.specs.ReservedWords.{is_reserved}
 use Rattle.stk_small.specs.SmallForm.{is_among}
 use Rattle.stk_small.specs.SmallTexts.{are_names, inner_names, parts_fit, outline_fits}
 use Rattle.stk_small.specs.Names.{is_in}

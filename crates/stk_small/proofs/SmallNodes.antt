@@ -4,7 +4,6 @@ use Rattle.stk_base.specs.declared.span.Span.{Span}
 use Rattle.stk_tree.specs.Syntax as s
 use Rattle.stk_tree.specs.Nodes.{expression_nodes, statement_nodes, part_nodes, parts_nodes, parameters_nodes, unit_nodes}
 use Rattle.stk_tree.specs.View.{parameters, parts}
-use Rattle.stk_small.specs.declared.lexing.Token.{Token}
 use Rattle.stk_small.specs.declared.small.Operand.{Operand}
 use Rattle.stk_small.specs.declared.small.Operand.TheVariants as operand
 use Rattle.stk_small.specs.declared.small.Term.{Term}
@@ -14,7 +13,6 @@ use Rattle.stk_small.specs.declared.small.Test.{Test}
 use Rattle.stk_small.specs.declared.small.Outline.{Outline}
 use Rattle.stk_small.specs.declared.small.Terminal.{Terminal}
 use Rattle.stk_small.specs.declared.small.Terminal.TheVariants as terminals
-use Rattle.stk_small.specs.Cut.{AreSpans}
 use Rattle.stk_small.specs.SmallTree.{operand_tree, term_tree, result_tree, local_tree, test_tree, parameter_tree, unit_tree}
 use Rattle.stk_small.proofs.SmallPrints.{print_term, print_result, print_local, print_test, print_next_parameter, print_row, print_parameters, print_parts, print_outline}
 
@@ -59,8 +57,3 @@ all_nodes (p ∷ ps) r = omega (arith, next_nodes ps r)
 
 pub outline_nodes : (o : Outline) → unit_nodes (unit_tree o) ≤ length (print_outline o)
 outline_nodes o = omega (arith, all_nodes o.parameters (terminals.RightParen ∷ terminals.LeftBrace ∷ print_parts o), body_nodes o.locals o.tests o.result (terminals.RightBrace ∷ []))
-
--- a text has no more tokens than bytes
-pub few_tokens : (size at : ℕ) (ts : List Token) → AreSpans size at ts → at + length ts ≤ size
-few_tokens size at [] h = omega arith
-few_tokens size at (t ∷ ts) h = omega (arith, h.0, h.1, few_tokens size t.span.to ts h.2)

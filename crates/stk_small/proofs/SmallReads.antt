@@ -5,11 +5,9 @@ use Rattle.stk_tree.specs.declared.fixed.Lexeme.{Lexeme}
 use Rattle.stk_tree.specs.Syntax.{UnitTree}
 use Rattle.stk_tree.specs.Tokens.{unit_tokens}
 use Rattle.stk_tree.specs.Nodes.{unit_nodes}
-use Rattle.stk_small.specs.declared.lexing.Token.{Token}
-use Rattle.stk_small.specs.Cut.{IsCut}
-use Rattle.stk_small.specs.Texts.{lexeme_of}
-use Rattle.stk_small.proofs.Cuts.{spans_of}
-use Rattle.stk_small.proofs.SmallNodes.{outline_nodes, few_tokens}
+use Rattle.stk_lex.specs.declared.token.Token.{Token}
+use Rattle.stk_lexeme.specs.Lexemes.{lexeme_of}
+use Rattle.stk_small.proofs.SmallNodes.{outline_nodes}
 use Rattle.stk_small.specs.declared.small.Outline.{Outline}
 use Rattle.stk_small.specs.declared.small.Terminal.{Terminal}
 use Rattle.stk_small.specs.SmallReading.{◌>>=◌, terminal_of, outline_of}
@@ -74,9 +72,6 @@ same_count bytes (t ∷ tokens) = omega (arith, same_count bytes tokens)
 pub one_span_each : (tokens : List Token) → length (map (λ (t : Token). t.span) tokens) ≡ length tokens
 one_span_each [] = refl
 one_span_each (t ∷ tokens) = omega (arith, one_span_each tokens)
-
-pub few : (bytes : List ℕ) (tokens : List Token) → IsCut bytes tokens → length tokens ≤ length bytes
-few bytes tokens cut = omega (arith, few_tokens (length bytes) 0 tokens (spans_of bytes 0 tokens cut))
 
 pub small_nodes : (ls : List Lexeme) (o : Outline) (size : ℕ) → length (print_outline o) ≡ length ls → length ls ≤ size → unit_nodes (unit_tree o) ≤ size
 small_nodes ls o size e h = omega (arith, outline_nodes o)

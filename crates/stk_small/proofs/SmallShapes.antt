@@ -16,7 +16,8 @@ use Rattle.stk_small.specs.declared.small.Term.TheVariants as term
 use Rattle.stk_small.specs.declared.small.Local.{Local}
 use Rattle.stk_small.specs.declared.small.Test.{Test}
 use Rattle.stk_small.specs.declared.small.Outline.{Outline}
-use Rattle.stk_small.specs.Texts.{text_of, is_reserved}
+use Rattle.stk_base.specs.Text.{text_of}
+use Rattle.stk_small.specs.ReservedWords.{is_reserved}
 use Rattle.stk_small.specs.SmallReading.{is_term_operator, is_comparison}
 use Rattle.stk_small.specs.SmallForm.{is_among, IsOperand, IsTermOperator, IsComparison, IsTerm, IsSum, IsCondition, IsReturn, AreTests, AreParts, AreParameters, AreNames, names_of_parameters, names_of_locals, IsSmall}
 use Rattle.stk_small.specs.SmallTexts.{operand_fits, term_fits, sum_fits, local_fits, test_fits, are_names, inner_names, parts_fit, outline_fits}

@@ -1,8 +1,4 @@
-pub mod Classes
-pub mod Gaps
-pub mod Cut
-pub mod Lengths
-pub mod Texts
+pub mod ReservedWords
 pub mod SmallForm
 pub mod SmallReading
 pub mod Gives

@@ -1,5 +1,5 @@
 -- The small form: a function of unsigned characters, whose locals, tests and results are made of small numbers, `+`, `*` and `/`.
-use Rattle.std.specs.Prelude.{◌≡◌, ℕ, zero, ◌+◌, ◌-◌, ◌*◌, Bool, true, false, ◌&&◌, ◌||◌, ◌==◌, not, nat_le, List, [], ◌∷◌, ◌++◌, Some, None}
+use Rattle.std.specs.Prelude.{◌≡◌, ℕ, zero, Bool, true, false, ◌&&◌, ◌||◌, ◌==◌, not, nat_le, List, [], ◌∷◌, ◌++◌, Some, None}
 use Rattle.std.specs.List.{list_any, list_all}
 use Rattle.std.specs.Char.{is_ascii_digit}
 use Rattle.std.specs.Str.{bytes_eq}
@@ -9,16 +9,12 @@ use Rattle.stk_tree.specs.declared.expression.BinaryOp.{BinaryOp}
 use Rattle.stk_tree.specs.declared.expression.BinaryOp.TheVariants.{Add, Mul, Div, Lt, Gt, Le, Ge, Eq, Ne}
 use Rattle.stk_tree.specs.Syntax.{BaseTree, DeclrTree, DeclrTrees, ParamTree, ParamTrees, ExprTree, DeclarationTree, StmtTree, PartTrees, FunctionTree, UnitTree}
 use Rattle.stk_tree.specs.Syntax as s
-use Rattle.stk_small.specs.Texts.{text_of, is_reserved}
+use Rattle.stk_base.specs.Text.{text_of, decimal}
+use Rattle.stk_small.specs.ReservedWords.{is_reserved}
 
 -- whether a text is one of these names
 abbrev pub is_among : List ℕ → List (List ℕ) → Bool
 is_among text names = list_any (bytes_eq text) names
-
--- the value of a decimal text, behind the value of what stands before it (C11 6.4.4.1)
-abbrev pub decimal : ℕ → List ℕ → ℕ
-decimal before [] = before
-decimal before (b ∷ bs) = decimal (before * 10 + (b - 48)) bs
 
 abbrev pub is_empty : List ℕ → Bool
 is_empty [] = true
@@ -31,7 +27,7 @@ is_decimal (a ∷ bs) = list_all is_ascii_digit (a ∷ bs) && (not (a == 48) || 
 
 -- a decimal number from 0 to 255
 unfoldable pub is_small_number : List ℕ → Bool
-is_small_number text = is_decimal text && nat_le (decimal 0 text) 255
+is_small_number text = is_decimal text && nat_le (decimal text) 255
 
 -- ---- expressions; `names` are the names that may stand in them
 

@@ -12,7 +12,8 @@ use Rattle.stk_small.specs.declared.small.Test.{Test}
 use Rattle.stk_small.specs.declared.small.Outline.{Outline}
 use Rattle.stk_small.specs.declared.small.Terminal.{Terminal}
 use Rattle.stk_small.specs.SmallReading.{◌>>=◌, outline_of}
-use Rattle.stk_small.specs.Texts.{text_of, is_reserved}
+use Rattle.stk_base.specs.Text.{text_of}
+use Rattle.stk_small.specs.ReservedWords.{is_reserved}
 use Rattle.stk_small.specs.SmallForm.{is_among, is_small_number}
 
 -- a known name, or a small number

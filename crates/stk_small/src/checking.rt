@@ -3,13 +3,14 @@
 ghost use Rattle.std.specs.Prelude.{◌≡◌, ℕ, List, map, IfOk, nat_le, true, not, ◌&&◌};
 ghost use Rattle.std.specs.List.{list_all};
 ghost use Rattle.std.specs.Char.{is_ascii_digit};
-ghost use Rattle.stk_small.specs.Texts.{text_of, is_reserved};
-ghost use Rattle.stk_small.specs.SmallForm.{is_among, is_small_number, is_decimal, decimal};
+ghost use Rattle.stk_base.specs.Text.{text_of, decimal};
+ghost use Rattle.stk_small.specs.ReservedWords.{is_reserved};
+ghost use Rattle.stk_small.specs.SmallForm.{is_among, is_small_number, is_decimal};
 ghost use Rattle.stk_small.specs.SmallTexts.{operand_fits, term_fits, sum_fits, local_fits, test_fits, are_names, inner_names, parts_fit, outline_fits};
 ghost use Rattle.stk_small.specs.Names.{is_in};
 
 use crate::small::{Local, Operand, Outline, Term, Test};
-use crate::texts::{is_reserved, text_of};
+use crate::reserved::is_reserved;
 use std::alloc::Global;
 use std::collections::BTreeSet;
 use stk_base::{NoMemory, Span};
@@ -49,7 +50,7 @@ fn are_digits(text: &[u8]) -> bool
 /// Whether the value of digits is at most 255.
 fn is_at_most_255(text: &[u8]) -> bool
     requires { list_all is_ascii_digit text.now ≡ true }
-    ensures { result ≡ nat_le (decimal 0 text.now) 255 }
+    ensures { result ≡ nat_le (decimal text.now) 255 }
 {
     let mut value: u32 = 0;
     let mut rest = text;
@@ -77,7 +78,7 @@ fn name_set<'a>(
     let mut place = spans.len();
     while place > 0 {
         place -= 1;
-        let text = text_of(bytes, spans[place]);
+        let text = spans[place].text(bytes);
         let is_new = names.insert(text)?;
         are_apart = stays_apart(text, is_new, are_apart);
     }
@@ -95,8 +96,8 @@ fn operand_fits<'a>(bytes: &'a [u8], names: &BTreeSet<&'a [u8], Global>, operand
     ensures { result ≡ operand_fits bytes.now (is_in names.now) operand }
 {
     match operand {
-        Operand::Name(at) => is_in(names, text_of(bytes, at)),
-        Operand::Number(at) => is_small_number(text_of(bytes, at)),
+        Operand::Name(at) => is_in(names, at.text(bytes)),
+        Operand::Number(at) => is_small_number(at.text(bytes)),
     }
 }
 
@@ -195,7 +196,7 @@ pub fn outline_fits(alloc: Global, bytes: &[u8], outline: &Outline) -> Result<bo
     let inner = inner_names(alloc, outline)?;
     let (names, are_apart) = name_set(alloc, bytes, inner.as_slice())?;
     let (parameters, _) = name_set(alloc, bytes, outline.parameters.as_slice())?;
-    let name = text_of(bytes, outline.name);
+    let name = outline.name.text(bytes);
     let is_new = !is_in(&names, name);
     if !stays_apart(name, is_new, are_apart) {
         return Ok(false);

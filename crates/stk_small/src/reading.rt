@@ -1,16 +1,15 @@
 //! Reading the small form from left to right.
 
 ghost use Rattle.std.specs.Prelude.{◌≡◌, ◌∷◌, [], map, option_map, suc, length, IfOk};
-ghost use Rattle.stk_small.specs.Texts.{lexeme_of};
-ghost use Rattle.stk_small.specs.Cut.{AreSpans};
+ghost use Rattle.stk_lexeme.specs.Lexemes.{lexeme_of};
 ghost use Rattle.stk_small.specs.Gives.{Gives};
 ghost use Rattle.stk_small.specs.SmallReading.{terminal_of, is_term_operator, is_comparison, second_operand, term_behind, term_at, behind_semicolon, behind_right_paren, behind_return, comparison_at, head_at, parameter_at, behind_comma, behind_opening, local_head_at, behind_if, is_closing, result_at, local_at, test_at, next_parameter_at, begins_comma, begins_int, begins_if, row, parameters_at, locals_at, tests_at, outline_of};
 
-use crate::lexing::Token;
 use crate::small::{Local, Operand, Outline, Term, Terminal, Test};
-use crate::texts::lexeme_of;
 use std::alloc::{AllocFailed, Global};
 use stk_base::{Class, List, NoMemory, Span};
+use stk_lex::Token;
+use stk_lexeme::lexeme_of;
 use stk_tree::{BinaryOp, Fixed, Lexeme};
 
 /// Why there is no outline: the terminals have none, or memory ran out.

@@ -5,20 +5,19 @@ ghost use Rattle.stk_tree.specs.Syntax.{UnitTree};
 ghost use Rattle.stk_tree.specs.Tokens.{unit_tokens};
 ghost use Rattle.stk_tree.specs.View.{view_unit};
 ghost use Rattle.stk_tree.specs.Layout.{unit_laid_out};
-ghost use Rattle.stk_small.specs.Cut.{IsCut};
-ghost use Rattle.stk_small.specs.Texts.{lexeme_of};
+ghost use Rattle.stk_lexeme.specs.Lexemes.{lexeme_of, lexemes_of};
 ghost use Rattle.stk_small.specs.SmallForm.{IsSmall};
 ghost use Rattle.stk_small.specs.SmallReading.{terminal_of};
 ghost use Rattle.stk_small.specs.SmallTexts.{fitting_outline};
 
 use crate::building::unit_tree;
 use crate::checking::outline_fits;
-use crate::lexing::Token;
 use crate::reading::{Refusal, outline_of, terminals_of};
 use crate::small::Outline;
 use std::alloc::Global;
 use stk_base::{NoMemory, Span};
 use stk_layout::lay_out;
+use stk_lex::Token;
 use stk_tree::Unit;
 
 /// Where tokens stand.
@@ -39,7 +38,7 @@ fn fitting_outline(
     bytes: &[u8],
     tokens: &[Token],
 ) -> Result<Option<Outline>, NoMemory>
-    ensures { IfOk result (λ r. r ≡ fitting_outline bytes.now (map terminal_of (map (lexeme_of bytes.now) tokens.now))) }
+    ensures { IfOk result (λ r. r ≡ fitting_outline bytes.now (map terminal_of (lexemes_of bytes.now tokens.now))) }
 {
     let terminals = terminals_of(alloc, bytes, tokens)?;
     let outline = match outline_of(alloc, terminals.as_slice()) {
@@ -54,7 +53,7 @@ fn fitting_outline(
     }
 }
 
-/// The tree of a text of at most 16,777,216 bytes that is one function of the small form, from the tokens of its cut;
+/// The tree of a unit that is one function of the small form, from its tokens, of which there are at most 16,777,216;
 /// `None` where it is none.
 ///
 /// The small form is `int NAME(unsigned char NAME, ..) { .. }`, with one parameter or more. In its braces stand locals
@@ -66,11 +65,10 @@ fn fitting_outline(
 /// The nodes are numbered from 0, children from left to right, then their parent, and each has the span of its tokens. It
 /// answers `NoMemory` where an allocation is refused, and for no other cause.
 pub fn read_small(alloc: Global, bytes: &[u8], tokens: &[Token]) -> Result<Option<Unit>, NoMemory>
-    requires short { length bytes.now ≤ 16777216 }
-    requires cut { IsCut bytes.now tokens.now }
-    ensures found { IfOk result (λ r. IfSome r (λ unit. (u : UnitTree) × IsSmall bytes.now u × (unit_tokens u ≡ map (lexeme_of bytes.now) tokens.now)
+    requires { length tokens.now ≤ 16777216 }
+    ensures found { IfOk result (λ r. IfSome r (λ unit. (u : UnitTree) × IsSmall bytes.now u × (unit_tokens u ≡ lexemes_of bytes.now tokens.now)
         × (view_unit unit ≡ unit_laid_out (map (λ t. t.span) tokens.now) u))) }
-    ensures other { IfOk result (λ r. r ≡ None → (u : UnitTree) → IsSmall bytes.now u → unit_tokens u ≡ map (lexeme_of bytes.now) tokens.now → ⊥) }
+    ensures other { IfOk result (λ r. r ≡ None → (u : UnitTree) → IsSmall bytes.now u → unit_tokens u ≡ lexemes_of bytes.now tokens.now → ⊥) }
 {
     let Some(outline) = fitting_outline(alloc, bytes, tokens)? else {
         return Ok(None);
@@ -79,90 +77,4 @@ pub fn read_small(alloc: Global, bytes: &[u8], tokens: &[Token]) -> Result<Optio
     let mut unit = unit_tree(alloc, &outline)?;
     lay_out(&mut unit, spans.as_slice());
     Ok(Some(unit))
-}
-
-#[cfg(test)]
-mod tests {
-    use super::read_small;
-    use crate::lexing::{Token, lex};
-    use std::alloc::Global;
-
-    /// Whether tokens were read; `None` where memory ran out.
-    fn are_read(alloc: Global, text: &[u8], tokens: &[Token]) -> Option<bool>
-        requires short { length text.now ≤ 16777216 }
-        requires cut { IsCut text.now tokens.now }
-    {
-        match read_small(alloc, text, tokens) {
-            Ok(Some(unit)) => {
-                // The drop of a unit is too large to be proved here.
-                std::mem::forget(unit);
-                Some(true)
-            }
-            Ok(None) => Some(false),
-            Err(_) => None,
-        }
-    }
-
-    fn is_read(alloc: Global, text: &[u8]) -> Option<bool>
-        requires { length text.now ≤ 16777216 }
-    {
-        match lex(alloc, text) {
-            Ok(tokens) => are_read(alloc, text, tokens.as_slice()),
-            Err(_) => None,
-        }
-    }
-
-    #[test]
-    fn reads_small_texts(rt: HostRuntime) {
-        let cases = [
-            (
-                "int f(unsigned char x){int y=10/x;if(x==0)return 1;return y;}",
-                true,
-            ),
-            (
-                "int f(unsigned char a, unsigned char b) { return a + b; }",
-                true,
-            ),
-            (
-                "int f(unsigned char a) { int b = a * 255; int c = 7; if (a + 1 <= a * 2) return b + c; return 0; }",
-                true,
-            ),
-            ("", false),
-            ("int f() { return 0; }", false),
-            ("int f(unsigned char a) { return 0; } ;", false),
-            ("int f(unsigned char a) { return a * 2; }", false),
-            ("int f(unsigned char a) { return 256; }", false),
-            ("int f(unsigned char a) { return 01; }", false),
-            ("int f(unsigned char a) { return 0x1; }", false),
-            ("int f(unsigned char a) { return b; }", false),
-            ("int f(unsigned char a) { return f; }", false),
-            ("int f(unsigned char f) { return 0; }", false),
-            (
-                "int f(unsigned char a, unsigned char a) { return 0; }",
-                false,
-            ),
-            ("int f(unsigned char a) { int a = 1; return a; }", false),
-            (
-                "int f(unsigned char a) { int b = 1; int c = b; return c; }",
-                false,
-            ),
-            ("int f(unsigned char while) { return 0; }", false),
-            ("int f(unsigned char __inline) { return 0; }", false),
-            ("int f(unsigned char a) { int b = a < 1; return b; }", false),
-            (
-                "int f(unsigned char a) { if (a) return 0; return a; }",
-                false,
-            ),
-            ("int f(unsigned char a) { if (a < 1) return 0; }", false),
-            (
-                "int f(unsigned char a) { if (a < 1) return 0; int b = 1; return b; }",
-                false,
-            ),
-        ];
-        for (text, is_small) in cases {
-            let text = text.as_bytes();
-            assert!(rt; text.len() <= 16_777_216);
-            assert!(rt; is_read(rt.alloc(), text) == Some(is_small), "{text:?}");
-        }
-    }
 }

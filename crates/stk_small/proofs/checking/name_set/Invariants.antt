@@ -1,5 +1,5 @@
 use Rattle.std.proofs.Common.{◌≡◌, ◌≤◌, ℕ, List, map, drop, length}
-use Rattle.stk_small.specs.Texts.{text_of}
+use Rattle.stk_base.specs.Text.{text_of}
 use Rattle.stk_small.specs.SmallForm.{is_among}
 use Rattle.stk_small.specs.SmallTexts.{are_names}
 use Rattle.stk_small.specs.Names.{is_in}

@@ -1,5 +1,5 @@
 use Rattle.std.proofs.Common.{◌≡◌, map, take}
-use Rattle.stk_small.specs.Texts.{lexeme_of}
+use Rattle.stk_lexeme.specs.Lexemes.{lexeme_of}
 use Rattle.stk_small.specs.SmallReading.{terminal_of}
 use Rattle.stk_small.proofs.reading.terminals_of.Given as goal
 

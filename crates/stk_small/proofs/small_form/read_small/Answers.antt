@@ -3,9 +3,9 @@ use Rattle.stk_base.specs.declared.span.Span.{Span}
 use Rattle.stk_tree.specs.Layout.{unit_laid_out}
 use Rattle.stk_tree.specs.Nodes.{unit_nodes}
 use Rattle.stk_tree.specs.Tokens.{unit_tokens}
-use Rattle.stk_small.specs.Texts.{lexeme_of}
+use Rattle.stk_lexeme.specs.Lexemes.{lexeme_of}
 use Rattle.stk_small.specs.SmallTree.{unit_tree}
-use Rattle.stk_small.proofs.SmallReads.{found_tree, no_tree, same_count, one_span_each, few, small_nodes}
+use Rattle.stk_small.proofs.SmallReads.{found_tree, no_tree, same_count, one_span_each, small_nodes}
 use Rattle.stk_small.proofs.small_form.read_small.Goals as goal
 
 pub returns-in_default-clause-other : goal.returns-in_default-clause-other
@@ -20,14 +20,14 @@ lay_out-requires-clause-one_span_each c =
 pub lay_out-requires-clause-tokens : goal.lay_out-requires-clause-tokens
 lay_out-requires-clause-tokens c =
     let e = ap length (c.as_slice.ensures.value ∙ c.in_ok-spans.ensures) ∙ one_span_each c.args.tokens.now in
-    omega (arith, e, few c.args.bytes.now c.args.tokens.now c.requires.cut, c.requires.short)
+    omega (arith, e, c.requires)
 
 pub lay_out-requires-clause-numbers : goal.lay_out-requires-clause-numbers
 lay_out-requires-clause-numbers c =
     let f = found_tree c.args.bytes.now (map (lexeme_of c.args.bytes.now) c.args.tokens.now) c.in-Some.outline (sym c.in_ok-outline.ensures ∙ c.in-Some.is) in
-    let few_lexemes : length (map (lexeme_of c.args.bytes.now) c.args.tokens.now) ≤ length c.args.bytes.now = omega (arith, same_count c.args.bytes.now c.args.tokens.now, few c.args.bytes.now c.args.tokens.now c.requires.cut) in
-    let nodes : unit_nodes (unit_tree c.in-Some.outline) ≤ length c.args.bytes.now = small_nodes (map (lexeme_of c.args.bytes.now) c.args.tokens.now) c.in-Some.outline (length c.args.bytes.now) f.size few_lexemes in
-    rw c.in_ok-unit.ensures (omega (arith, nodes, c.requires.short))
+    let few_lexemes : length (map (lexeme_of c.args.bytes.now) c.args.tokens.now) ≤ 16777216 = omega (arith, same_count c.args.bytes.now c.args.tokens.now, c.requires) in
+    let nodes : unit_nodes (unit_tree c.in-Some.outline) ≤ 16777216 = small_nodes (map (lexeme_of c.args.bytes.now) c.args.tokens.now) c.in-Some.outline 16777216 f.size few_lexemes in
+    rw c.in_ok-unit.ensures (omega (arith, nodes))
 
 pub returns-clause-found : goal.returns-clause-found
 returns-clause-found c =

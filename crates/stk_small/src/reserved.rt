@@ -1,13 +1,9 @@
-//! The texts of tokens: the lexeme that a token is, and the words that are never names.
+//! The words that are never names.
 
 ghost use Rattle.std.specs.Prelude.{◌≡◌};
 ghost use Rattle.std.specs.List.{list_any};
 ghost use Rattle.std.specs.Str.{bytes_eq};
-ghost use Rattle.stk_small.specs.Texts.{fixed_of, is_reserved, lexeme_of, text_of};
-
-use crate::lexing::Token;
-use stk_base::{Class, Span};
-use stk_tree::{Fixed, Lexeme};
+ghost use Rattle.stk_small.specs.ReservedWords.{is_reserved};
 
 /// The keywords (C11 6.4.1), other words that compilers reserve, and the words that are dropped before reading.
 const RESERVED: [&str; 72] = [
@@ -85,22 +81,6 @@ const RESERVED: [&str; 72] = [
     "__restrict__",
 ];
 
-/// The bytes of a stretch of the input, as far as the input has them.
-pub fn text_of(bytes: &[u8], at: Span) -> &[u8]
-    ensures { result.now ≡ text_of bytes.now at }
-{
-    let from = bytes.len().min(at.from as usize);
-    let to = bytes.len().min(at.to as usize);
-    &bytes[from..to.max(from)]
-}
-
-/// The reserved word or mark with this text.
-fn word_or_mark(text: &[u8]) -> Option<Fixed>
-    ensures { result ≡ fixed_of text.now }
-{
-    stk_tree::fixed_of(text)
-}
-
 /// Whether a text is one of these words.
 fn is_among(words: &[&str], text: &[u8]) -> bool
     ensures { result ≡ list_any (λ word. bytes_eq text.now word.now) words.now }
@@ -109,19 +89,9 @@ fn is_among(words: &[&str], text: &[u8]) -> bool
 }
 
 /// Whether this word is never a name.
-#[tactic(auto, unfolding(crate::specs::Texts::is_reserved))]
+#[tactic(auto, unfolding(crate::specs::ReservedWords::is_reserved))]
 pub fn is_reserved(text: &[u8]) -> bool
     ensures { result ≡ is_reserved text.now }
 {
     is_among(&RESERVED, text)
-}
-
-/// The lexeme that a token is.
-pub fn lexeme_of(bytes: &[u8], token: Token) -> Lexeme
-    ensures { result ≡ lexeme_of bytes.now token }
-{
-    match (token.class, word_or_mark(text_of(bytes, token.span))) {
-        (Class::Word | Class::Mark, Some(fixed)) => Lexeme::Fixed(fixed),
-        (class, _) => Lexeme::Leaf(class, token.span),
-    }
 }

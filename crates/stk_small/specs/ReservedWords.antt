@@ -1,34 +1,7 @@
--- The texts of tokens: the lexeme that a token is, and the words that are never names.
-use Rattle.std.specs.Prelude.{ℕ, ◌-◌, Bool, List, [], ◌∷◌, take, drop, Option, Some}
-use Rattle.std.specs.List.{list_any, find}
+-- The words that are never names.
+use Rattle.std.specs.Prelude.{ℕ, Bool, List, [], ◌∷◌, codes}
+use Rattle.std.specs.List.{list_any}
 use Rattle.std.specs.Str.{bytes_eq}
-use lib.Chars.{codes}
-use Rattle.stk_base.specs.declared.span.Span.{Span}
-use Rattle.stk_base.specs.declared.token.Class.{Class}
-use Rattle.stk_base.specs.declared.token.Class.TheVariants as classes
-use Rattle.stk_tree.specs.declared.fixed.Fixed.{Fixed}
-use Rattle.stk_tree.specs.Spelling.{every, spelling_of}
-use Rattle.stk_tree.specs.declared.fixed.Lexeme.{Lexeme}
-use Rattle.stk_tree.specs.declared.fixed.Lexeme.TheVariants as lexemes
-use Rattle.stk_small.specs.declared.lexing.Token.{Token}
-
--- the bytes of a stretch of the input
-abbrev pub text_of : List ℕ → Span → List ℕ
-text_of bytes at = take (at.to - at.from) (drop at.from bytes)
-
--- the reserved word or mark with this text (C11 6.4.1, 6.4.6, and the words that GNU C adds)
-unfoldable pub fixed_of : List ℕ → Option Fixed
-fixed_of text = find (λ f. bytes_eq text (spelling_of f)) every
-
--- the lexeme of a token of this class, whose text is this word or mark or none of them
-abbrev pub lexeme_at : Class → Span → Option Fixed → Lexeme
-lexeme_at classes.Word at (Some word) = lexemes.Fixed word
-lexeme_at classes.Mark at (Some mark) = lexemes.Fixed mark
-lexeme_at class at text = lexemes.Leaf class at
-
--- the lexeme that a token is: a reserved word or a mark, or a leaf with its class and span
-abbrev pub lexeme_of : List ℕ → Token → Lexeme
-lexeme_of bytes t = lexeme_at t.class t.span (fixed_of (text_of bytes t.span))
 
 -- the words that are never names: the keywords (C11 6.4.1), other words that compilers reserve, and the words that are dropped before reading
 abbrev pub reserved_words : List (List ℕ)

@@ -1,0 +1,6 @@
+//! The lexemes of tokens: what a token is in the grammar of C.
+#![tactic(auto)]
+
+mod lexeme;
+
+pub use lexeme::lexeme_of;
