@@ -1,0 +1,8 @@
+//! From the tokens of a file to its units: the words that don't matter are dropped, and what is left is cut by brackets.
+#![tactic(auto)]
+
+mod cutting;
+mod skimming;
+
+pub use cutting::{Piece, cut};
+pub use skimming::{Skimmed, skim};
