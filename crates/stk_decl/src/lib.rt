@@ -1,8 +1,10 @@
 //! From the tokens of a file to its units: the words that don't matter are dropped, and what is left is cut by brackets.
 #![tactic(auto)]
 
+mod ahead;
 mod cutting;
 mod skimming;
+mod spelled;
 
 pub use cutting::{Piece, cut};
 pub use skimming::{Skimmed, skim};
