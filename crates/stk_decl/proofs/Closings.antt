@@ -8,7 +8,7 @@ use Rattle.stk_decl.specs.Spelled.{opens, closes, depth_behind}
 use Rattle.stk_decl.specs.Skimming.{closing}
 use Rattle.stk_decl.specs.Ahead.{both}
 
-suc_test : (n : ℕ) → (suc n == 0) ≡ false
+pub suc_test : (n : ℕ) → (suc n == 0) ≡ false
 suc_test n = ne_eqb (suc n) 0 (λ e. absurd (omega arith))
 
 pub one_more_some : (n : ℕ) → 0 < n → one_more n ≡ suc n
@@ -66,6 +66,7 @@ closing_both bytes (t ∷ ts) a b = stepped (closing_both bytes ts) (depth_behin
   where
     more : depth_behind bytes (suc a + suc b) t ≡ depth_behind bytes (suc a) t + suc b
     more = depth_more bytes t (suc a) (suc b) (omega arith)
+
     stepped : ((a b : ℕ) → closing bytes (suc a + suc b) ts ≡ both (closing bytes (suc a) ts) (closing bytes (suc b) (drop (closing bytes (suc a) ts) ts))) → (d : ℕ) → depth_behind bytes (suc a) t ≡ d → closing bytes (suc a + suc b) (t ∷ ts) ≡ both (closing bytes (suc a) (t ∷ ts)) (closing bytes (suc b) (drop (closing bytes (suc a) (t ∷ ts)) (t ∷ ts)))
     stepped rest zero e =
         let all : depth_behind bytes (suc a + suc b) t ≡ suc b = omega (arith, more, e) in

@@ -20,7 +20,7 @@ found_behind find t ts found known = record {
 }
 
 found_none : (find : List Token → ℕ) → find [] ≡ 0 → AreFound find [] (0 ∷ [])
-found_none find e = record { room = omega arith; found_at = none; }
+found_none find e = record { room = omega arith; found_at = none }
   where
     none : (k left : ℕ) → k + left ≡ 0 → get_or (0 ∷ []) left 0 ≡ find (drop k [])
     none zero zero h = sym e
@@ -57,12 +57,18 @@ pub unchanged_within : (bytes : List ℕ) (ts : List Token) → unchanged bytes 
 unfolding unchanged
 unchanged_within bytes [] = omega arith
 unchanged_within bytes (t ∷ ts) = elim (is_changing_word bytes t) as (λ b. cond b 0 (suc (unchanged bytes ts)) ≤ suc (length ts)) [
-    | true ↦ omega arith
-    | false ↦ omega (arith, unchanged_within bytes ts)
-  ]
+  | true ↦ omega arith
+  | false ↦ omega (arith, unchanged_within bytes ts)
+]
 
 pub unchanged_step : (bytes : List ℕ) (tokens : List Token) (at : ℕ) (d : Token) (n : ℕ) → 0 < at → at ≤ length tokens
     → n ≡ unchanged bytes (get_or tokens (at - 1) d ∷ drop at tokens) → n ≡ unchanged bytes (drop (at - 1) tokens)
 unchanged_step bytes tokens at d n some within e =
     let next : suc (at - 1) ≡ at = omega arith in
     e ∙ ap (unchanged bytes) (sym (drop-cons tokens (at - 1) d (omega arith) ∙ rw next refl))
+
+-- what is found of tokens is found of those behind the first ones
+pub found_drop : (find : List Token → ℕ) (n : ℕ) (ts : List Token) (found : List ℕ) → AreFound find ts found → AreFound find (drop n ts) found
+found_drop find zero ts found known = known
+found_drop find (suc n) [] found known = known
+found_drop find (suc n) (t ∷ ts) found known = found_drop find n ts found (found_behind find t ts found known)

@@ -23,19 +23,21 @@ abbrev pub drops_group : List ℕ → ℕ → Token → List Token → Bool
 drops_group bytes depth t ts =
     is_attribute_word bytes t && not (list_any (is_changing_word bytes) (take (group bytes ts) ts)) || depth == 0 && is_assembly_word bytes t
 
--- how many tokens are dropped from a token on: a dropped word by itself, or a word with the group behind it; 0 where the
+-- how many tokens are dropped at the front: a dropped word by itself, or a word with the group behind it; 0 where the first
 -- token is kept
-unfoldable pub dropped : List ℕ → ℕ → Token → List Token → ℕ
-dropped bytes depth t ts = cond (is_dropped_word bytes t) 1 (cond (drops_group bytes depth t ts) (one_more (group bytes ts)) 0)
+unfoldable pub dropped : List ℕ → ℕ → List Token → ℕ
+dropped bytes depth [] = 0
+dropped bytes depth (t ∷ ts) = cond (is_dropped_word bytes t) 1 (cond (drops_group bytes depth t ts) (one_more (group bytes ts)) 0)
 
--- whether dropped tokens, a token and those behind it, say that a function doesn't return: the specifier `_Noreturn`
--- (C11 6.7.4p8), or an attribute that says so
-abbrev pub says_no_return : List ℕ → Token → List Token → Bool
-says_no_return bytes t ts = is_noreturn_specifier bytes t || is_attribute_word bytes t && list_any (is_no_return_word bytes) ts
+-- whether dropped tokens say that a function doesn't return: the specifier `_Noreturn` (C11 6.7.4p8), or an attribute
+unfoldable pub says_no_return : List ℕ → List Token → Bool
+says_no_return bytes [] = false
+says_no_return bytes (t ∷ ts) = is_noreturn_specifier bytes t || is_attribute_word bytes t && list_any (is_no_return_word bytes) ts
 
--- the note of n dropped tokens at a depth: the byte at which they begin, if they say so at depth 0
-unfoldable pub note_of : List ℕ → ℕ → Token → List Token → ℕ → List ℕ
-note_of bytes depth t ts n = cond (depth == 0 && says_no_return bytes t (take (n - 1) ts)) (t.span.from ∷ []) []
+-- the note of dropped tokens: the byte at which they begin, if they stand at depth 0 and say so
+unfoldable pub note_of : List ℕ → ℕ → List Token → List ℕ
+note_of bytes depth [] = []
+note_of bytes depth (t ∷ ts) = cond (depth == 0 && says_no_return bytes (t ∷ ts)) (t.span.from ∷ []) []
 
 -- The tokens that skimming keeps, from a depth on, where the first n are dropped already. A dropped word has no bracket,
 -- and a dropped group brings the depth back, so only what is kept counts for the depth.
@@ -43,15 +45,15 @@ unfoldable pub kept : List ℕ → List Token → ℕ → ℕ → List Token
 kept bytes [] depth n = []
 kept bytes (t ∷ ts) depth (suc n) = kept bytes ts depth n
 kept bytes (t ∷ ts) depth zero =
-    cond (dropped bytes depth t ts == 0) (t ∷ kept bytes ts (depth_behind bytes depth t) 0) (kept bytes ts depth (dropped bytes depth t ts - 1))
+    cond (dropped bytes depth (t ∷ ts) == 0) (t ∷ kept bytes ts (depth_behind bytes depth t) 0) (kept bytes ts depth (dropped bytes depth (t ∷ ts) - 1))
 
 -- the notes of what skimming drops, in the same way
 unfoldable pub noted : List ℕ → List Token → ℕ → ℕ → List ℕ
 noted bytes [] depth n = []
 noted bytes (t ∷ ts) depth (suc n) = noted bytes ts depth n
 noted bytes (t ∷ ts) depth zero =
-    cond (dropped bytes depth t ts == 0) (noted bytes ts (depth_behind bytes depth t) 0)
-    (note_of bytes depth t ts (dropped bytes depth t ts) ++ noted bytes ts depth (dropped bytes depth t ts - 1))
+    cond (dropped bytes depth (t ∷ ts) == 0) (noted bytes ts (depth_behind bytes depth t) 0)
+    (note_of bytes depth (take (dropped bytes depth (t ∷ ts)) (t ∷ ts)) ++ noted bytes ts depth (dropped bytes depth (t ∷ ts) - 1))
 
 -- the tokens of a file that skimming keeps
 abbrev pub kept_tokens : List ℕ → List Token → List Token

@@ -12,7 +12,7 @@ use stk_base::NoMemory;
 use stk_lex::Token;
 
 /// One more, where there is something.
-fn one_more(n: u32) -> u32
+pub fn one_more(n: u32) -> u32
     requires { n + 1 < 2 ^ 32 }
     ensures { result ≡ one_more n }
 {
@@ -73,7 +73,11 @@ fn unchanged_with(bytes: &[u8], token: Token, last: u32) -> u32
     requires { last + 1 < 2 ^ 32 }
     ensures { (ts : List Token) → last ≡ unchanged bytes.now ts → result ≡ unchanged bytes.now (token ∷ ts) }
 {
-    if is_changing_word(bytes, token) { 0 } else { last + 1 }
+    if is_changing_word(bytes, token) {
+        0
+    } else {
+        last + 1
+    }
 }
 
 /// For each number of tokens that are left, from 0 up to all of them, how many of them stand before the first attribute

@@ -3,6 +3,7 @@
 
 mod ahead;
 mod cutting;
+mod dropping;
 mod skimming;
 mod spelled;
 

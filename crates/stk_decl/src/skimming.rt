@@ -4,6 +4,9 @@ ghost use Rattle.std.specs.Prelude.{◌≡◌, ◌≤◌, length, IfOk};
 ghost use Rattle.stk_lex.specs.Cut.{AreSpans};
 ghost use Rattle.stk_decl.specs.Skimming.{kept_tokens, notes_of, ArePositions};
 
+use crate::ahead::{changes, closings};
+use crate::dropping::{add_note, dropped};
+use crate::spelled::depth_behind;
 use std::alloc::Global;
 use stk_base::{List, NoMemory};
 use stk_lex::Token;
@@ -36,5 +39,26 @@ pub fn skim(alloc: Global, bytes: &[u8], tokens: &[Token]) -> Result<Skimmed, No
     ensures spans { IfOk result (λ skimmed. AreSpans (length bytes.now) 0 skimmed.tokens) }
     ensures positions { IfOk result (λ skimmed. ArePositions 0 skimmed.notes) }
 {
-    Err(NoMemory)
+    let ends = closings(alloc, bytes, tokens)?;
+    let changes = changes(alloc, bytes, tokens)?;
+    let mut kept = Vec::new(alloc);
+    let mut notes = Vec::new(alloc);
+    let mut depth: u32 = 0;
+    let mut rest = tokens;
+    while let Some((token, behind)) = rest.split_first() {
+        let n = dropped(bytes, depth, *token, behind, &ends, &changes);
+        if n == 0 {
+            kept.push(*token)?;
+            depth = depth_behind(bytes, depth, *token);
+            rest = behind;
+        } else {
+            let (front, further) = rest.split_at(n as usize);
+            add_note(&mut notes, bytes, depth, front)?;
+            rest = further;
+        }
+    }
+    Ok(Skimmed {
+        tokens: List::from_vec(kept),
+        notes: List::from_vec(notes),
+    })
 }
