@@ -1,0 +1,5 @@
+pub mod Closings
+pub mod Found
+pub mod Groups
+pub mod Kept
+pub mod Skims

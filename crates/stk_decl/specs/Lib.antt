@@ -1,0 +1,4 @@
+pub mod Spelled
+pub mod Skimming
+pub mod Ahead
+pub mod Units

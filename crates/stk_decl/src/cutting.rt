@@ -1,0 +1,39 @@
+// The units of a file.
+
+ghost use Rattle.std.specs.Prelude.{◌≡◌, ◌≤◌, length, IfOk};
+ghost use Rattle.stk_lex.specs.Cut.{AreSpans};
+ghost use Rattle.stk_decl.specs.Skimming.{ArePositions};
+ghost use Rattle.stk_decl.specs.Units.{units_of, AreJoined};
+
+use crate::skimming::Skimmed;
+use std::alloc::Global;
+use stk_base::NoMemory;
+
+/// A unit of a file: its tokens from `from` up to `to`, without the last one, counted among those that skimming kept;
+/// the token at which its function body begins, if it has one; and whether it is marked as not returning.
+#[derive(Clone, Copy, Debug, PartialEq, Eq)]
+pub struct Piece {
+    pub from: u32,
+    pub to: u32,
+    pub body: Option<u32>,
+    pub no_return: bool,
+}
+
+/// The units of a file, in order, by the brackets of the tokens that skimming kept; none is empty, and together they are
+/// all the tokens.
+///
+/// A unit ends with a `;` outside of brackets, and with a `}` that ends a `{` which stands outside of brackets and
+/// follows a `)`, or begins the unit. What is left over is a last unit. The body is the last bracket outside of brackets,
+/// where that is a `{` that follows a `)`. A unit is marked as not returning where a note lies between the last token of
+/// the unit before and its own last token.
+///
+/// It answers `NoMemory` where an allocation is refused, and for no other cause.
+pub fn cut(alloc: Global, bytes: &[u8], skimmed: &Skimmed) -> Result<Vec<Piece>, NoMemory>
+    requires few { length skimmed.now.tokens ≤ 16777216 }
+    requires spans { AreSpans (length bytes.now) 0 skimmed.now.tokens }
+    requires positions { ArePositions 0 skimmed.now.notes }
+    ensures units { IfOk result (λ pieces. pieces.items ≡ units_of bytes.now skimmed.now.tokens skimmed.now.notes) }
+    ensures joined { IfOk result (λ pieces. AreJoined 0 (length skimmed.now.tokens) pieces.items) }
+{
+    Err(NoMemory)
+}

@@ -1,0 +1,11 @@
+//! From the tokens of a file to its units: the words that don't matter are dropped, and what is left is cut by brackets.
+#![tactic(auto)]
+
+mod ahead;
+mod cutting;
+mod dropping;
+mod skimming;
+mod spelled;
+
+pub use cutting::{Piece, cut};
+pub use skimming::{Skimmed, skim};
