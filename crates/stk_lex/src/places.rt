@@ -78,6 +78,13 @@ impl<'a> Places<'a> {
         Ok(Places { bytes, stands })
     }
 
+    /// The text.
+    pub fn bytes(&self) -> &'a [u8]
+        ensures { result.now ≡ self.now }
+    {
+        self.bytes
+    }
+
     /// Where a byte stands in its source file, or where the text ends: what `place` answers for this text. It takes no
     /// memory.
     pub fn place(&self, at: usize) -> Place

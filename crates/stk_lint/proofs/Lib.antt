@@ -6,3 +6,7 @@ pub mod Search
 pub mod Deletion
 pub mod Needed
 pub mod Complete
+pub mod Exists
+pub mod Counted
+pub mod Units
+pub mod Going

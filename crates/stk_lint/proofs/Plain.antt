@@ -1,26 +1,24 @@
 -- Functions of the small form are of the plain form that runs are defined for, also once their nodes are laid out.
-use Rattle.std.proofs.Common.{◌≡◌, ℕ, zero, suc, ◌+◌, ◌-◌, ◌*◌, ◌<◌, ◌≤◌, Bool, true, false, List, [], ◌∷◌, ◌++◌, map, Option, Some, None, refl, sym, ap, ◌∙◌, subst, arith, leb}
-use Rattle.std.specs.Prelude.{◌&&◌, nat_le, slice_get}
+use Rattle.std.proofs.Common.{◌≡◌, ℕ, zero, suc, ◌+◌, ◌-◌, ◌*◌, ◌<◌, ◌≤◌, Bool, true, false, List, [], ◌∷◌, ◌++◌, map, Option, Some, None, refl, sym, ap, ◌∙◌, subst, length, get_or, arith, leb}
+use Rattle.std.specs.Prelude.{◌&&◌, nat_le}
 use Rattle.std.proofs.lemmas.Bool.{leb-true}
 use Rattle.stk_base.specs.declared.span.Span.{Span}
-use Rattle.stk_base.specs.Text as texts
+use Rattle.stk_base.specs.Text.{decimal}
 use Rattle.stk_tree.specs.declared.expression.BinaryOp.{BinaryOp}
 use Rattle.stk_tree.specs.declared.expression.BinaryOp.TheVariants.{Add, Mul, Div, Lt, Gt, Le, Ge, Eq, Ne}
 use Rattle.stk_tree.specs.Syntax.{ExprTree, DeclrTree, DeclrTrees, DeclarationTree, StmtTree, PartTree, PartTrees, FunctionTree, UnitTree}
 use Rattle.stk_tree.specs.Syntax as s
 use Rattle.stk_tree.specs.Layout.{laid_expression, laid_declarator, laid_declarators, laid_declaration, laid_statement, laid_part, laid_parts, laid_function}
 use Rattle.stk_tree.specs.Layout.{unit_laid_out}
-use Rattle.stk_small.specs.declared.lexing.Token.{Token}
-use Rattle.stk_lint.specs.LawfulText.{Prints, spans_of, IsLawfulText, judged, no_token, other_form, nothing_counted, one_skipped}
-use Rattle.stk_lint.specs.Records.{summary_text, other_form_text}
-use Rattle.stk_base.specs.declared.status.Status.TheVariants.{Stable}
-use Rattle.stk_lint.specs.Judged.{IsJudged, IsReadAs, IsJudgedAs}
-use Rattle.stk_small.specs.Cut.{IsCut}
-use Rattle.stk_small.specs.Texts.{lexeme_of}
-use Rattle.stk_base.specs.declared.status.Status.{Status}
+use Rattle.stk_lex.specs.declared.token.Token.{Token}
+use Rattle.stk_lexeme.specs.Lexemes.{lexemes_of}
+use Rattle.stk_lint.specs.declared.records.Counts.{Counts}
+use Rattle.stk_lint.specs.LawfulText.{Prints, spans_of, IsEmpty, IsUnitText, accepted, judged, other_form, nothing_counted, one_skipped}
+use Rattle.stk_lint.specs.Records.{other_form_text}
+use Rattle.stk_lint.specs.Judged.{IsJudged, IsReadAs}
 use Rattle.stk_tree.specs.declared.node.Node.{Node}
 use Rattle.stk_tree.specs.Tokens.{unit_tokens}
-use Rattle.stk_small.specs.SmallForm.{IsOperand, IsTermOperator, IsComparison, IsTerm, IsSum, IsCondition, IsReturn, IsTest, IsLocal, AreTests, AreParts, IsSmallFunction, IsSmall, is_small_number, is_decimal, decimal}
+use Rattle.stk_small.specs.SmallForm.{IsOperand, IsTermOperator, IsComparison, IsTerm, IsSum, IsCondition, IsReturn, IsTest, IsLocal, AreTests, AreParts, IsSmallFunction, IsSmall, is_small_number, is_decimal}
 use Rattle.stk_meaning.specs.Values.{compares, is_arithmetic}
 use Rattle.stk_meaning.specs.Forms.{IsPlainTerm, IsPlainTest, IsPlainDeclarator, ArePlainDeclarators, IsPlainLocal, IsPlainStatement, IsPlainPart, ArePlainParts, IsPlain}
 
@@ -64,21 +62,15 @@ module _ (spans : List Span) (bytes : List ℕ) where
   laid_plain n t (s.function storage b (s.declarator k stars at (s.with_parameters ps more) init) (s.statement m (s.block parts))) p = laid_all parts _ _ p
   laid_plain n t f p = absurd p
 
--- the value of a decimal text, told in two places
-same_decimal : (n : ℕ) (ds : List ℕ) → decimal n ds ≡ texts.decimal_behind n ds
-same_decimal n [] = refl
-same_decimal n (d ∷ ds) = same_decimal (n * 10 + (d - 48)) ds
-
 second_holds : (a b : Bool) → a && b ≡ true → b ≡ true
 second_holds true b e = e
 second_holds false b e = absurd cc
 
-number_plain : (text : List ℕ) → is_small_number text ≡ true → texts.decimal text < 256
+number_plain : (text : List ℕ) → is_small_number text ≡ true → decimal text < 256
 unfolding is_small_number
 number_plain text h =
-    let small : decimal 0 text ≤ 255 = leb-true (decimal 0 text) 255 (second_holds (is_decimal text) (nat_le (decimal 0 text) 255) h) in
-    let same : decimal 0 text ≡ texts.decimal text = same_decimal 0 text in
-    omega arith
+    let small : decimal text ≤ 255 = leb-true (decimal text) 255 (second_holds (is_decimal text) (nat_le (decimal text) 255) h) in
+    omega (arith, small)
 
 module _ (bytes : List ℕ) where
   operand_plain : (names : List (List ℕ)) (e : ExprTree) → IsOperand bytes names e → IsPlainTerm bytes e
@@ -143,7 +135,7 @@ module _ (bytes : List ℕ) where
   function_plain f h = absurd h
 
 -- what is read as a function is one that the tokens print, and it is plain
-read_function : (bytes : List ℕ) (tokens : List Token) (n : Node) (f : FunctionTree) (u : UnitTree) → IsSmall bytes u → unit_tokens u ≡ map (lexeme_of bytes) tokens → s.defines n f ≡ unit_laid_out (spans_of tokens) u → Prints bytes tokens f × IsPlain bytes f
+pub read_function : (bytes : List ℕ) (tokens : List Token) (n : Node) (f : FunctionTree) (u : UnitTree) → IsSmall bytes u → unit_tokens u ≡ lexemes_of bytes tokens → s.defines n f ≡ unit_laid_out (spans_of tokens) u → Prints bytes tokens f × IsPlain bytes f
 read_function bytes tokens n f (s.defines m g) small printed e =
     let same : laid_function (spans_of tokens) 0 0 g ≡ f = cc in
     (record { unit = s.defines m g; node = n; small = small; printed = printed; laid_out = sym e }, subst (IsPlain bytes) same (laid_plain (spans_of tokens) bytes 0 0 g (function_plain bytes g small)))
@@ -170,21 +162,16 @@ read_not_empty bytes tokens n h = not_empty bytes (spans_of tokens) n h.tree h.s
 pub read_not_declares : (bytes : List ℕ) (tokens : List Token) (n : Node) (d : DeclarationTree) → IsReadAs bytes tokens (s.declares n d) → ⊥
 read_not_declares bytes tokens n d h = not_declares bytes (spans_of tokens) n d h.tree h.small h.laid_out
 
--- the text of a function that the tokens print is lawful
-pub lawful_judged : (bytes : List ℕ) (tokens : List Token) (text : List ℕ) (status : Status) → IsCut bytes tokens → IsJudgedAs bytes tokens text status → IsLawfulText bytes text status
-lawful_judged bytes tokens text status cut h =
-    let made = judged h.judged.findings cut h.prints h.judged.lawful in
-    rw (h.judged.same_text, h.judged.same_status) made
+-- what is written of a function that the tokens print
+pub text_judged : (bytes : List ℕ) (tokens : List Token) (n : Node) (f : FunctionTree) (text : List ℕ) (counts : Counts) → IsReadAs bytes tokens (s.defines n f) → IsJudged bytes f text counts → IsUnitText bytes tokens text counts
+text_judged bytes tokens n f text counts h j = rw (j.same_text, j.same_counts) (judged j.findings (read_prints bytes tokens n f h) j.lawful)
 
--- the text of an input without a token is lawful
-pub lawful_empty : (bytes : List ℕ) (tokens : List Token) (text : List ℕ) (status : Status) → None ≡ slice_get tokens 0 → IsCut bytes tokens → text ≡ summary_text nothing_counted → status ≡ Stable → IsLawfulText bytes text status
-lawful_empty bytes [] text status none cut e f = rw (e, f) (no_token cut)
-lawful_empty bytes (t ∷ ts) text status none cut e f = absurd cc
+-- what is written of an empty unit
+pub text_accepted : (bytes : List ℕ) (tokens : List Token) (text : List ℕ) (counts : Counts) → IsEmpty bytes tokens → text ≡ [] → counts ≡ nothing_counted → IsUnitText bytes tokens text counts
+text_accepted bytes tokens text counts is e f = rw (e, f) (accepted is)
 
--- the text of an input that no small tree prints is lawful
-pub lawful_other : (bytes : List ℕ) (tokens : List Token) (first : Token) (text : List ℕ) (status : Status) → Some first ≡ slice_get tokens 0 → IsCut bytes tokens → ((f : FunctionTree) → Prints bytes tokens f → ⊥) → text ≡ other_form_text bytes first.span.from ++ summary_text one_skipped → status ≡ Stable → IsLawfulText bytes text status
-lawful_other bytes [] first text status some cut none_prints e f = absurd cc
-lawful_other bytes (t ∷ ts) first text status some cut none_prints e f =
-    let same : first ≡ t = cc in
-    let e' : text ≡ other_form_text bytes t.span.from ++ summary_text one_skipped = e ∙ ap (λ (x : Token). other_form_text bytes x.span.from ++ summary_text one_skipped) same in
-    rw (e', f) (other_form cut none_prints)
+-- what is written of a unit that no small tree prints
+pub text_skipped : (bytes : List ℕ) (tokens : List Token) (none : Token) (text : List ℕ) (counts : Counts) → 0 < length tokens → (IsEmpty bytes tokens → ⊥) → ((f : FunctionTree) → Prints bytes tokens f → ⊥)
+    → text ≡ other_form_text bytes (get_or tokens 0 none).span.from → counts ≡ one_skipped → IsUnitText bytes tokens text counts
+text_skipped bytes [] none text counts some not_empty no_tree e f = absurd (omega arith)
+text_skipped bytes (t ∷ ts) none text counts some not_empty no_tree e f = rw (e, f) (other_form not_empty no_tree)

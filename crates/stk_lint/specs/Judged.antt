@@ -1,17 +1,19 @@
--- What is written of the findings of a function.
-use Rattle.std.specs.Prelude.{◌≡◌, ℕ, List, ◌++◌, map}
-use Rattle.stk_base.specs.declared.status.Status.{Status}
+-- What is written of the findings of a function, and of units one after the other.
+use Rattle.std.specs.Prelude.{◌≡◌, ℕ, ◌≤◌, List, ◌++◌, Option}
+use Rattle.stk_lex.specs.declared.token.Token.{Token}
+use Rattle.stk_lexeme.specs.Lexemes.{lexemes_of}
+use Rattle.stk_decl.specs.declared.cutting.Piece.{Piece}
+use Rattle.stk_base.specs.Streams.{Appended, AppendedFront}
 use Rattle.stk_tree.specs.Syntax.{FunctionTree, UnitTree}
 use Rattle.stk_tree.specs.Tokens.{unit_tokens}
 use Rattle.stk_tree.specs.Layout.{unit_laid_out}
 use Rattle.stk_meaning.specs.declared.candidate.Candidate.{Candidate}
 use Rattle.stk_meaning.specs.declared.finding.Finding.{Finding}
 use Rattle.stk_meaning.specs.Parts.{candidates}
-use Rattle.stk_lint.specs.Records.{findings_text, summary_text}
-use Rattle.stk_lint.specs.LawfulText.{AreLawful, unstable_count, status_of, one_judged, spans_of, Prints}
-use Rattle.stk_small.specs.declared.lexing.Token.{Token}
 use Rattle.stk_small.specs.SmallForm.{IsSmall}
-use Rattle.stk_small.specs.Texts.{lexeme_of}
+use Rattle.stk_lint.specs.declared.records.Counts.{Counts}
+use Rattle.stk_lint.specs.Records.{findings_text}
+use Rattle.stk_lint.specs.LawfulText.{AreLawful, unstable_count, one_judged, spans_of, Prints, IsUnitText, AreUnitTexts}
 
 -- the records of lawful findings for these candidates were added to a text; so many of them are reports
 pub record AddsFindings (bytes : List ℕ) (f : FunctionTree) (list : List Candidate) (old new : List ℕ) (unstable : ℕ) : Type 0 where
@@ -20,22 +22,50 @@ pub record AddsFindings (bytes : List ℕ) (f : FunctionTree) (list : List Candi
   pub added : new ≡ old ++ findings_text bytes f list findings
   pub count : unstable ≡ unstable_count findings
 
--- the text and the status of a function: the records of lawful findings, and the summary
-pub record IsJudged (bytes : List ℕ) (f : FunctionTree) (text : List ℕ) (status : Status) : Type 0 where
+-- the text and the counts of a function: the records of lawful findings
+pub record IsJudged (bytes : List ℕ) (f : FunctionTree) (text : List ℕ) (counts : Counts) : Type 0 where
   pub findings : List Finding
   pub lawful : AreLawful bytes f (candidates f) findings
-  pub same_text : text ≡ findings_text bytes f (candidates f) findings ++ summary_text (one_judged findings)
-  pub same_status : status ≡ status_of (unstable_count findings)
+  pub same_text : text ≡ findings_text bytes f (candidates f) findings
+  pub same_counts : counts ≡ one_judged findings
 
--- a small tree prints the tokens of an input, and this is the unit once its nodes are laid out
+-- a small tree prints the tokens of a unit, and this is the unit once its nodes are laid out
 pub record IsReadAs (bytes : List ℕ) (tokens : List Token) (unit : UnitTree) : Type 0 where
   pub tree : UnitTree
   pub small : IsSmall bytes tree
-  pub printed : unit_tokens tree ≡ map (lexeme_of bytes) tokens
+  pub printed : unit_tokens tree ≡ lexemes_of bytes tokens
   pub laid_out : unit ≡ unit_laid_out (spans_of tokens) tree
 
--- the text and the status are those of a function that the tokens of an input print
-pub record IsJudgedAs (bytes : List ℕ) (tokens : List Token) (text : List ℕ) (status : Status) : Type 0 where
-  pub function : FunctionTree
-  pub prints : Prints bytes tokens function
-  pub judged : IsJudged bytes function text status
+-- each count is at most n
+pub record AreAtMost (n : ℕ) (counts : Counts) : Type 0 where
+  pub functions : counts.functions ≤ n
+  pub candidates : counts.candidates ≤ n
+  pub unstable : counts.unstable ≤ n
+  pub undecided : counts.undecided ≤ n
+  pub skipped : counts.skipped ≤ n
+
+-- a sink took what is written of a unit
+pub record WroteUnit (bytes : List ℕ) (tokens : List Token) (before after : Option (List ℕ)) (counts : Counts) : Type 0 where
+  pub text : List ℕ
+  pub is : IsUnitText bytes tokens text counts
+  pub written : Appended before after text
+
+-- a sink took some front of what may be written of a unit
+pub record WroteUnitFront (bytes : List ℕ) (tokens : List Token) (before after : Option (List ℕ)) : Type 0 where
+  pub text : List ℕ
+  pub counts : Counts
+  pub is : IsUnitText bytes tokens text counts
+  pub written : AppendedFront before after text
+
+-- a sink took what is written of units
+pub record WroteUnits (bytes : List ℕ) (tokens : List Token) (pieces : List Piece) (before after : Option (List ℕ)) (counts : Counts) : Type 0 where
+  pub lines : List ℕ
+  pub are : AreUnitTexts bytes tokens pieces lines counts
+  pub written : Appended before after lines
+
+-- a sink took some front of what may be written of units
+pub record WroteUnitsFront (bytes : List ℕ) (tokens : List Token) (pieces : List Piece) (before after : Option (List ℕ)) : Type 0 where
+  pub lines : List ℕ
+  pub counts : Counts
+  pub are : AreUnitTexts bytes tokens pieces lines counts
+  pub written : AppendedFront before after lines

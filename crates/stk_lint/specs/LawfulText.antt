@@ -1,24 +1,27 @@
--- Which texts and statuses are lawful for the bytes of an input. A tree stands for the input by printing its tokens, so
--- nothing here speaks of how the input is read.
-use Rattle.std.specs.Prelude.{◌≡◌, ℕ, ◌+◌, List, [], ◌∷◌, ◌++◌, map, length, zero, suc}
+-- Which texts and statuses are lawful for the bytes of an input. The input is cut into its units; a tree stands for a unit
+-- by printing its tokens, so nothing here speaks of how a unit is read.
+use Rattle.std.specs.Prelude.{◌≡◌, ℕ, ◌+◌, ◌-◌, List, [], ◌∷◌, ◌++◌, map, length, take, drop, zero, suc}
 use Rattle.stk_base.specs.declared.span.Span.{Span}
 use Rattle.stk_base.specs.declared.status.Status.{Status}
 use Rattle.stk_base.specs.declared.status.Status.TheVariants.{Stable, Found}
+use Rattle.stk_lex.specs.declared.token.Token.{Token}
+use Rattle.stk_lex.specs.Cut.{IsCut}
+use Rattle.stk_decl.specs.declared.cutting.Piece.{Piece}
+use Rattle.stk_decl.specs.Skimming.{kept_tokens, notes_of}
+use Rattle.stk_decl.specs.Units.{units_of}
 use Rattle.stk_tree.specs.declared.node.Node.{Node}
-use Rattle.stk_tree.specs.Syntax.{UnitTree, FunctionTree, defines}
+use Rattle.stk_tree.specs.Syntax.{UnitTree, FunctionTree, defines, empty_unit}
 use Rattle.stk_tree.specs.Tokens.{unit_tokens}
 use Rattle.stk_tree.specs.Layout.{unit_laid_out}
+use Rattle.stk_lexeme.specs.Lexemes.{lexemes_of}
 use Rattle.stk_meaning.specs.declared.candidate.Candidate.{Candidate}
 use Rattle.stk_meaning.specs.declared.finding.Finding.{Finding}
 use Rattle.stk_meaning.specs.declared.finding.Finding.TheVariants.{Clear, Unstable, Undecided}
 use Rattle.stk_meaning.specs.Findings.{IsLawful}
 use Rattle.stk_meaning.specs.Parts.{candidates}
-use Rattle.stk_small.specs.declared.lexing.Token.{Token}
-use Rattle.stk_lint.specs.declared.records.Counts.{Counts}
-use Rattle.stk_small.specs.Cut.{IsCut}
-use Rattle.stk_lint.specs.Records.{findings_text, summary_text, other_form_text}
 use Rattle.stk_small.specs.SmallForm.{IsSmall}
-use Rattle.stk_small.specs.Texts.{lexeme_of}
+use Rattle.stk_lint.specs.declared.records.Counts.{Counts}
+use Rattle.stk_lint.specs.Records.{findings_text, summary_text, other_form_text}
 
 -- each candidate has a lawful finding
 abbrev pub AreLawful : List ℕ → FunctionTree → List Candidate → List Finding → Type 0
@@ -38,7 +41,9 @@ abbrev pub status_of : ℕ → Status
 status_of zero = Stable
 status_of (suc n) = Found
 
--- the counts of a text without a unit
+-- ---- counts
+
+-- nothing is counted yet
 abbrev pub nothing_counted : Counts
 nothing_counted = record { functions = 0; candidates = 0; unstable = 0; undecided = 0; skipped = 0 }
 
@@ -50,6 +55,18 @@ one_skipped = record { functions = 0; candidates = 0; unstable = 0; undecided = 
 abbrev pub one_judged : List Finding → Counts
 one_judged findings = record { functions = 1; candidates = length findings; unstable = unstable_count findings; undecided = 0; skipped = 0 }
 
+-- the counts of two parts of a file together
+abbrev pub counts_sum : Counts → Counts → Counts
+counts_sum a b = record {
+  functions = a.functions + b.functions;
+  candidates = a.candidates + b.candidates;
+  unstable = a.unstable + b.unstable;
+  undecided = a.undecided + b.undecided;
+  skipped = a.skipped + b.skipped;
+}
+
+-- ---- units
+
 -- the spans of tokens
 abbrev pub spans_of : List Token → List Span
 spans_of tokens = map (λ t. t.span) tokens
@@ -59,15 +76,44 @@ pub record Prints (bytes : List ℕ) (tokens : List Token) (f : FunctionTree) : 
   pub unit : UnitTree
   pub node : Node
   pub small : IsSmall bytes unit
-  pub printed : unit_tokens unit ≡ map (lexeme_of bytes) tokens
+  pub printed : unit_tokens unit ≡ lexemes_of bytes tokens
   pub laid_out : unit_laid_out (spans_of tokens) unit ≡ defines node f
 
--- A lawful text of these bytes, and the status that goes with it:
--- a text without a token has the summary alone;
--- one whose tokens no tree of the small form prints has a skip line at its first token, and the summary;
--- and one whose tokens such a tree prints has the records of lawful findings, one for each candidate in order, and the
--- summary with their counts.
-pub data IsLawfulText (bytes : List ℕ) : List ℕ → Status → Type 0 where
-  no_token : IsCut bytes [] → IsLawfulText bytes (summary_text nothing_counted) Stable
-  other_form : {first : Token} {others : List Token} → IsCut bytes (first ∷ others) → ((f : FunctionTree) → Prints bytes (first ∷ others) f → ⊥) → IsLawfulText bytes (other_form_text bytes first.span.from ++ summary_text one_skipped) Stable
-  judged : {tokens : List Token} {f : FunctionTree} (findings : List Finding) → IsCut bytes tokens → Prints bytes tokens f → AreLawful bytes f (candidates f) findings → IsLawfulText bytes (findings_text bytes f (candidates f) findings ++ summary_text (one_judged findings)) (status_of (unstable_count findings))
+-- these tokens are printed by an empty unit, a `;`
+pub record IsEmpty (bytes : List ℕ) (tokens : List Token) : Type 0 where
+  pub node : Node
+  pub printed : unit_tokens (empty_unit node) ≡ lexemes_of bytes tokens
+
+-- What is written of a unit of these tokens, and what it counts for:
+-- an empty unit is accepted without a word;
+-- a unit that no tree of the small form prints has a skip line at its first token;
+-- and one that such a tree prints has the records of lawful findings, one for each candidate in order.
+pub data IsUnitText (bytes : List ℕ) : List Token → List ℕ → Counts → Type 0 where
+  accepted : {tokens : List Token} → IsEmpty bytes tokens → IsUnitText bytes tokens [] nothing_counted
+  other_form : {first : Token} {others : List Token} → (IsEmpty bytes (first ∷ others) → ⊥) → ((f : FunctionTree) → Prints bytes (first ∷ others) f → ⊥)
+      → IsUnitText bytes (first ∷ others) (other_form_text bytes first.span.from) one_skipped
+  judged : {tokens : List Token} {f : FunctionTree} (findings : List Finding) → Prints bytes tokens f → AreLawful bytes f (candidates f) findings
+      → IsUnitText bytes tokens (findings_text bytes f (candidates f) findings) (one_judged findings)
+
+-- the tokens of a unit, among those of its file
+abbrev pub tokens_of_piece : List Token → Piece → List Token
+tokens_of_piece tokens p = take (p.to - p.from) (drop p.from tokens)
+
+-- what is written of units, one after the other, and their counts together
+pub data AreUnitTexts (bytes : List ℕ) (tokens : List Token) : List Piece → List ℕ → Counts → Type 0 where
+  no_unit : AreUnitTexts bytes tokens [] [] nothing_counted
+  then_unit : {p : Piece} {ps : List Piece} {text others : List ℕ} {counts more : Counts} → IsUnitText bytes (tokens_of_piece tokens p) text counts
+      → AreUnitTexts bytes tokens ps others more → AreUnitTexts bytes tokens (p ∷ ps) (text ++ others) (counts_sum counts more)
+
+-- ---- the text
+
+-- A lawful text of these bytes, and the status that goes with it: what is written of each unit of the bytes, in order, and
+-- then the summary with their counts.
+pub record IsLawfulText (bytes : List ℕ) (text : List ℕ) (status : Status) : Type 0 where
+  pub tokens : List Token
+  pub cut : IsCut bytes tokens
+  pub lines : List ℕ
+  pub counts : Counts
+  pub units : AreUnitTexts bytes (kept_tokens bytes tokens) (units_of bytes (kept_tokens bytes tokens) (notes_of bytes tokens)) lines counts
+  pub same_text : text ≡ lines ++ summary_text counts
+  pub same_status : status ≡ status_of counts.unstable

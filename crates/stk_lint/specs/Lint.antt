@@ -1,8 +1,16 @@
 -- What the top call does: how it ends, what it wrote, and what it tells of a failure.
-use Rattle.std.specs.Prelude.{◌≡◌, ℕ, ◌⊎◌, List, [], Option, Some, codes}
+use Rattle.std.specs.Prelude.{◌≡◌, ℕ, ◌≤◌, ◌⊎◌, List, [], length, Option, Some, Result, Ok, Err, codes}
 use Rattle.stk_base.specs.declared.status.Status.{Status}
 use Rattle.stk_base.specs.declared.status.Status.TheVariants.{Stable, Found, Unsure, BadWords, ReadFault, WriteFault, TooLarge, NoMemory}
 use Rattle.stk_base.specs.Streams.{Appended, AppendedFront, IsFlushed}
+use Rattle.stk_lex.specs.declared.token.Token.{Token}
+use Rattle.stk_lex.specs.Cut.{IsCut, AreSpans}
+use Rattle.stk_decl.specs.declared.skimming.Skimmed.{Skimmed}
+use Rattle.stk_decl.specs.declared.cutting.Piece.{Piece}
+use Rattle.stk_decl.specs.Skimming.{kept_tokens, notes_of}
+use Rattle.stk_decl.specs.Units.{units_of}
+use Rattle.stk_lint.specs.declared.lint.Stop.{Stop}
+use Rattle.stk_lint.specs.declared.lint.Stop.TheVariants as stops
 use Rattle.stk_lint.specs.LawfulText.{IsLawfulText}
 
 -- the records were written: the run ended stable or found something
@@ -47,6 +55,28 @@ pub record HasWrittenFront (left_before left_after taken_before taken_after : Op
   pub lawful : IsLawfulText bytes text status
   pub read : (left : List ℕ) → left_before ≡ Some left → (bytes ≡ left) × (left_after ≡ Some [])
   pub written : AppendedFront taken_before taken_after text
+
+-- what skimming leaves of the tokens of an input
+pub record IsSkimmedFrom (bytes : List ℕ) (skimmed : Skimmed) : Type 0 where
+  pub tokens : List Token
+  pub cut : IsCut bytes tokens
+  pub spans : AreSpans (length bytes) 0 tokens
+  pub few : length tokens ≤ length bytes
+  pub same_tokens : skimmed.tokens ≡ kept_tokens bytes tokens
+  pub same_notes : skimmed.notes ≡ notes_of bytes tokens
+
+-- these are the units of an input, among the tokens of it that skimming keeps
+pub record AreUnitsOf (bytes : List ℕ) (kept : List Token) (pieces : List Piece) : Type 0 where
+  pub tokens : List Token
+  pub cut : IsCut bytes tokens
+  pub same_tokens : kept ≡ kept_tokens bytes tokens
+  pub same_pieces : pieces ≡ units_of bytes kept (notes_of bytes tokens)
+
+-- the status after the text was written, or after what stopped that
+abbrev pub status_after : Result Status Stop → Status
+status_after (Ok status) = status
+status_after (Err stops.WriteFault) = WriteFault
+status_after (Err stops.NoMemory) = NoMemory
 
 -- the same of one sink and bytes that are given
 pub record TookText (bytes : List ℕ) (taken_before taken_after : Option (List ℕ)) (flushed : ℕ) (status : Status) : Type 0 where

@@ -1,8 +1,10 @@
 -- The text of records: places, starts, findings and the summary.
-use Rattle.std.specs.Prelude.{◌≡◌, ℕ, ◌+◌, ◌==◌, Bool, List, [], ◌∷◌, ◌++◌, ℤ, Option, Some, None, take, count_by, codes, decimal, if◌then◌else◌}
+use Rattle.std.specs.Prelude.{ℕ, ◌==◌, ◌&&◌, nat_le, min, List, [], ◌∷◌, ◌++◌, ℤ, Option, Some, None, length, map, codes, decimal, if◌then◌else◌}
 use Rattle.std.specs.Fmt.{signed_decimal}
 use Rattle.stk_base.specs.declared.span.Span.{Span}
+use Rattle.stk_base.specs.declared.token.Place.{Place}
 use Rattle.stk_base.specs.Text.{text_of}
+use Rattle.stk_lex.specs.Placing.{place_of}
 use Rattle.stk_tree.specs.declared.node.Node.{Node}
 use Rattle.stk_tree.specs.Syntax.{ExprTree, ExprFormTree, DeclrTree, DeclrTrees, DeclarationTree, StmtTree, StmtFormTree, PartTree, PartTrees, ParamTrees, FunctionTree}
 use Rattle.stk_tree.specs.Syntax.{expression, binary, some_expression, declarator, declaration, no_declarators, then_declarator, plain, some_initialiser, statement, if_statement, no_statement, return_statement, local, run, no_parts, then_part, no_parameters, then_parameter, parameter, function}
@@ -16,22 +18,24 @@ use Rattle.stk_meaning.specs.declared.inputs.Inputs.{Inputs}
 use Rattle.stk_meaning.specs.Runs.{body_of, parameters_of}
 use Rattle.stk_lint.specs.declared.records.Counts.{Counts}
 
--- the line of a byte: 1 more than the newlines before it
-abbrev pub line_of : List ℕ → ℕ → ℕ
-line_of bytes at = count_by (λ b. b == 10) (take at bytes) + 1
+-- a byte of a file's name as it is printed: itself from 32 to 126, and else `?`
+abbrev pub printed_byte : ℕ → ℕ
+printed_byte b = if nat_le 32 b && nat_le b 126 then b else 63
 
--- the column behind these bytes, where the column before them is this one
-abbrev pub column_behind : ℕ → List ℕ → ℕ
-column_behind column [] = column
-column_behind column (b ∷ bs) = column_behind (if b == 10 then 1 else column + 1) bs
+-- the name of a file as it is printed; `-` where no line marker gave one
+abbrev pub file_text : List ℕ → Option Span → List ℕ
+file_text bytes (Some name) = map printed_byte (text_of bytes name)
+file_text bytes None = codes "-"
 
--- the column of a byte: 1 more than the bytes before it on its line
-abbrev pub column_of : List ℕ → ℕ → ℕ
-column_of bytes at = column_behind 1 (take at bytes)
+-- `:LINE:COLUMN`
+abbrev pub position_text : Place → List ℕ
+position_text p = codes ":" ++ decimal p.line ++ codes ":" ++ decimal p.column
 
--- `-:LINE:COLUMN`, the place of a byte in the input
+-- `FILE:LINE:COLUMN`, the place of a byte by the line markers; behind the input it is the place of its end
 abbrev pub place_text : List ℕ → ℕ → List ℕ
-place_text bytes at = codes "-:" ++ decimal (line_of bytes at) ++ codes ":" ++ decimal (column_of bytes at)
+place_text bytes at =
+    let p : Place = place_of bytes (min (length bytes) at) in
+    file_text bytes p.file ++ position_text p
 
 -- the nodes of an expression, its operands first
 abbrev mutual

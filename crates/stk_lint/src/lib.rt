@@ -12,7 +12,7 @@ mod set_laws;
 pub use judging::judge;
 pub use lint::{LIMIT, lint_main};
 pub use records::Counts;
-pub use report::{Report, report_of};
+pub use report::{UnitText, unit_text};
 pub use set_laws::{each_member_is_needed, sufficient_set_has_member};
 
 #[cfg(test)]

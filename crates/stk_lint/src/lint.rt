@@ -1,13 +1,22 @@
 //! The top call.
 
-ghost use Rattle.std.specs.Prelude.{◌≡◌, ◌≢◌, ◌↔◌, ◌⊎◌, ◌≤◌, ◌<◌, ◌++◌, ℕ, List, [], length, Option, vec_len, IfOk, IfErr, OnOk, OnErr, IsOk};
+ghost use Rattle.std.specs.Prelude.{◌≡◌, ◌↔◌, ◌⊎◌, ◌≤◌, ◌<◌, ℕ, List, length, Some, Err, IfOk, OnOk, OnErr};
 ghost use Rattle.stk_base.specs.Causes.{Rose, HasCause};
 ghost use Rattle.stk_base.specs.Streams.{Came, Appended, AppendedFront, IsFlushed};
-ghost use Rattle.stk_lint.specs.Lint.{IsWritten, IsUnread, fault_line, HasWritten, HasWrittenFront, TookText, TookFront};
+ghost use Rattle.stk_decl.specs.Units.{AreJoined};
+ghost use Rattle.stk_lint.specs.Records.{summary_text};
+ghost use Rattle.stk_lint.specs.LawfulText.{status_of};
+ghost use Rattle.stk_lint.specs.Judged.{WroteUnit, WroteUnitFront, WroteUnits, WroteUnitsFront};
+ghost use Rattle.stk_lint.specs.Lint.{IsWritten, IsUnread, fault_line, HasWritten, HasWrittenFront, IsSkimmedFrom, AreUnitsOf, TookText, TookFront, status_after};
 
-use crate::report::report_of;
+use crate::records::{Counts, add_summary};
+use crate::report::unit_text;
 use std::alloc::Global;
-use stk_base::{Failed, NoMemory, ReadAll, Sink, Source, Status, read_all, write_all};
+use stk_base::{
+    Failed, List, NoMemory, ReadAll, Sink, Source, Status, read_all, write_all,
+};
+use stk_decl::{Piece, Skimmed, cut, skim};
+use stk_lex::{Places, Token, lex};
 
 /// The most bytes that an input may have.
 pub const LIMIT: u64 = 16_777_216;
@@ -37,22 +46,192 @@ fn deliver<K: Sink>(out: &mut K, text: &[u8]) -> Result<(), Failed>
     out.flush()
 }
 
+// Why the records end early: the output can't be written, or memory ran out.
+#[derive(Clone, Copy, Debug, PartialEq, Eq)]
+enum Stop {
+    WriteFault,
+    NoMemory,
+}
+
+impl From<Failed> for Stop {
+    ghost use Rattle.stk_lint.specs.declared.lint.Stop.TheVariants as stops;
+
+    ghost from_gives = { λ _ e. e ≡ stops.WriteFault };
+
+    fn from(_: Failed) -> Self {
+        Stop::WriteFault
+    }
+}
+
+impl From<NoMemory> for Stop {
+    ghost use Rattle.stk_lint.specs.declared.lint.Stop.TheVariants as stops;
+
+    ghost from_gives = { λ _ e. e ≡ stops.NoMemory };
+
+    fn from(_: NoMemory) -> Self {
+        Stop::NoMemory
+    }
+}
+
+// The units of an input: the tokens that skimming keeps, and where each unit's stand.
+struct Units {
+    tokens: List<Token>,
+    pieces: Vec<Piece>,
+}
+
+// The tokens of an input that skimming keeps, and its notes.
+fn skimmed(alloc: Global, bytes: &[u8]) -> Result<Skimmed, NoMemory>
+    requires { length bytes.now ≤ 16777216 }
+    ensures { IfOk result (IsSkimmedFrom bytes.now) }
+{
+    let tokens = lex(alloc, bytes)?;
+    skim(alloc, bytes, tokens.as_slice())
+}
+
+// Cuts an input into its units.
+fn units(alloc: Global, bytes: &[u8]) -> Result<Units, NoMemory>
+    requires { length bytes.now ≤ 16777216 }
+    ensures are { IfOk result (λ units. AreUnitsOf bytes.now units.tokens units.pieces.items) }
+    ensures joined { IfOk result (λ units. AreJoined 0 (length units.tokens) units.pieces.items) }
+    ensures few { IfOk result (λ units. length units.tokens ≤ 16777216) }
+{
+    let skimmed = skimmed(alloc, bytes)?;
+    let pieces = cut(alloc, bytes, &skimmed)?;
+    let Skimmed { tokens, .. } = skimmed;
+    Ok(Units { tokens, pieces })
+}
+
+// Judges a unit and writes its records. The answer is what it counts for.
+fn write_unit<K: Sink>(
+    alloc: Global,
+    input: &Places,
+    tokens: &[Token],
+    out: &mut K,
+) -> Result<Counts, Stop>
+    requires some { 0 < length tokens.now }
+    requires few { length tokens.now ≤ 16777216 }
+    ensures written { IfOk result (WroteUnit input.now tokens.now (K.taken out.old) (K.taken out.new)) }
+    ensures front { OnErr result (WroteUnitFront input.now tokens.now (K.taken out.old) (K.taken out.new)) }
+    ensures later { K.faults out.old ≤ K.faults out.new }
+    ensures fault { result ≡ Err Stop.WriteFault → Rose (K.faults out.old) (K.faults out.new) }
+{
+    let unit = unit_text(alloc, input, tokens)?;
+    write_all(out, unit.text.as_slice())?;
+    Ok(unit.counts)
+}
+
+// Judges units and writes their records, one after the other. The answer is what they count for together.
+fn write_units<K: Sink>(
+    alloc: Global,
+    input: &Places,
+    tokens: &[Token],
+    pieces: &[Piece],
+    out: &mut K,
+) -> Result<Counts, Stop>
+    requires few { length tokens.now ≤ 16777216 }
+    requires joined { AreJoined 0 (length tokens.now) pieces.now }
+    ensures written { IfOk result (WroteUnits input.now tokens.now pieces.now (K.taken out.old) (K.taken out.new)) }
+    ensures front { OnErr result (WroteUnitsFront input.now tokens.now pieces.now (K.taken out.old) (K.taken out.new)) }
+    ensures later { K.faults out.old ≤ K.faults out.new }
+    ensures fault { result ≡ Err Stop.WriteFault → Rose (K.faults out.old) (K.faults out.new) }
+{
+    let mut counts = Counts::nothing();
+    for piece in pieces {
+        let unit = &tokens[piece.from as usize..piece.to as usize];
+        let counted = write_unit(alloc, input, unit, out)?;
+        counts = counts.plus(counted);
+    }
+    Ok(counts)
+}
+
+// Writes the summary and flushes what was written.
+fn finish<K: Sink>(alloc: Global, counts: Counts, out: &mut K) -> Result<(), Stop>
+    ensures all { OnOk result (Appended (K.taken out.old) (K.taken out.new) (summary_text counts)) }
+    ensures flushed { OnOk result (IsFlushed (K.taken out.new) (K.flushed out.new)) }
+    ensures front { OnErr result (AppendedFront (K.taken out.old) (K.taken out.new) (summary_text counts)) }
+    ensures later { K.faults out.old ≤ K.faults out.new }
+    ensures fault { result ≡ Err Stop.WriteFault → Rose (K.faults out.old) (K.faults out.new) }
+{
+    let mut text = Vec::new(alloc);
+    add_summary(&mut text, counts)?;
+    deliver(out, text.as_slice())?;
+    Ok(())
+}
+
+// The status where so many candidates are unstable.
+fn status_of(unstable: u64) -> Status
+    ensures { result ≡ status_of unstable }
+{
+    if unstable == 0 {
+        Status::Stable
+    } else {
+        Status::Found
+    }
+}
+
+// Writes the records of units and the summary, and flushes them.
+fn write_text<K: Sink>(
+    alloc: Global,
+    input: &Places,
+    units: &Units,
+    out: &mut K,
+) -> Result<Status, Stop>
+    requires are { AreUnitsOf input.now units.now.tokens units.now.pieces.items }
+    requires joined { AreJoined 0 (length units.now.tokens) units.now.pieces.items }
+    requires few { length units.now.tokens ≤ 16777216 }
+    ensures text { IfOk result (TookText input.now (K.taken out.old) (K.taken out.new) (K.flushed out.new)) }
+    ensures front { OnErr result (TookFront input.now (K.taken out.old) (K.taken out.new)) }
+    ensures fault { result ≡ Err Stop.WriteFault → Rose (K.faults out.old) (K.faults out.new) }
+{
+    let counts = write_units(
+        alloc,
+        input,
+        units.tokens.as_slice(),
+        units.pieces.as_slice(),
+        out,
+    )?;
+    finish(alloc, counts, out)?;
+    Ok(status_of(counts.unstable))
+}
+
+// The units of an input, and the places of its bytes.
+fn prepared<'a>(alloc: Global, bytes: &'a [u8]) -> Result<(Units, Places<'a>), NoMemory>
+    requires { length bytes.now ≤ 16777216 }
+    ensures are { IfOk result (λ x. AreUnitsOf bytes.now x.0.tokens x.0.pieces.items) }
+    ensures joined { IfOk result (λ x. AreJoined 0 (length x.0.tokens) x.0.pieces.items) }
+    ensures few { IfOk result (λ x. length x.0.tokens ≤ 16777216) }
+    ensures input { IfOk result (λ x. x.1 ≡ bytes.now) }
+{
+    let units = units(alloc, bytes)?;
+    let input = Places::new(alloc, bytes)?;
+    Ok((units, input))
+}
+
+// How the writing of the text ends.
+fn ended(written: Result<Status, Stop>) -> Status
+    ensures { result ≡ status_after written }
+{
+    match written {
+        Ok(status) => status,
+        Err(Stop::WriteFault) => Status::WriteFault,
+        Err(Stop::NoMemory) => Status::NoMemory,
+    }
+}
+
 // Judges what was read, writes its records and flushes them.
 fn answer<K: Sink>(alloc: Global, bytes: &[u8], out: &mut K) -> Status
     requires { length bytes.now ≤ 16777216 }
     ensures only { IsWritten result ⊎ ((result ≡ Status.WriteFault) ⊎ (result ≡ Status.NoMemory)) }
     ensures text { IsWritten result → TookText bytes.now (K.taken out.old) (K.taken out.new) (K.flushed out.new) result }
     ensures front { result ≡ Status.WriteFault → TookFront bytes.now (K.taken out.old) (K.taken out.new) }
-    ensures nothing { result ≡ Status.NoMemory → K.taken out.new ≡ K.taken out.old }
+    ensures no_memory { result ≡ Status.NoMemory → (K.taken out.new ≡ K.taken out.old) ⊎ TookFront bytes.now (K.taken out.old) (K.taken out.new) }
     ensures fault { result ≡ Status.WriteFault → Rose (K.faults out.old) (K.faults out.new) }
 {
-    let Ok(report) = report_of(alloc, bytes) else {
+    let Ok((units, input)) = prepared(alloc, bytes) else {
         return Status::NoMemory;
     };
-    match deliver(out, report.text.as_slice()) {
-        Ok(()) => report.status,
-        Err(Failed) => Status::WriteFault,
-    }
+    let written = write_text(alloc, &input, &units, out);
+    ended(written)
 }
 
 // Reads the input, judges it and writes its records.
@@ -60,7 +239,7 @@ fn run<S: Source, K: Sink>(alloc: Global, words: &[String], source: &mut S, out:
     ensures written { IsWritten result → HasWritten (S.left source.old) (S.left source.new) (K.taken out.old) (K.taken out.new) (K.flushed out.new) result }
     ensures front { result ≡ Status.WriteFault → HasWrittenFront (S.left source.old) (S.left source.new) (K.taken out.old) (K.taken out.new) }
     ensures nothing { IsUnread result → (K.taken out.new ≡ K.taken out.old) × (K.flushed out.new ≡ K.flushed out.old) }
-    ensures no_memory { result ≡ Status.NoMemory → K.taken out.new ≡ K.taken out.old }
+    ensures no_memory { result ≡ Status.NoMemory → (K.taken out.new ≡ K.taken out.old) ⊎ HasWrittenFront (S.left source.old) (S.left source.new) (K.taken out.old) (K.taken out.new) }
     ensures only { IsWritten result ⊎ (IsUnread result ⊎ ((result ≡ Status.WriteFault) ⊎ (result ≡ Status.NoMemory))) }
     ensures bad_words { (result ≡ Status.BadWords) ↔ (0 < length words.now) }
     ensures unread { 0 < length words.now → (S.left source.new ≡ S.left source.old) × (S.faults source.new ≡ S.faults source.old) }
@@ -102,12 +281,14 @@ fn tell<E: Sink>(fault: &mut E, status: Status)
 /// a third sink. No word is legal yet. The answer says how it ended:
 ///
 /// - `Stable` and `Found`: the source was read to its end, and the sink took a text that is lawful for its bytes and was
-///   flushed; `Found` where at least one candidate is unstable.
+///   flushed; `Found` where at least one candidate is unstable. What is written of a unit is written as soon as the unit
+///   has been judged.
 /// - `BadWords`: exactly where there are words. The source is unread.
 /// - `ReadFault`: only where the source counted a fault.
 /// - `TooLarge`: exactly where more than 16,777,216 bytes came before the end and before any failed call.
 /// - `WriteFault`: only where the sink counted a fault. It took some front of a lawful text.
-/// - `NoMemory`: an allocation was refused, which may come anywhere. The sink took nothing.
+/// - `NoMemory`: an allocation was refused, which may come anywhere. The sink took nothing, or some front of a lawful
+///   text.
 ///
 /// After `BadWords`, `ReadFault` and `TooLarge` the sink took nothing. Where the third sink counted no fault, it took
 /// exactly the line of the failure, and nothing after `Stable` and `Found`; a fault of it changes nothing else.
@@ -121,7 +302,7 @@ pub fn lint_main<S: Source, K: Sink, E: Sink>(
     ensures written { IsWritten result → HasWritten (S.left source.old) (S.left source.new) (K.taken out.old) (K.taken out.new) (K.flushed out.new) result }
     ensures front { result ≡ Status.WriteFault → HasWrittenFront (S.left source.old) (S.left source.new) (K.taken out.old) (K.taken out.new) }
     ensures nothing { IsUnread result → (K.taken out.new ≡ K.taken out.old) × (K.flushed out.new ≡ K.flushed out.old) }
-    ensures no_memory { result ≡ Status.NoMemory → K.taken out.new ≡ K.taken out.old }
+    ensures no_memory { result ≡ Status.NoMemory → (K.taken out.new ≡ K.taken out.old) ⊎ HasWrittenFront (S.left source.old) (S.left source.new) (K.taken out.old) (K.taken out.new) }
     ensures only { IsWritten result ⊎ (IsUnread result ⊎ ((result ≡ Status.WriteFault) ⊎ (result ≡ Status.NoMemory))) }
 
     // When each refusal comes.

@@ -1,12 +1,15 @@
 //! The text of records.
 
-ghost use Rattle.std.specs.Prelude.{◌≡◌, ◌++◌, ◌∷◌, [], ◌==◌, ◌≤◌, IfOk, map, take, length, codes, decimal, count_by};
+ghost use Rattle.std.specs.Prelude.{◌≡◌, ◌++◌, ◌∷◌, [], ◌≤◌, IfOk, map, length, codes, decimal};
 ghost use Rattle.std.specs.Fmt.{signed_decimal};
 ghost use Rattle.stk_tree.specs.View.{view_expression, view_declarator, declarators, view_statement, view_part, parts, view_parameter, parameters, view_function};
-ghost use Rattle.stk_lint.specs.Records.{line_of, column_of, column_behind, place_text, expression_nodes, declarator_nodes, declarators_nodes, statement_nodes, part_nodes, parts_nodes, function_nodes, beginning, node_place, declarator_name, function_name, key_text, more_keys, start_text, kind_text, shown_text, need_text, needs_text, report_text, hit_text, finding_text, counted, found_text, left_out_text, summary_text, other_form_text};
+ghost use Rattle.stk_lint.specs.Records.{printed_byte, file_text, position_text, place_text, expression_nodes, declarator_nodes, declarators_nodes, statement_nodes, part_nodes, parts_nodes, function_nodes, beginning, node_place, declarator_name, function_name, key_text, more_keys, start_text, kind_text, shown_text, need_text, needs_text, report_text, hit_text, finding_text, counted, found_text, left_out_text, summary_text, other_form_text};
+ghost use Rattle.stk_lint.specs.LawfulText.{nothing_counted, counts_sum};
+ghost use Rattle.stk_lint.specs.Judged.{AreAtMost};
 
 use itoa::Buffer;
-use stk_base::NoMemory;
+use stk_base::{NoMemory, Place, Span};
+use stk_lex::Places;
 use stk_meaning::{Candidate, Finding, Inputs, Need, UbKind, parameters_of};
 use stk_tree::{Declr, Function, Node, Param};
 
@@ -18,6 +21,36 @@ pub struct Counts {
     pub unstable: u64,
     pub undecided: u64,
     pub skipped: u64,
+}
+
+impl Counts {
+    /// Nothing is counted yet.
+    pub fn nothing() -> Counts
+        ensures { result ≡ nothing_counted }
+    {
+        Counts {
+            functions: 0,
+            candidates: 0,
+            unstable: 0,
+            undecided: 0,
+            skipped: 0,
+        }
+    }
+
+    /// The counts of two parts of a file together.
+    pub fn plus(self, other: Counts) -> Counts
+        requires self_few { AreAtMost 16777216 self }
+        requires other_few { AreAtMost 16777216 other }
+        ensures { result ≡ counts_sum self other }
+    {
+        Counts {
+            functions: self.functions + other.functions,
+            candidates: self.candidates + other.candidates,
+            unstable: self.unstable + other.unstable,
+            undecided: self.undecided + other.undecided,
+            skipped: self.skipped + other.skipped,
+        }
+    }
 }
 
 // Adds bytes to a text.
@@ -42,33 +75,55 @@ fn add_number(text: &mut Vec<u8>, number: i128) -> Result<(), NoMemory>
     add(text, buffer.format(number).as_bytes())
 }
 
-// How many newlines there are.
-fn newlines(bytes: &[u8]) -> usize
-    ensures { result ≡ count_by (λ b. b == 10) bytes.now }
+// A byte of a file's name as it is printed.
+fn printed_byte(byte: u8) -> u8
+    ensures { result ≡ printed_byte byte }
 {
-    bytes.iter().filter(|byte| **byte == b'\n').count()
+    if 32 <= byte && byte <= 126 {
+        byte
+    } else {
+        b'?'
+    }
 }
 
-// The column behind these bytes.
-fn column_behind(bytes: &[u8]) -> usize
-    ensures { result ≡ column_behind 1 bytes.now }
+// Adds the bytes of a file's name as they are printed.
+fn add_printed(text: &mut Vec<u8>, name: &[u8]) -> Result<(), NoMemory>
+    ensures { IfOk result (λ _. text.new.items ≡ text.old.items ++ map printed_byte name.now) }
 {
-    let mut column = 1;
-    for byte in bytes {
-        column = if *byte == b'\n' { 1 } else { column + 1 };
+    for byte in name {
+        text.push(printed_byte(*byte))?;
     }
-    column
+    Ok(())
+}
+
+// Adds the name of a file.
+fn add_file(text: &mut Vec<u8>, bytes: &[u8], file: Option<Span>) -> Result<(), NoMemory>
+    ensures { IfOk result (λ _. text.new.items ≡ text.old.items ++ file_text bytes.now file) }
+{
+    match file {
+        Some(name) => add_printed(text, name.text(bytes)),
+        None => add(text, b"-"),
+    }
+}
+
+// Adds the line and the column of a place.
+fn add_position(text: &mut Vec<u8>, place: Place) -> Result<(), NoMemory>
+    ensures { IfOk result (λ _. text.new.items ≡ text.old.items ++ position_text place) }
+{
+    add(text, b":")?;
+    add_count(text, u64::from(place.line))?;
+    add(text, b":")?;
+    add_count(text, u64::from(place.column))
 }
 
 // Adds the place of a byte.
-fn add_place(text: &mut Vec<u8>, bytes: &[u8], at: u32) -> Result<(), NoMemory>
-    ensures { IfOk result (λ _. text.new.items ≡ text.old.items ++ place_text bytes.now at) }
+fn add_place(text: &mut Vec<u8>, input: &Places, at: u32) -> Result<(), NoMemory>
+    ensures { IfOk result (λ _. text.new.items ≡ text.old.items ++ place_text input.now at) }
 {
-    let (before, _) = bytes.split_at(bytes.len().min(at as usize));
-    add(text, b"-:")?;
-    add_count(text, newlines(before) as u64 + 1)?;
-    add(text, b":")?;
-    add_count(text, column_behind(before) as u64)
+    let bytes = input.bytes();
+    let place = input.place(bytes.len().min(at as usize));
+    add_file(text, bytes, place.file)?;
+    add_position(text, place)
 }
 
 // Where the node of this number begins.
@@ -84,20 +139,20 @@ fn beginning(nodes: &[Node], number: u32) -> u32
 }
 
 // Adds the name of a declarator.
-fn add_name(text: &mut Vec<u8>, bytes: &[u8], declr: &Declr) -> Result<(), NoMemory>
-    ensures { IfOk result (λ _. text.new.items ≡ text.old.items ++ declarator_name bytes.now (view_declarator declr.now)) }
+fn add_name(text: &mut Vec<u8>, input: &Places, declr: &Declr) -> Result<(), NoMemory>
+    ensures { IfOk result (λ _. text.new.items ≡ text.old.items ++ declarator_name input.now (view_declarator declr.now)) }
 {
     match declr.name {
-        Some(name) => add(text, name.text(bytes)),
+        Some(name) => add(text, name.text(input.bytes())),
         None => Ok(()),
     }
 }
 
 // Adds the key and the number of a parameter.
-fn add_key(text: &mut Vec<u8>, bytes: &[u8], declr: &Declr, number: i128) -> Result<(), NoMemory>
-    ensures { IfOk result (λ _. text.new.items ≡ text.old.items ++ key_text bytes.now (view_declarator declr.now) number) }
+fn add_key(text: &mut Vec<u8>, input: &Places, declr: &Declr, number: i128) -> Result<(), NoMemory>
+    ensures { IfOk result (λ _. text.new.items ≡ text.old.items ++ key_text input.now (view_declarator declr.now) number) }
 {
-    add_name(text, bytes, declr)?;
+    add_name(text, input, declr)?;
     add(text, b"=")?;
     add_number(text, number)
 }
@@ -105,11 +160,11 @@ fn add_key(text: &mut Vec<u8>, bytes: &[u8], declr: &Declr, number: i128) -> Res
 // Adds the keys of a start behind the first.
 fn add_more_keys(
     text: &mut Vec<u8>,
-    bytes: &[u8],
+    input: &Places,
     params: &[Param],
     numbers: &[i128],
 ) -> Result<(), NoMemory>
-    ensures { IfOk result (λ _. text.new.items ≡ text.old.items ++ more_keys bytes.now (parameters (map view_parameter params.now)) numbers.now) }
+    ensures { IfOk result (λ _. text.new.items ≡ text.old.items ++ more_keys input.now (parameters (map view_parameter params.now)) numbers.now) }
 {
     let mut rest = numbers;
     for param in params {
@@ -118,7 +173,7 @@ fn add_more_keys(
         };
         rest = behind;
         add(text, b" ")?;
-        add_key(text, bytes, &param.declr, *number)?;
+        add_key(text, input, &param.declr, *number)?;
     }
     Ok(())
 }
@@ -126,16 +181,16 @@ fn add_more_keys(
 // Adds a start.
 fn add_start(
     text: &mut Vec<u8>,
-    bytes: &[u8],
+    input: &Places,
     params: &[Param],
     numbers: &[i128],
 ) -> Result<(), NoMemory>
-    ensures { IfOk result (λ _. text.new.items ≡ text.old.items ++ start_text bytes.now (parameters (map view_parameter params.now)) numbers.now) }
+    ensures { IfOk result (λ _. text.new.items ≡ text.old.items ++ start_text input.now (parameters (map view_parameter params.now)) numbers.now) }
 {
     match (params.split_first(), numbers.split_first()) {
         (Some((param, params)), Some((number, numbers))) => {
-            add_key(text, bytes, &param.declr, *number)?;
-            add_more_keys(text, bytes, params, numbers)
+            add_key(text, input, &param.declr, *number)?;
+            add_more_keys(text, input, params, numbers)
         }
         (None, _) | (Some(_), None) => add(text, b"none"),
     }
@@ -158,18 +213,18 @@ fn kind_text(kind: UbKind) -> &'static [u8]
 // Adds what shows that a condition is needed.
 fn add_shown(
     text: &mut Vec<u8>,
-    bytes: &[u8],
+    input: &Places,
     function: &Function,
     shown: &Option<Inputs>,
 ) -> Result<(), NoMemory>
-    ensures { IfOk result (λ _. text.new.items ≡ text.old.items ++ shown_text bytes.now (view_function function.now) shown.now) }
+    ensures { IfOk result (λ _. text.new.items ≡ text.old.items ++ shown_text input.now (view_function function.now) shown.now) }
 {
     match shown {
         Some(start) => {
             add(text, b"; without it: ")?;
             add_start(
                 text,
-                bytes,
+                input,
                 parameters_of(function),
                 start.numbers.as_slice(),
             )
@@ -181,34 +236,34 @@ fn add_shown(
 // Adds the line of a condition of a set.
 fn add_need(
     text: &mut Vec<u8>,
-    bytes: &[u8],
+    input: &Places,
     function: &Function,
     nodes: &[Node],
     need: &Need,
 ) -> Result<(), NoMemory>
     requires { nodes.now ≡ function_nodes (view_function function.now) }
-    ensures { IfOk result (λ _. text.new.items ≡ text.old.items ++ need_text bytes.now (view_function function.now) need.now) }
+    ensures { IfOk result (λ _. text.new.items ≡ text.old.items ++ need_text input.now (view_function function.now) need.now) }
 {
     add(text, b"  needs ")?;
     add(text, kind_text(need.condition.kind))?;
     add(text, b" at ")?;
-    add_place(text, bytes, beginning(nodes, need.condition.node))?;
-    add_shown(text, bytes, function, &need.shown)?;
+    add_place(text, input, beginning(nodes, need.condition.node))?;
+    add_shown(text, input, function, &need.shown)?;
     add(text, b"\n")
 }
 
 fn add_needs(
     text: &mut Vec<u8>,
-    bytes: &[u8],
+    input: &Places,
     function: &Function,
     nodes: &[Node],
     needs: &[Need],
 ) -> Result<(), NoMemory>
     requires { nodes.now ≡ function_nodes (view_function function.now) }
-    ensures { IfOk result (λ _. text.new.items ≡ text.old.items ++ needs_text bytes.now (view_function function.now) needs.now) }
+    ensures { IfOk result (λ _. text.new.items ≡ text.old.items ++ needs_text input.now (view_function function.now) needs.now) }
 {
     for need in needs {
-        add_need(text, bytes, function, nodes, need)?;
+        add_need(text, input, function, nodes, need)?;
     }
     Ok(())
 }
@@ -216,33 +271,33 @@ fn add_needs(
 // Adds the line of a report's candidate.
 fn add_report(
     text: &mut Vec<u8>,
-    bytes: &[u8],
+    input: &Places,
     function: &Function,
     nodes: &[Node],
     candidate: Candidate,
 ) -> Result<(), NoMemory>
     requires { nodes.now ≡ function_nodes (view_function function.now) }
-    ensures { IfOk result (λ _. text.new.items ≡ text.old.items ++ report_text bytes.now (view_function function.now) candidate) }
+    ensures { IfOk result (λ _. text.new.items ≡ text.old.items ++ report_text input.now (view_function function.now) candidate) }
 {
-    add_place(text, bytes, beginning(nodes, candidate.node))?;
+    add_place(text, input, beginning(nodes, candidate.node))?;
     add(text, b": unstable: never entered in ")?;
-    add_name(text, bytes, &function.declr)?;
+    add_name(text, input, &function.declr)?;
     add(text, b"\n")
 }
 
 // Adds the line of the start that hits.
 fn add_hit(
     text: &mut Vec<u8>,
-    bytes: &[u8],
+    input: &Places,
     function: &Function,
     start: &Inputs,
 ) -> Result<(), NoMemory>
-    ensures { IfOk result (λ _. text.new.items ≡ text.old.items ++ hit_text bytes.now (view_function function.now) start.now) }
+    ensures { IfOk result (λ _. text.new.items ≡ text.old.items ++ hit_text input.now (view_function function.now) start.now) }
 {
     add(text, b"  hit: ")?;
     add_start(
         text,
-        bytes,
+        input,
         parameters_of(function),
         start.numbers.as_slice(),
     )?;
@@ -252,20 +307,20 @@ fn add_hit(
 /// Adds the record of a finding for a candidate of a function, whose nodes are these.
 pub fn add_finding(
     text: &mut Vec<u8>,
-    bytes: &[u8],
+    input: &Places,
     function: &Function,
     nodes: &[Node],
     candidate: Candidate,
     finding: &Finding,
 ) -> Result<(), NoMemory>
     requires { nodes.now ≡ function_nodes (view_function function.now) }
-    ensures { IfOk result (λ _. text.new.items ≡ text.old.items ++ finding_text bytes.now (view_function function.now) candidate finding.now) }
+    ensures { IfOk result (λ _. text.new.items ≡ text.old.items ++ finding_text input.now (view_function function.now) candidate finding.now) }
 {
     match finding {
         Finding::Unstable { start, needs } => {
-            add_report(text, bytes, function, nodes, candidate)?;
-            add_hit(text, bytes, function, start)?;
-            add_needs(text, bytes, function, nodes, needs.as_slice())
+            add_report(text, input, function, nodes, candidate)?;
+            add_hit(text, input, function, start)?;
+            add_needs(text, input, function, nodes, needs.as_slice())
         }
         Finding::Clear | Finding::Undecided { .. } => Ok(()),
     }
@@ -306,10 +361,10 @@ pub fn add_summary(text: &mut Vec<u8>, counts: Counts) -> Result<(), NoMemory>
     add_left_out(text, counts)
 }
 
-/// Adds the line of a text that isn't of a form that the program judges; its first token begins at this byte.
-pub fn add_other_form(text: &mut Vec<u8>, bytes: &[u8], at: u32) -> Result<(), NoMemory>
-    ensures { IfOk result (λ _. text.new.items ≡ text.old.items ++ other_form_text bytes.now at) }
+/// Adds the line of a unit that isn't of a form that the program judges; its first token begins at this byte.
+pub fn add_other_form(text: &mut Vec<u8>, input: &Places, at: u32) -> Result<(), NoMemory>
+    ensures { IfOk result (λ _. text.new.items ≡ text.old.items ++ other_form_text input.now at) }
 {
-    add_place(text, bytes, at)?;
+    add_place(text, input, at)?;
     add(text, b": skipped: other form\n")
 }

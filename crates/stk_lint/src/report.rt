@@ -1,29 +1,30 @@
-//! The text of records for an input, and the status that goes with it.
+//! What is written of a unit, and what it counts for.
 
-ghost use Rattle.std.specs.Prelude.{◌≡◌, ◌≤◌, ◌∷◌, ◌++◌, [], None, IfOk, IfSome, length};
+ghost use Rattle.std.specs.Prelude.{◌≡◌, ◌≤◌, ◌<◌, ◌∷◌, ◌↔◌, [], None, IfOk, IfSome, IsTrue, length};
 ghost use Rattle.stk_tree.specs.Syntax.{FunctionTree};
 ghost use Rattle.stk_tree.specs.View.{view_function, view_unit};
 ghost use Rattle.stk_meaning.specs.Forms.{IsPlain};
 ghost use Rattle.stk_meaning.specs.Parts.{conditions, candidates};
-ghost use Rattle.stk_lint.specs.Records.{function_nodes, summary_text, other_form_text};
-ghost use Rattle.stk_lint.specs.LawfulText.{unstable_count, status_of, nothing_counted, one_skipped, Prints, IsLawfulText};
-ghost use Rattle.stk_small.specs.Cut.{IsCut};
-ghost use Rattle.stk_lint.specs.Judged.{AddsFindings, IsJudged, IsReadAs, IsJudgedAs};
+ghost use Rattle.stk_lint.specs.Records.{function_nodes, other_form_text};
+ghost use Rattle.stk_lint.specs.LawfulText.{unstable_count, nothing_counted, one_skipped, IsEmpty, Prints, IsUnitText};
+ghost use Rattle.stk_lint.specs.Judged.{AddsFindings, IsJudged, IsReadAs};
 
 use crate::judging::judge;
 use crate::nodes::nodes_of;
-use crate::records::{Counts, add_finding, add_other_form, add_summary};
+use crate::records::{Counts, add_finding, add_other_form};
 use std::alloc::Global;
-use stk_base::{Boxed, NoMemory, Status};
+use stk_base::{Boxed, NoMemory};
+use stk_lex::{Places, Token};
+use stk_lexeme::lexeme_of;
 use stk_meaning::{Candidate, Condition, Finding, candidates_of, conditions_of};
-use stk_small::{Token, lex, read_small};
-use stk_tree::{Function, Node, Unit};
+use stk_small::read_small;
+use stk_tree::{Fixed, Function, Lexeme, Node, Unit};
 
-/// The text of the records of an input, and the status of the run that writes it.
+/// What is written of a unit, and what it counts for.
 #[derive(Debug, Drop)]
-pub struct Report {
+pub struct UnitText {
     pub text: Vec<u8>,
-    pub status: Status,
+    pub counts: Counts,
 }
 
 // 1 for a report and 0 for any other finding.
@@ -37,45 +38,34 @@ fn reports(finding: &Finding) -> u64
     }
 }
 
-// The status where so many candidates are unstable.
-fn status_of(unstable: u64) -> Status
-    ensures { result ≡ status_of unstable }
-{
-    if unstable == 0 {
-        Status::Stable
-    } else {
-        Status::Found
-    }
-}
-
 // Judges the candidates in order and adds their records to a text. The answer is how many of them are unstable.
 fn add_findings(
     alloc: Global,
-    bytes: &[u8],
+    input: &Places,
     function: &Function,
     nodes: &[Node],
     all: &[Condition],
     list: &[Candidate],
     text: &mut Vec<u8>,
 ) -> Result<u64, NoMemory>
-    requires plain { IsPlain bytes.now (view_function function.now) }
+    requires plain { IsPlain input.now (view_function function.now) }
     requires nodes { nodes.now ≡ function_nodes (view_function function.now) }
     requires all { all.now ≡ conditions (view_function function.now) }
-    ensures { IfOk result (AddsFindings bytes.now (view_function function.now) list.now text.old.items text.new.items) }
+    ensures { IfOk result (AddsFindings input.now (view_function function.now) list.now text.old.items text.new.items) }
 {
     let mut unstable: u64 = 0;
     for candidate in list {
-        let finding = judge(alloc, bytes, function, *candidate, all)?;
-        add_finding(text, bytes, function, nodes, *candidate, &finding)?;
+        let finding = judge(alloc, input.bytes(), function, *candidate, all)?;
+        add_finding(text, input, function, nodes, *candidate, &finding)?;
         unstable += reports(&finding);
     }
     Ok(unstable)
 }
 
-// The records of a function, and its summary.
-fn judged(alloc: Global, bytes: &[u8], function: &Function) -> Result<Report, NoMemory>
-    requires { IsPlain bytes.now (view_function function.now) }
-    ensures { IfOk result (λ report. IsJudged bytes.now (view_function function.now) report.text.items report.status) }
+// The records of a function.
+fn judged(alloc: Global, input: &Places, function: &Function) -> Result<UnitText, NoMemory>
+    requires { IsPlain input.now (view_function function.now) }
+    ensures { IfOk result (λ unit. IsJudged input.now (view_function function.now) unit.text.items unit.counts) }
 {
     let nodes = nodes_of(alloc, function)?;
     let all = conditions_of(alloc, function)?;
@@ -83,7 +73,7 @@ fn judged(alloc: Global, bytes: &[u8], function: &Function) -> Result<Report, No
     let mut text = Vec::new(alloc);
     let unstable = add_findings(
         alloc,
-        bytes,
+        input,
         function,
         nodes.as_slice(),
         all.as_slice(),
@@ -97,51 +87,47 @@ fn judged(alloc: Global, bytes: &[u8], function: &Function) -> Result<Report, No
         undecided: 0,
         skipped: 0,
     };
-    add_summary(&mut text, counts)?;
-    let status = status_of(unstable);
-    Ok(Report { text, status })
+    Ok(UnitText { text, counts })
 }
 
-// The text of an input without a token.
-fn empty(alloc: Global) -> Result<Report, NoMemory>
-    ensures { IfOk result (λ report. (report.text.items ≡ summary_text nothing_counted) × (report.status ≡ Status.Stable)) }
+// What is written of an empty unit: nothing.
+fn accepted(alloc: Global) -> UnitText
+    ensures { (result.text.items ≡ []) × (result.counts ≡ nothing_counted) }
 {
-    let mut text = Vec::new(alloc);
-    let counts = Counts {
-        functions: 0,
-        candidates: 0,
-        unstable: 0,
-        undecided: 0,
-        skipped: 0,
-    };
-    add_summary(&mut text, counts)?;
-    let status = Status::Stable;
-    Ok(Report { text, status })
+    let text = Vec::new(alloc);
+    let counts = Counts::nothing();
+    UnitText { text, counts }
 }
 
-// The text of an input that is of another form, whose first token begins at this byte.
-fn skipped(alloc: Global, bytes: &[u8], at: u32) -> Result<Report, NoMemory>
-    ensures { IfOk result (λ report. (report.text.items ≡ other_form_text bytes.now at ++ summary_text one_skipped) × (report.status ≡ Status.Stable)) }
+// What is written of a unit of another form, whose first token begins at this byte.
+fn skipped(alloc: Global, input: &Places, at: u32) -> Result<UnitText, NoMemory>
+    ensures { IfOk result (λ unit. (unit.text.items ≡ other_form_text input.now at) × (unit.counts ≡ one_skipped)) }
 {
     let mut text = Vec::new(alloc);
-    add_other_form(&mut text, bytes, at)?;
+    add_other_form(&mut text, input, at)?;
     let counts = Counts {
-        functions: 0,
-        candidates: 0,
-        unstable: 0,
-        undecided: 0,
         skipped: 1,
+        ..Counts::nothing()
     };
-    add_summary(&mut text, counts)?;
-    let status = Status::Stable;
-    Ok(Report { text, status })
+    Ok(UnitText { text, counts })
 }
 
-// The unit that the tokens of an input print, its nodes laid out, or `None` exactly where no tree of the small form prints
-// them.
+// Whether these tokens are an empty unit, a `;`.
+fn is_empty(bytes: &[u8], tokens: &[Token]) -> bool
+    ensures { IsTrue result ↔ IsEmpty bytes.now tokens.now }
+{
+    match tokens {
+        [token] => matches!(
+            lexeme_of(bytes, *token),
+            Lexeme::Fixed(Fixed::Semicolon)
+        ),
+        _ => false,
+    }
+}
+
+// The unit that tokens print, its nodes laid out, or `None` exactly where no tree of the small form prints them.
 fn unit_of(alloc: Global, bytes: &[u8], tokens: &[Token]) -> Result<Option<Boxed<Unit>>, NoMemory>
-    requires size { length bytes.now ≤ 16777216 }
-    requires cut { IsCut bytes.now tokens.now }
+    requires { length tokens.now ≤ 16777216 }
     ensures found { IfOk result (λ found. IfSome found (λ unit. IsReadAs bytes.now tokens.now (view_unit unit))) }
     ensures none { IfOk result (λ found. found ≡ None → (f : FunctionTree) → Prints bytes.now tokens.now f → ⊥) }
 {
@@ -151,60 +137,47 @@ fn unit_of(alloc: Global, bytes: &[u8], tokens: &[Token]) -> Result<Option<Boxed
     }
 }
 
-// The text of an input that is read as this unit.
-fn report_unit(
+// What is written of a unit that is read as this tree.
+fn judged_unit(
     alloc: Global,
-    bytes: &[u8],
+    input: &Places,
     tokens: &[Token],
     unit: &Unit,
-) -> Result<Report, NoMemory>
-    requires { IsReadAs bytes.now tokens.now (view_unit unit.now) }
-    ensures { IfOk result (λ report. IsJudgedAs bytes.now tokens.now report.text.items report.status) }
+) -> Result<UnitText, NoMemory>
+    requires { IsReadAs input.now tokens.now (view_unit unit.now) }
+    ensures { IfOk result (λ unit. IsUnitText input.now tokens.now unit.text.items unit.counts) }
 {
     let _read = tokens;
     match unit {
         Unit::Defines(_, function) => {
-            let report = judged(alloc, bytes, function)?;
-            Ok(report)
+            let unit = judged(alloc, input, function)?;
+            Ok(unit)
         }
-        Unit::Empty(_) | Unit::Declares(_, _) => {
-            let report = empty(alloc)?;
-            Ok(report)
-        }
+        Unit::Empty(_) | Unit::Declares(_, _) => Ok(accepted(alloc)),
     }
 }
 
-// The text of an input of these tokens.
-fn report_on(alloc: Global, bytes: &[u8], tokens: &[Token]) -> Result<Report, NoMemory>
-    requires size { length bytes.now ≤ 16777216 }
-    requires cut { IsCut bytes.now tokens.now }
-    ensures lawful { IfOk result (λ report. IsLawfulText bytes.now report.text.items report.status) }
+/// What is written of a unit of these tokens, of which there is at least one: nothing of an empty unit, a skip line where
+/// no tree of the small form prints them, and else the records of the function's candidates. The only refusal is want of
+/// memory.
+pub fn unit_text(alloc: Global, input: &Places, tokens: &[Token]) -> Result<UnitText, NoMemory>
+    requires some { 0 < length tokens.now }
+    requires few { length tokens.now ≤ 16777216 }
+    ensures { IfOk result (λ unit. IsUnitText input.now tokens.now unit.text.items unit.counts) }
 {
-    let Some(first) = tokens.first() else {
-        let report = empty(alloc)?;
-        return Ok(report);
-    };
-    let at = first.span.from;
-    let found = unit_of(alloc, bytes, tokens)?;
+    if is_empty(input.bytes(), tokens) {
+        return Ok(accepted(alloc));
+    }
+    let at = tokens[0].span.from;
+    let found = unit_of(alloc, input.bytes(), tokens)?;
     match &found {
         Some(unit) => {
-            let report = report_unit(alloc, bytes, tokens, unit.get())?;
-            Ok(report)
+            let unit = judged_unit(alloc, input, tokens, unit.get())?;
+            Ok(unit)
         }
         None => {
-            let report = skipped(alloc, bytes, at)?;
-            Ok(report)
+            let unit = skipped(alloc, input, at)?;
+            Ok(unit)
         }
     }
-}
-
-/// The text of the records of an input of at most 16,777,216 bytes, and the status that goes with it: the summary alone
-/// where it has no token; a skip line and the summary where no tree of the small form prints its tokens; and else the
-/// records of the function's candidates and the summary. The only refusal is want of memory.
-pub fn report_of(alloc: Global, bytes: &[u8]) -> Result<Report, NoMemory>
-    requires { length bytes.now ≤ 16777216 }
-    ensures lawful { IfOk result (λ report. IsLawfulText bytes.now report.text.items report.status) }
-{
-    let tokens = lex(alloc, bytes)?;
-    report_on(alloc, bytes, tokens.as_slice())
 }

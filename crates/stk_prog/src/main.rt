@@ -2,15 +2,13 @@
 //! standard error. The exit status is that of the top call.
 #![tactic(auto)]
 
-mod outside;
-
-use outside::{RealSink, RealSource};
 use std::env;
-use std::io::ErrorKind;
+use std::io::{BufWriter, ErrorKind};
 use std::process::ExitCode;
 use std::rt::Env;
 use stk_base::{Status, write_all};
 use stk_lint::lint_main;
+use stk_real::{RealSink, RealSource};
 
 // The words after the program's name, or how to end where they can't be gathered.
 fn words_of<R: Env + AllocGlobal>(rt: &R) -> Result<Vec<String>, Status> {

@@ -1,4 +1,4 @@
-//! The real source and sinks: adapters over std's reader and writer. They tell no bytes and count their errors.
+// Adapters over std's reader and writer. They tell no bytes and count their errors.
 
 ghost use Rattle.std.specs.Prelude.{◌≡◌, ℕ, None};
 

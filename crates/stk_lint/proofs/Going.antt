@@ -1,0 +1,213 @@
+-- How the texts of units are written, one after the other.
+use Rattle.std.proofs.Common.{◌≡◌, ℕ, ◌+◌, ◌-◌, ◌<◌, ◌≤◌, List, [], ◌∷◌, ◌++◌, length, take, drop, get_or, Option, Some, None, refl, sym, ap, subst, ◌∙◌, append_assoc, arith}
+use Rattle.std.proofs.Common.{drop-cons}
+use Rattle.std.proofs.Math.Seq.{drop-length}
+use Rattle.std.proofs.lemmas.List.{append-nil, length-drop, length-take, drop_all}
+use Rattle.stk_base.specs.declared.status.Status.{Status}
+use Rattle.stk_base.specs.Streams.{Appended, AppendedFront, IsFlushed}
+use Rattle.stk_lex.specs.declared.token.Token.{Token}
+use Rattle.stk_decl.specs.declared.cutting.Piece.{Piece}
+use Rattle.stk_decl.specs.Units.{AreJoined}
+use Rattle.stk_lint.specs.declared.records.Counts.{Counts}
+use Rattle.stk_lint.specs.Records.{summary_text}
+use Rattle.stk_lint.specs.LawfulText.{IsUnitText, nothing_counted, counts_sum, status_of, tokens_of_piece, AreUnitTexts, no_unit, then_unit, IsLawfulText}
+use Rattle.stk_lint.specs.Judged.{AreAtMost, WroteUnit, WroteUnitFront, WroteUnits, WroteUnitsFront}
+use Rattle.stk_lint.specs.Lint.{AreUnitsOf, TookText, TookFront}
+use Rattle.stk_lint.proofs.Counted.{unit_most}
+use Rattle.stk_lint.proofs.Units.{piece_some, joined_up, texts_of_units}
+
+-- ---- what a sink takes
+
+pub nothing_appended : (before : Option (List ℕ)) → Appended before before []
+nothing_appended None = refl
+nothing_appended (Some taken) = ap (λ (u : List ℕ). Some u) (sym (append-nil taken))
+
+pub appended_more : (before middle after : Option (List ℕ)) (a b : List ℕ) → Appended before middle a → Appended middle after b → Appended before after (a ++ b)
+appended_more None middle after a b first second = second ∙ rw first refl
+appended_more (Some taken) middle after a b first second = second ∙ rw first (ap (λ (u : List ℕ). Some u) (append_assoc taken a b))
+
+-- a front of what comes behind, and something behind that
+pub front_more : (before middle after : Option (List ℕ)) (a b rest : List ℕ) → Appended before middle a → AppendedFront middle after b → AppendedFront before after (a ++ (b ++ rest))
+front_more before middle after a b rest first (front, back, same, second) =
+    let whole : a ++ (b ++ rest) ≡ (a ++ front) ++ (back ++ rest) =
+        ap (λ (u : List ℕ). a ++ (u ++ rest)) same ∙ ap (λ (u : List ℕ). a ++ u) (append_assoc front back rest) ∙ sym (append_assoc a front (back ++ rest)) in
+    (a ++ front, back ++ rest, whole, appended_more before middle after a front first second)
+
+-- what was taken is a front of that and more
+pub front_of : (before after : Option (List ℕ)) (a rest : List ℕ) → AppendedFront before after a → AppendedFront before after (a ++ rest)
+front_of before after a rest (front, back, same, taken) = (front, back ++ rest, ap (λ (u : List ℕ). u ++ rest) same ∙ append_assoc front back rest, taken)
+
+-- ---- counts
+
+nothing_plus : (c : Counts) → counts_sum nothing_counted c ≡ c
+nothing_plus c =
+    let a : 0 + c.functions ≡ c.functions = omega arith in
+    let b : 0 + c.candidates ≡ c.candidates = omega arith in
+    let d : 0 + c.unstable ≡ c.unstable = omega arith in
+    let e : 0 + c.undecided ≡ c.undecided = omega arith in
+    let f : 0 + c.skipped ≡ c.skipped = omega arith in
+    λ i. record { functions = a i; candidates = b i; unstable = d i; undecided = e i; skipped = f i }
+
+plus_nothing : (c : Counts) → counts_sum c nothing_counted ≡ c
+plus_nothing c =
+    let a : c.functions + 0 ≡ c.functions = omega arith in
+    let b : c.candidates + 0 ≡ c.candidates = omega arith in
+    let d : c.unstable + 0 ≡ c.unstable = omega arith in
+    let e : c.undecided + 0 ≡ c.undecided = omega arith in
+    let f : c.skipped + 0 ≡ c.skipped = omega arith in
+    λ i. record { functions = a i; candidates = b i; unstable = d i; undecided = e i; skipped = f i }
+
+plus_plus : (x y z : Counts) → counts_sum x (counts_sum y z) ≡ counts_sum (counts_sum x y) z
+plus_plus x y z =
+    let a : x.functions + (y.functions + z.functions) ≡ x.functions + y.functions + z.functions = omega arith in
+    let b : x.candidates + (y.candidates + z.candidates) ≡ x.candidates + y.candidates + z.candidates = omega arith in
+    let d : x.unstable + (y.unstable + z.unstable) ≡ x.unstable + y.unstable + z.unstable = omega arith in
+    let e : x.undecided + (y.undecided + z.undecided) ≡ x.undecided + y.undecided + z.undecided = omega arith in
+    let f : x.skipped + (y.skipped + z.skipped) ≡ x.skipped + y.skipped + z.skipped = omega arith in
+    λ i. record { functions = a i; candidates = b i; unstable = d i; undecided = e i; skipped = f i }
+
+pub most_up : (n m : ℕ) (c : Counts) → n ≤ m → AreAtMost n c → AreAtMost m c
+most_up n m c h k = record {
+  functions = omega (arith, h, k.functions);
+  candidates = omega (arith, h, k.candidates);
+  unstable = omega (arith, h, k.unstable);
+  undecided = omega (arith, h, k.undecided);
+  skipped = omega (arith, h, k.skipped);
+}
+
+most_sum : (n m k : ℕ) (c d : Counts) → n + m ≤ k → AreAtMost n c → AreAtMost m d → AreAtMost k (counts_sum c d)
+most_sum n m k c d h p q = record {
+  functions = omega (arith, h, p.functions, q.functions);
+  candidates = omega (arith, h, p.candidates, q.candidates);
+  unstable = omega (arith, h, p.unstable, q.unstable);
+  undecided = omega (arith, h, p.undecided, q.undecided);
+  skipped = omega (arith, h, p.skipped, q.skipped);
+}
+
+-- ---- the units so far
+
+-- The units before the i-th are written, and each text of those behind it makes a text of all.
+pub record AreSoFar (bytes : List ℕ) (tokens : List Token) (pieces : List Piece) (i : ℕ) (before after : Option (List ℕ)) (counts : Counts) : Type 0 where
+  pub at : ℕ
+  pub joined : AreJoined at (length tokens) (drop i pieces)
+  pub most : AreAtMost at counts
+  pub lines : List ℕ
+  pub written : Appended before after lines
+  pub goes_on : (more : List ℕ) (others : Counts) → AreUnitTexts bytes tokens (drop i pieces) more others → AreUnitTexts bytes tokens pieces (lines ++ more) (counts_sum counts others)
+
+-- the next unit begins where those so far end, and its tokens are among all
+pub record IsNextUnit (size at : ℕ) (p : Piece) (rest : List Piece) : Type 0 where
+  pub from : p.from ≡ at
+  pub some : p.from < p.to
+  pub within : p.to ≤ size
+  pub rest : AreJoined p.to size rest
+
+module _ (bytes : List ℕ) (tokens : List Token) (pieces : List Piece) (before : Option (List ℕ)) where
+  pub none_so_far : AreJoined 0 (length tokens) pieces → AreSoFar bytes tokens pieces 0 before before nothing_counted
+  none_so_far joined = record {
+    at = 0;
+    joined = joined;
+    most = record { functions = omega arith; candidates = omega arith; unstable = omega arith; undecided = omega arith; skipped = omega arith };
+    lines = [];
+    written = nothing_appended before;
+    goes_on = λ more others are. subst (λ c. AreUnitTexts bytes tokens pieces more c) (sym (nothing_plus others)) are;
+  }
+
+  next_joined : (at : ℕ) (ps : List Piece) (p : Piece) (rest : List Piece) → ps ≡ p ∷ rest → AreJoined at (length tokens) ps → IsNextUnit (length tokens) at p rest
+  next_joined at ps p rest e h =
+      let k : AreJoined at (length tokens) (p ∷ rest) = subst (AreJoined at (length tokens)) e h in
+      record { from = k.0; some = omega (arith, k.0, k.1); within = joined_up p.to (length tokens) rest k.3; rest = k.3 }
+
+  pub next_unit : (i : ℕ) (d : Piece) (middle : Option (List ℕ)) (counts : Counts) → i < length pieces → (h : AreSoFar bytes tokens pieces i before middle counts) → IsNextUnit (length tokens) h.at (get_or pieces i d) (drop (i + 1) pieces)
+  next_unit i d middle counts within h = next_joined h.at (drop i pieces) (get_or pieces i d) (drop (i + 1) pieces) (behind i d within) h.joined where
+    behind : (i : ℕ) (d : Piece) → i < length pieces → drop i pieces ≡ get_or pieces i d ∷ drop (i + 1) pieces
+    behind i d h = drop-cons pieces i d h ∙ ap (λ n. get_or pieces i d ∷ drop n pieces) (omega arith)
+
+  unit_length : (p : Piece) → p.to ≤ length tokens → length (tokens_of_piece tokens p) ≤ p.to - p.from
+  unit_length p h = omega (arith, length-take (p.to - p.from) (drop p.from tokens))
+
+  -- one more unit
+  pub one_more_unit : (i : ℕ) (d : Piece) (middle after : Option (List ℕ)) (counts unit : Counts) → i < length pieces → AreSoFar bytes tokens pieces i before middle counts
+      → WroteUnit bytes (tokens_of_piece tokens (get_or pieces i d)) middle after unit → AreSoFar bytes tokens pieces (i + 1) before after (counts_sum counts unit)
+  one_more_unit i d middle after counts unit within h w =
+      let p : Piece = get_or pieces i d in
+      let n = next_unit i d middle counts within h in
+      let most = unit_most bytes (tokens_of_piece tokens p) w.text unit (piece_some tokens p n.some n.within) w.is in
+      let here : drop i pieces ≡ p ∷ drop (i + 1) pieces = drop-cons pieces i d within ∙ ap (λ n. p ∷ drop n pieces) (omega arith) in
+      record {
+        at = p.to;
+        joined = n.rest;
+        most = most_sum h.at (length (tokens_of_piece tokens p)) p.to counts unit (omega (arith, n.from, n.some, unit_length p n.within)) h.most most;
+        lines = h.lines ++ w.text;
+        written = appended_more before middle after h.lines w.text h.written w.written;
+        goes_on = λ more others are.
+            let all = h.goes_on (w.text ++ more) (counts_sum unit others) (subst (λ (ps : List Piece). AreUnitTexts bytes tokens ps (w.text ++ more) (counts_sum unit others)) (sym here) (then_unit w.is are)) in
+            subst (λ c. AreUnitTexts bytes tokens pieces ((h.lines ++ w.text) ++ more) c) (plus_plus counts unit others)
+            (subst (λ (u : List ℕ). AreUnitTexts bytes tokens pieces u (counts_sum counts (counts_sum unit others))) (sym (append_assoc h.lines w.text more)) all);
+      }
+
+  -- no more comes of a unit than some front of what may be written of it
+  pub stops_in_unit : (i : ℕ) (d : Piece) (middle after : Option (List ℕ)) (counts : Counts) → i < length pieces → AreSoFar bytes tokens pieces i before middle counts
+      → WroteUnitFront bytes (tokens_of_piece tokens (get_or pieces i d)) middle after → WroteUnitsFront bytes tokens pieces before after
+  stops_in_unit i d middle after counts within h w =
+      let p : Piece = get_or pieces i d in
+      let n = next_unit i d middle counts within h in
+      let rest = texts_of_units bytes tokens p.to (drop (i + 1) pieces) n.rest in
+      let here : drop i pieces ≡ p ∷ drop (i + 1) pieces = drop-cons pieces i d within ∙ ap (λ n. p ∷ drop n pieces) (omega arith) in
+      record {
+        lines = h.lines ++ (w.text ++ rest.lines);
+        counts = counts_sum counts (counts_sum w.counts rest.counts);
+        are = h.goes_on (w.text ++ rest.lines) (counts_sum w.counts rest.counts)
+            (subst (λ (ps : List Piece). AreUnitTexts bytes tokens ps (w.text ++ rest.lines) (counts_sum w.counts rest.counts)) (sym here) (then_unit w.is rest.are));
+        written = front_more before middle after h.lines w.text rest.lines h.written w.written;
+      }
+
+  -- all units
+  pub all_units : (i : ℕ) (after : Option (List ℕ)) (counts : Counts) → length pieces ≤ i → AreSoFar bytes tokens pieces i before after counts → WroteUnits bytes tokens pieces before after counts
+  all_units i after counts past h =
+      let none : drop i pieces ≡ [] = drop_all i pieces past in
+      let are = h.goes_on [] nothing_counted (subst (λ (ps : List Piece). AreUnitTexts bytes tokens ps [] nothing_counted) (sym none) no_unit) in
+      record {
+        lines = h.lines;
+        are = subst (λ c. AreUnitTexts bytes tokens pieces h.lines c) (plus_nothing counts) (subst (λ (u : List ℕ). AreUnitTexts bytes tokens pieces u (counts_sum counts nothing_counted)) (append-nil h.lines) are);
+        written = h.written;
+      }
+
+-- ---- the text
+
+module _ (bytes : List ℕ) (kept : List Token) (pieces : List Piece) (units : AreUnitsOf bytes kept pieces) where
+  lawful : (lines : List ℕ) (counts : Counts) → AreUnitTexts bytes kept pieces lines counts → IsLawfulText bytes (lines ++ summary_text counts) (status_of counts.unstable)
+  lawful lines counts are = record {
+    tokens = units.tokens;
+    cut = units.cut;
+    lines = lines;
+    counts = counts;
+    units = rw (units.same_tokens) at (subst (λ (ps : List Piece). AreUnitTexts bytes kept ps lines counts) units.same_pieces are);
+    same_text = refl;
+    same_status = refl;
+  }
+
+  pub text_taken : (before middle after : Option (List ℕ)) (flushed : ℕ) (counts : Counts) (status : Status) → WroteUnits bytes kept pieces before middle counts → Appended middle after (summary_text counts) → IsFlushed after flushed
+      → status ≡ status_of counts.unstable → TookText bytes before after flushed status
+  text_taken before middle after flushed counts status w last flush e = record {
+    text = w.lines ++ summary_text counts;
+    lawful = rw e (lawful w.lines counts w.are);
+    written = appended_more before middle after w.lines (summary_text counts) w.written last;
+    flush = flush;
+  }
+
+  pub units_stop : (before after : Option (List ℕ)) → WroteUnitsFront bytes kept pieces before after → TookFront bytes before after
+  units_stop before after w = record {
+    text = w.lines ++ summary_text w.counts;
+    status = status_of w.counts.unstable;
+    lawful = lawful w.lines w.counts w.are;
+    written = front_of before after w.lines (summary_text w.counts) w.written;
+  }
+
+  pub summary_stops : (before middle after : Option (List ℕ)) (counts : Counts) → WroteUnits bytes kept pieces before middle counts → AppendedFront middle after (summary_text counts) → TookFront bytes before after
+  summary_stops before middle after counts w (front, back, same, taken) = record {
+    text = w.lines ++ summary_text counts;
+    status = status_of counts.unstable;
+    lawful = lawful w.lines counts w.are;
+    written = (w.lines ++ front, back, ap (λ (u : List ℕ). w.lines ++ u) same ∙ sym (append_assoc w.lines front back), appended_more before middle after w.lines front w.written taken);
+  }
