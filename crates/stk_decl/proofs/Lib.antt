@@ -3,3 +3,4 @@ pub mod Found
 pub mod Groups
 pub mod Kept
 pub mod Skims
+pub mod Positions

@@ -20,9 +20,9 @@ pub record Skims (bytes : List ℕ) (tokens : List Token) (ends changes : List �
 depth_bound : (bytes : List ℕ) (depth : ℕ) (t : Token) → depth_behind bytes depth t ≤ depth + 1
 unfolding depth_behind
 depth_bound bytes depth t = elim (opens bytes t) as (λ o. cond o (depth + 1) (cond (closes bytes t) (depth - 1) depth) ≤ depth + 1) [
-    | true ↦ omega arith
-    | false ↦ elim (closes bytes t) as (λ o. cond o (depth - 1) depth ≤ depth + 1) [ true ↦ omega arith | false ↦ omega arith ]
-  ]
+  | true ↦ omega arith
+  | false ↦ elim (closes bytes t) as (λ o. cond o (depth - 1) depth ≤ depth + 1) [ true ↦ omega arith | false ↦ omega arith ]
+]
 
 pub skims_keep : (bytes : List ℕ) (tokens : List Token) (ends changes : List ℕ) (so_far : List Token) (notes : List ℕ) (depth : ℕ) (t : Token) (ts : List Token)
     → dropped bytes depth (t ∷ ts) ≡ 0 → Skims bytes tokens ends changes so_far notes depth (t ∷ ts) → Skims bytes tokens ends changes (so_far ++ t ∷ []) notes (depth_behind bytes depth t) ts
