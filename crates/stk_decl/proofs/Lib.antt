@@ -4,3 +4,4 @@ pub mod Groups
 pub mod Kept
 pub mod Skims
 pub mod Positions
+pub mod Cuts

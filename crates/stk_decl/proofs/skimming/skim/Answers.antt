@@ -1,12 +1,10 @@
-use Rattle.std.proofs.Common.{◌≡◌, ◌≤◌, length, ℕ, ◌+◌, ◌-◌, ◌<◌, List, [], ◌∷◌, ◌++◌, true, false, arith, sym, ◌∙◌}
-use Rattle.stk_lex.specs.declared.token.Token.{Token}
-use Rattle.stk_lex.specs.Cut.{AreSpans}
-use Rattle.stk_decl.specs.Skimming.{closing, kept_tokens, notes_of, ArePositions}
-use Rattle.stk_decl.specs.Ahead.{AreFound, unchanged}
+use Rattle.std.proofs.Common.{◌≡◌, length, ◌∷◌, arith, sym, ◌∙◌}
+use Rattle.stk_decl.specs.Skimming.{closing, kept_tokens, notes_of}
+use Rattle.stk_decl.specs.Ahead.{unchanged}
 use Rattle.stk_decl.proofs.Found.{found_behind}
 use Rattle.stk_decl.proofs.Groups.{dropped_within}
 use Rattle.stk_decl.proofs.Kept.{kept_spans, noted_positions}
-use Rattle.stk_decl.proofs.Skims.{Skims, skims_keep, skims_drop, skims_all, skims_done}
+use Rattle.stk_decl.proofs.Skims.{skims_keep, skims_drop, skims_all, skims_done}
 use Rattle.stk_decl.proofs.skimming.skim.Goals as goal
 
 pub dropped-n-requires-clause-ends : goal.dropped-n-requires-clause-ends
