@@ -1,7 +1,6 @@
 -- What skimming keeps and notes, step by step.
-use Rattle.std.proofs.Common.{◌≡◌, ℕ, zero, suc, ◌+◌, ◌-◌, ◌<◌, ◌≤◌, Bool, true, false, cond, List, [], ◌∷◌, ◌++◌, length, take, drop, refl, ap, sym, ◌∙◌, arith}
+use Rattle.std.proofs.Common.{◌≡◌, ℕ, zero, suc, ◌-◌, ◌≤◌, true, false, cond, List, [], ◌∷◌, ◌++◌, take, drop, refl, ap, arith}
 use Rattle.std.specs.Prelude.{◌==◌, ◌&&◌}
-use Rattle.std.proofs.lemmas.Bool.{ne_eqb}
 use Rattle.stk_lex.specs.declared.token.Token.{Token}
 use Rattle.stk_lex.specs.Cut.{AreSpans}
 use Rattle.stk_decl.specs.Spelled.{depth_behind}
@@ -49,7 +48,7 @@ noted_drop bytes t ts depth n e =
 
 -- ---- what `cut` asks
 
-spans_from : (size to at : ℕ) (ts : List Token) → to ≤ at → AreSpans size at ts → AreSpans size to ts
+pub spans_from : (size to at : ℕ) (ts : List Token) → to ≤ at → AreSpans size at ts → AreSpans size to ts
 spans_from size to at [] h s = omega arith
 spans_from size to at (t ∷ ts) h s = (omega (arith, s.0), s.1, s.2)
 

@@ -3,3 +3,5 @@ pub mod Found
 pub mod Groups
 pub mod Kept
 pub mod Skims
+pub mod Positions
+pub mod Cuts

@@ -1,12 +1,11 @@
 -- How far skimming has come: what was kept and noted, in front of what is left.
-use Rattle.std.proofs.Common.{◌≡◌, ℕ, zero, suc, ◌+◌, ◌-◌, ◌<◌, ◌≤◌, Bool, true, false, cond, List, [], ◌∷◌, ◌++◌, length, take, drop, refl, ap, sym, ◌∙◌, append_assoc, arith}
+use Rattle.std.proofs.Common.{◌≡◌, ℕ, zero, suc, ◌+◌, ◌-◌, ◌≤◌, true, false, cond, List, [], ◌∷◌, ◌++◌, length, take, drop, refl, ap, sym, ◌∙◌, append_assoc, arith}
 use Rattle.std.proofs.lemmas.List.{length-append, length-drop, append-nil}
 use Rattle.stk_lex.specs.declared.token.Token.{Token}
 use Rattle.stk_decl.specs.Spelled.{opens, closes, depth_behind}
 use Rattle.stk_decl.specs.Skimming.{closing, dropped, kept, noted, note_of, kept_tokens, notes_of}
 use Rattle.stk_decl.specs.Ahead.{AreFound, unchanged}
 use Rattle.stk_decl.proofs.Found.{found_behind, found_drop}
-use Rattle.stk_decl.proofs.Groups.{dropped_within}
 use Rattle.stk_decl.proofs.Kept.{kept_keep, kept_drop, noted_keep, noted_drop}
 
 pub record Skims (bytes : List ℕ) (tokens : List Token) (ends changes : List ℕ) (so_far : List Token) (notes : List ℕ) (depth : ℕ) (rest : List Token) : Type 0 where
@@ -17,12 +16,12 @@ pub record Skims (bytes : List ℕ) (tokens : List Token) (ends changes : List �
   pub all_kept : so_far ++ kept bytes rest depth 0 ≡ kept_tokens bytes tokens
   pub all_noted : notes ++ noted bytes rest depth 0 ≡ notes_of bytes tokens
 
-depth_bound : (bytes : List ℕ) (depth : ℕ) (t : Token) → depth_behind bytes depth t ≤ depth + 1
+pub depth_bound : (bytes : List ℕ) (depth : ℕ) (t : Token) → depth_behind bytes depth t ≤ depth + 1
 unfolding depth_behind
 depth_bound bytes depth t = elim (opens bytes t) as (λ o. cond o (depth + 1) (cond (closes bytes t) (depth - 1) depth) ≤ depth + 1) [
-    | true ↦ omega arith
-    | false ↦ elim (closes bytes t) as (λ o. cond o (depth - 1) depth ≤ depth + 1) [ true ↦ omega arith | false ↦ omega arith ]
-  ]
+  | true ↦ omega arith
+  | false ↦ elim (closes bytes t) as (λ o. cond o (depth - 1) depth ≤ depth + 1) [ true ↦ omega arith | false ↦ omega arith ]
+]
 
 pub skims_keep : (bytes : List ℕ) (tokens : List Token) (ends changes : List ℕ) (so_far : List Token) (notes : List ℕ) (depth : ℕ) (t : Token) (ts : List Token)
     → dropped bytes depth (t ∷ ts) ≡ 0 → Skims bytes tokens ends changes so_far notes depth (t ∷ ts) → Skims bytes tokens ends changes (so_far ++ t ∷ []) notes (depth_behind bytes depth t) ts

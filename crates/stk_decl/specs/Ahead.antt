@@ -2,7 +2,6 @@
 use Rattle.std.specs.Prelude.{◌≡◌, ℕ, zero, suc, ◌+◌, ◌<◌, cond, List, [], ◌∷◌, length, drop, slice_index}
 use Rattle.stk_lex.specs.declared.token.Token.{Token}
 use Rattle.stk_decl.specs.Spelled.{is_changing_word}
-use Rattle.stk_decl.specs.Skimming.{closing}
 
 -- how many tokens stand before the first attribute that changes what is declared
 unfoldable pub unchanged : List ℕ → List Token → ℕ

@@ -2,3 +2,4 @@ pub mod Spelled
 pub mod Skimming
 pub mod Ahead
 pub mod Units
+pub mod Begun

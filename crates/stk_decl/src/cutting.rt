@@ -3,8 +3,11 @@
 ghost use Rattle.std.specs.Prelude.{◌≡◌, ◌≤◌, length, IfOk};
 ghost use Rattle.stk_lex.specs.Cut.{AreSpans};
 ghost use Rattle.stk_decl.specs.Skimming.{ArePositions};
+ghost use Rattle.stk_decl.specs.Begun.{is_first_before};
 ghost use Rattle.stk_decl.specs.Units.{units_of, AreJoined};
 
+use crate::begun::Begun;
+use crate::notes::{is_first_before, notes_from};
 use crate::skimming::Skimmed;
 use std::alloc::Global;
 use stk_base::NoMemory;
@@ -17,6 +20,21 @@ pub struct Piece {
     pub to: u32,
     pub body: Option<u32>,
     pub no_return: bool,
+}
+
+/// The piece of a unit, with the notes behind the unit before.
+fn whole_piece(unit: Begun, notes: &[u32]) -> Piece
+    ensures from { result.from ≡ unit.from }
+    ensures to { result.to ≡ unit.next }
+    ensures body { result.body ≡ unit.body }
+    ensures no_return { result.no_return ≡ is_first_before unit.last notes.now }
+{
+    Piece {
+        from: unit.from,
+        to: unit.next,
+        body: unit.body,
+        no_return: is_first_before(unit.last, notes),
+    }
 }
 
 /// The units of a file, in order, by the brackets of the tokens that skimming kept; none is empty, and together they are
@@ -35,5 +53,25 @@ pub fn cut(alloc: Global, bytes: &[u8], skimmed: &Skimmed) -> Result<Vec<Piece>,
     ensures units { IfOk result (λ pieces. pieces.items ≡ units_of bytes.now skimmed.now.tokens skimmed.now.notes) }
     ensures joined { IfOk result (λ pieces. AreJoined 0 (length skimmed.now.tokens) pieces.items) }
 {
-    Err(NoMemory)
+    let mut pieces = Vec::new(alloc);
+    let mut notes = skimmed.notes.as_slice();
+    let mut unit = Begun::at(0);
+    let mut rest = skimmed.tokens.as_slice();
+    while let Some((token, behind)) = rest.split_first() {
+        let whole = unit.with(bytes, *token);
+        if unit.is_ended_by(bytes, *token) {
+            pieces.push(whole_piece(whole, notes))?;
+            notes = notes_from(token.span.to, notes);
+            unit = Begun::at(whole.next);
+            rest = behind;
+        } else {
+            unit = whole;
+            rest = behind;
+        }
+    }
+    if unit.is_empty() {
+        return Ok(pieces);
+    }
+    pieces.push(whole_piece(unit, notes))?;
+    Ok(pieces)
 }

@@ -2,8 +2,10 @@
 #![tactic(auto)]
 
 mod ahead;
+mod begun;
 mod cutting;
 mod dropping;
+mod notes;
 mod skimming;
 mod spelled;
 

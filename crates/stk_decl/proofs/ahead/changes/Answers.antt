@@ -1,7 +1,7 @@
-use Rattle.std.proofs.Common.{◌≡◌, ◌≤◌, ◌<◌, ◌+◌, ◌-◌, length, ◌∷◌, drop, ℕ, List, [], ◌++◌, arith, sym, ap, refl, get_or}
+use Rattle.std.proofs.Common.{drop, arith, refl}
 use Rattle.std.proofs.lemmas.List.{length-drop}
 use Rattle.std.proofs.Math.Seq.{drop-length}
-use Rattle.stk_decl.specs.Ahead.{AreFound, unchanged}
+use Rattle.stk_decl.specs.Ahead.{unchanged}
 use Rattle.stk_decl.proofs.Found.{found_end, found_step, unchanged_step, unchanged_within}
 use Rattle.stk_decl.proofs.ahead.changes.Goals as goal
 

@@ -1,8 +1,7 @@
-use Rattle.std.proofs.Common.{◌≡◌, ◌≤◌, ◌<◌, ◌+◌, ◌-◌, ◌^◌, length, drop, get_or, true, ℕ, List, [], ◌∷◌, arith, ap, sym, refl, ◌∙◌}
+use Rattle.std.proofs.Common.{◌≡◌, ◌≤◌, ◌-◌, length, drop, get_or, arith, ap, sym, ◌∙◌}
 use Rattle.std.proofs.lemmas.List.{length-drop}
 use Rattle.stk_decl.specs.Skimming.{closing}
 use Rattle.stk_lex.specs.Gaps.{one_more}
-use Rattle.stk_decl.specs.Ahead.{AreFound, both}
 use Rattle.stk_decl.proofs.Closings.{closing_within, closing_open, closing_close, closing_other}
 use Rattle.stk_decl.proofs.Found.{found_here, found_ahead}
 use Rattle.stk_decl.proofs.ahead.closing_with.Goals as goal

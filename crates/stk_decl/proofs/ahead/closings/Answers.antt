@@ -1,6 +1,5 @@
-use Rattle.std.proofs.Common.{◌≡◌, ◌≤◌, ◌<◌, ◌+◌, ◌-◌, length, ◌∷◌, drop, ℕ, List, [], ◌++◌, arith, refl, get_or}
+use Rattle.std.proofs.Common.{arith, refl}
 use Rattle.stk_decl.specs.Skimming.{closing}
-use Rattle.stk_decl.specs.Ahead.{AreFound}
 use Rattle.stk_decl.proofs.Found.{found_end, found_step}
 use Rattle.stk_decl.proofs.ahead.closings.Goals as goal
 

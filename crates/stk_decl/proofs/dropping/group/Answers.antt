@@ -1,6 +1,4 @@
-use Rattle.std.proofs.Common.{◌≡◌, ℕ, List, [], ◌∷◌}
 use Rattle.stk_decl.specs.Skimming.{closing}
-use Rattle.stk_decl.specs.Ahead.{AreFound}
 use Rattle.stk_decl.proofs.Found.{found_behind}
 use Rattle.stk_decl.proofs.dropping.group.Goals as goal
 

@@ -1,4 +1,4 @@
-use Rattle.std.proofs.Common.{◌≡◌, ℕ, List, [], ◌∷◌, length, arith, ap, sym, refl, ◌∙◌, true, get_or, ◌+◌, ◌<◌}
+use Rattle.std.proofs.Common.{arith, ap, sym, ◌∙◌}
 use Rattle.stk_lex.specs.Gaps.{one_more}
 use Rattle.stk_decl.specs.Skimming.{closing, group}
 use Rattle.stk_decl.proofs.Closings.{closing_within}

@@ -1,12 +1,10 @@
-use Rattle.std.proofs.Common.{◌≡◌, ◌≤◌, length, ℕ, ◌+◌, ◌-◌, ◌<◌, List, [], ◌∷◌, ◌++◌, true, false, arith, sym, ◌∙◌}
-use Rattle.stk_lex.specs.declared.token.Token.{Token}
-use Rattle.stk_lex.specs.Cut.{AreSpans}
-use Rattle.stk_decl.specs.Skimming.{closing, kept_tokens, notes_of, ArePositions}
-use Rattle.stk_decl.specs.Ahead.{AreFound, unchanged}
+use Rattle.std.proofs.Common.{◌≡◌, length, ◌∷◌, arith, sym, ◌∙◌}
+use Rattle.stk_decl.specs.Skimming.{closing, kept_tokens, notes_of}
+use Rattle.stk_decl.specs.Ahead.{unchanged}
 use Rattle.stk_decl.proofs.Found.{found_behind}
 use Rattle.stk_decl.proofs.Groups.{dropped_within}
 use Rattle.stk_decl.proofs.Kept.{kept_spans, noted_positions}
-use Rattle.stk_decl.proofs.Skims.{Skims, skims_keep, skims_drop, skims_all, skims_done}
+use Rattle.stk_decl.proofs.Skims.{skims_keep, skims_drop, skims_all, skims_done}
 use Rattle.stk_decl.proofs.skimming.skim.Goals as goal
 
 pub dropped-n-requires-clause-ends : goal.dropped-n-requires-clause-ends
@@ -29,7 +27,7 @@ loop-token-preserved-then-n-eq0 c =
     let s = rw c.in-Some.ensures.cases.0 at c.loop-token.invariant in
     rw (c.in_ok-push.ensures.items, c.depth_behind-depth.ensures.value)
     (skims_keep c.args.bytes.now c.args.tokens.now c.in_ok-ends.ends.items c.in_ok-changes.changes.items c.loop-token.kept.items c.loop-token.notes.items c.loop-token.depth c.in-Some.token.now c.in-Some.behind.now
-      (sym c.dropped-n.ensures ∙ c.if-n-eq0.true) s)
+    (sym c.dropped-n.ensures ∙ c.if-n-eq0.true) s)
 
 pub split_at-requires : goal.split_at-requires
 split_at-requires c =
@@ -42,12 +40,12 @@ loop-token-preserved c =
     let back = rw c.in-Some.ensures.cases.0 at c.split_at.ensures.back in
     rw (c.in_ok-add_note.ensures, front, back)
     (skims_drop c.args.bytes.now c.args.tokens.now c.in_ok-ends.ends.items c.in_ok-changes.changes.items c.loop-token.kept.items c.loop-token.notes.items c.loop-token.depth c.in-Some.token.now c.in-Some.behind.now
-      c.dropped-n.result c.if-n-eq0.false c.dropped-n.ensures s)
+    c.dropped-n.result c.if-n-eq0.false c.dropped-n.ensures s)
 
 pub returns : goal.returns
 returns c =
     let done = skims_done c.args.bytes.now c.args.tokens.now c.in_ok-ends.ends.items c.in_ok-changes.changes.items c.loop-token.kept.items c.loop-token.notes.items c.loop-token.depth c.loop-token.rest.now
-        c.in_default.ensures.cases c.loop-token.invariant in
+    c.in_default.ensures.cases c.loop-token.invariant in
     let tokens : c.from_vec.result ≡ kept_tokens c.args.bytes.now c.args.tokens.now = c.from_vec.ensures ∙ done.0 in
     let notes : c.from_vec-2.result ≡ notes_of c.args.bytes.now c.args.tokens.now = c.from_vec-2.ensures ∙ done.1 in
     record {
