@@ -1,5 +1,5 @@
 -- Where nothing is wrong, the records are written or memory runs out.
-use Rattle.std.proofs.Common.{◌≡◌, ℕ, ◌+◌, ◌<◌, ◌≤◌, ◌⊎◌, inl, inr, ◌++◌, List, Option, Some, None, length, refl, sym, ap, ◌∙◌, arith, length-append}
+use Rattle.std.proofs.Common.{◌≡◌, ℕ, ◌<◌, ◌≤◌, ◌⊎◌, inl, inr, ◌++◌, List, Option, Some, None, length, refl, ap, arith, length-append}
 use Rattle.std.specs.Prelude.{◌↔◌}
 use Rattle.stk_base.specs.declared.status.Status.{Status}
 use Rattle.stk_base.specs.declared.status.Status.TheVariants.{Stable, Found, Unsure, BadWords, ReadFault, WriteFault, TooLarge, NoMemory}

@@ -1,5 +1,5 @@
 -- A unit counts for no more than its tokens.
-use Rattle.std.proofs.Common.{◌≡◌, ℕ, zero, suc, ◌+◌, ◌<◌, ◌≤◌, List, [], ◌∷◌, ◌++◌, length, Some, None, false, refl, ap, length-append, arith}
+use Rattle.std.proofs.Common.{◌≡◌, ℕ, zero, suc, ◌+◌, ◌<◌, ◌≤◌, List, [], ◌∷◌, length, Some, None, false, refl, sym, ap, ◌∙◌, length-append, arith}
 use Rattle.stk_base.specs.declared.span.Span.{Span}
 use Rattle.stk_lex.specs.declared.token.Token.{Token}
 use Rattle.stk_tree.specs.declared.node.Node.{Node}
@@ -7,10 +7,10 @@ use Rattle.stk_tree.specs.Syntax.{StmtTree, PartTree, PartTrees, FunctionTree, U
 use Rattle.stk_tree.specs.Syntax as s
 use Rattle.stk_tree.specs.Tokens.{statement_tokens, part_tokens, parts_tokens, function_tokens, unit_tokens}
 use Rattle.stk_tree.specs.Layout.{laid_statement, laid_part, laid_parts, laid_function, unit_laid_out}
-use Rattle.stk_lexeme.specs.Lexemes.{lexeme_of, lexemes_of}
+use Rattle.stk_lexeme.specs.Lexemes.{lexemes_of}
 use Rattle.stk_meaning.specs.declared.finding.Finding.{Finding}
 use Rattle.stk_meaning.specs.declared.finding.Finding.TheVariants.{Clear, Unstable, Undecided}
-use Rattle.stk_meaning.specs.Parts.{statement_candidates, part_candidates, parts_candidates, candidates}
+use Rattle.stk_meaning.specs.Parts.{statement_candidates, part_candidates, parts_candidates, candidates, arm}
 use Rattle.stk_small.specs.SmallForm.{IsSmallFunction, IsSmall}
 use Rattle.stk_lint.specs.declared.records.Counts.{Counts}
 use Rattle.stk_lint.specs.LawfulText.{Prints, spans_of, unstable_count, IsUnitText, accepted, judged, other_form}
@@ -33,9 +33,15 @@ few_parts (s.then_part x xs) = simp length-append (omega (arith, few_part x, few
 
 -- ---- laying out keeps their number
 
+sum_same : (a b c d : ℕ) → a ≡ c → b ≡ d → a + b ≡ c + d
+sum_same a b c d e f = omega (arith, e, f)
+
+at_most : (a b c : ℕ) → a ≡ b → b ≤ c → a ≤ c
+at_most a b c e h = omega (arith, e, h)
+
 module _ (spans : List Span) where
   laid_run : (x : StmtTree) (n t : ℕ) → length (statement_candidates (laid_statement spans n t x)) ≡ length (statement_candidates x)
-  laid_run (s.statement k (s.if_statement e x s.no_statement)) n t = simp length-append (omega (arith, laid_run x _ _))
+  laid_run (s.statement k (s.if_statement e x s.no_statement)) n t = length-append _ _ ∙ ap (λ (k : ℕ). k + 1) (laid_run x _ _) ∙ sym (length-append (statement_candidates x) (arm x ∷ []))
   laid_run (s.statement k (s.if_statement e x (s.some_statement y))) n t = refl
   laid_run (s.statement k (s.block ps)) n t = refl
   laid_run (s.statement k (s.expression_statement e)) n t = refl
@@ -53,11 +59,11 @@ module _ (spans : List Span) where
 
   laid_all : (xs : PartTrees) (n t : ℕ) → length (parts_candidates (laid_parts spans n t xs)) ≡ length (parts_candidates xs)
   laid_all s.no_parts n t = refl
-  laid_all (s.then_part x xs) n t = simp length-append (omega (arith, laid_one x _ _, laid_all xs _ _))
+  laid_all (s.then_part x xs) n t = length-append _ _ ∙ sum_same _ _ _ _ (laid_one x _ _) (laid_all xs _ _) ∙ sym (length-append (part_candidates x) (parts_candidates xs))
 
 few_function : (bytes : List ℕ) (spans : List Span) (g : FunctionTree) → IsSmallFunction bytes g → length (candidates (laid_function spans 0 0 g)) ≤ length (function_tokens g)
 few_function bytes spans (s.function None b (s.declarator n zero (Some at) (s.with_parameters (s.then_parameter p ps) false) s.no_initialiser) (s.statement m (s.block parts))) small =
-    simp length-append (omega (arith, laid_all spans parts _ _, few_parts parts))
+    at_most _ _ _ (laid_all spans parts _ _) (simp length-append (omega (arith, few_parts parts)))
 few_function bytes spans g small = absurd small
 
 few_of_unit : (bytes : List ℕ) (spans : List Span) (u : UnitTree) (n : Node) (f : FunctionTree) → IsSmall bytes u → unit_laid_out spans u ≡ s.defines n f → length (candidates f) ≤ length (unit_tokens u)
@@ -83,7 +89,7 @@ few_reports (Undecided phase ∷ xs) = omega (arith, few_reports xs)
 -- a unit counts for no more than its tokens
 pub unit_most : (bytes : List ℕ) (tokens : List Token) (text : List ℕ) (counts : Counts) → 0 < length tokens → IsUnitText bytes tokens text counts → AreAtMost (length tokens) counts
 unit_most bytes tokens text counts some (accepted is) = record { functions = omega arith; candidates = omega arith; unstable = omega arith; undecided = omega arith; skipped = omega arith }
-unit_most bytes tokens text counts some (other_form empty no) =
+unit_most bytes tokens text counts some (other_form not_empty never) =
     record { functions = omega arith; candidates = omega arith; unstable = omega arith; undecided = omega arith; skipped = omega (arith, some) }
 unit_most bytes tokens text counts some (judged {f = f} xs prints lawful) =
     let few = few_candidates bytes tokens f prints in

@@ -1,9 +1,8 @@
 -- Each candidate of a function has a lawful finding: the queries have answers, since there are finitely many maps.
-use Rattle.std.proofs.Common.{◌≡◌, ℕ, zero, suc, ◌≤◌, Bool, true, false, List, [], ◌∷◌, ◌++◌, length, refl, sym, ap, subst, ◌∙◌, ◌⊎◌, inl, inr, append_assoc, arith}
+use Rattle.std.proofs.Common.{◌≡◌, ℕ, zero, suc, ◌≤◌, Bool, true, false, List, [], ◌∷◌, ◌++◌, refl, sym, ap, subst, ◌∙◌, ◌⊎◌, inl, inr, append_assoc, arith}
 use Rattle.std.specs.Prelude.{ℤ, pos, ◌<ℤ◌}
 use Rattle.std.proofs.lemmas.Int.{ints}
 use Rattle.std.proofs.lemmas.Bool.{false≢true}
-use Rattle.std.proofs.lemmas.List.{append-nil}
 use Rattle.stk_tree.specs.Syntax.{FunctionTree}
 use Rattle.stk_meaning.specs.declared.candidate.Candidate.{Candidate}
 use Rattle.stk_meaning.specs.declared.condition.Condition.{Condition}
@@ -11,10 +10,10 @@ use Rattle.stk_meaning.specs.declared.finding.Finding.{Finding}
 use Rattle.stk_meaning.specs.declared.finding.Finding.TheVariants.{Clear, Unstable}
 use Rattle.stk_meaning.specs.declared.finding.Need.{Need}
 use Rattle.stk_meaning.specs.Hits.{HitsFree, is_hit_free}
-use Rattle.stk_meaning.specs.Keys.{Covers, AreBytes, Precedes, key_count}
+use Rattle.stk_meaning.specs.Keys.{Precedes, key_count}
 use Rattle.stk_meaning.specs.Runs.{path}
 use Rattle.stk_meaning.specs.Parts.{conditions}
-use Rattle.stk_meaning.specs.Findings.{members, need, Answers, NoAnswer, IsFirstAnswer, IsUnstable, IsMinimal, no_more, member, no_member, IsLawful}
+use Rattle.stk_meaning.specs.Findings.{members, need, Answers, NoAnswer, IsFirstAnswer, IsMinimal, no_more, member, no_member, IsLawful}
 use Rattle.stk_meaning.proofs.HitLemmas.{found, finds}
 use Rattle.stk_lint.specs.Maps.{IsMap}
 use Rattle.stk_lint.specs.LawfulText.{AreLawful}
@@ -75,13 +74,13 @@ all_below n P (none_below none) = no_map none_passes where
   none_passes (x ∷ xs) is p = none x xs is is.in_range.1 p
 
 search_maps : (n : ℕ) (P : List ℤ → Type 0) → Decides n P → FirstMap n P
-search_maps zero P decide = elim (decide [] empty_map) [ inl p ↦ first_map [] empty_map p none_before_it | inr no ↦ no_map (none_passes no) ] where
+search_maps zero P decide = elim (decide [] empty_map) [ inl p ↦ first_map [] empty_map p none_before_it | inr never ↦ no_map (none_passes never) ] where
   none_before_it : (other : List ℤ) → IsMap 0 other → Precedes other [] → P other → ⊥
   none_before_it [] is p q = absurd p
   none_before_it (y ∷ ys) is p q = absurd p
   none_passes : (P [] → ⊥) → (m : List ℤ) → IsMap 0 m → P m → ⊥
-  none_passes no [] is p = no p
-  none_passes no (x ∷ xs) is p = absurd (omega (arith, is.count))
+  none_passes never [] is p = never p
+  none_passes never (x ∷ xs) is p = absurd (omega (arith, is.count))
 search_maps (suc n) P decide = all_below n P (below n 256 P (omega arith) decide (λ Q d. search_maps n Q d))
 
 -- ---- the queries of a candidate
@@ -95,7 +94,7 @@ module _ (bytes : List ℕ) (f : FunctionTree) (c : Candidate) where
   answers_or_not set m is =
       elim (hits_or_not set m (is_hit_free set c (path bytes f m)) refl) [
         | inl h ↦ inl (record { covers = record { count = is.count; in_range = is.in_range }; hits = h })
-        | inr no ↦ inr (λ a. no a.hits)
+        | inr never ↦ inr (λ a. never a.hits)
       ]
 
   -- the first answer of a query, or there is none

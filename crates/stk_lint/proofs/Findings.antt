@@ -1,15 +1,15 @@
 -- One more finding behind those of a list of candidates.
-use Rattle.std.proofs.Common.{◌≡◌, ℕ, zero, suc, ◌+◌, ◌<◌, List, [], ◌∷◌, ◌++◌, length, take, get_or, refl, sym, ap, ◌∙◌, subst, append_assoc, arith}
+use Rattle.std.proofs.Common.{◌≡◌, ℕ, suc, ◌+◌, ◌<◌, List, [], ◌∷◌, ◌++◌, length, take, get_or, refl, sym, ap, ◌∙◌, subst, append_assoc, arith}
 use Rattle.std.proofs.lemmas.List.{append-nil, take_more}
-use Rattle.stk_base.specs.declared.status.Status.{Status}
 use Rattle.stk_tree.specs.Syntax.{FunctionTree}
 use Rattle.stk_meaning.specs.declared.candidate.Candidate.{Candidate}
 use Rattle.stk_meaning.specs.declared.finding.Finding.{Finding}
 use Rattle.stk_meaning.specs.declared.finding.Finding.TheVariants.{Clear, Unstable, Undecided}
 use Rattle.stk_meaning.specs.Findings.{IsLawful}
-use Rattle.stk_lint.specs.Records.{finding_text, findings_text, summary_text}
+use Rattle.stk_lint.specs.declared.records.Counts.{Counts}
+use Rattle.stk_lint.specs.Records.{finding_text, findings_text}
 use Rattle.stk_meaning.specs.Parts.{candidates}
-use Rattle.stk_lint.specs.LawfulText.{AreLawful, unstable_count, status_of}
+use Rattle.stk_lint.specs.LawfulText.{AreLawful, unstable_count}
 use Rattle.stk_lint.specs.Judged.{AddsFindings, IsJudged}
 use Rattle.stk_lint.proofs.Joined.{joined}
 
@@ -53,14 +53,15 @@ module _ (bytes : List ℕ) (f : FunctionTree) where
       let more = adds_more (take i list) (get_or list i d) x old middle new n h q e in
       rw (take_more list i d within, same) more
 
-  -- the records of all candidates, and the summary behind them
-  pub judged_from : (list : List Candidate) (old middle text : List ℕ) (n k : ℕ) (status : Status) → AddsFindings bytes f list old middle n → list ≡ candidates f → old ≡ [] → k ≡ length (candidates f) → text ≡ middle ++ summary_text (record { functions = 1; candidates = k; unstable = n; undecided = 0; skipped = 0 }) → status ≡ status_of n → IsJudged bytes f text status
-  judged_from list old middle text n k status g all none same e st =
+  -- the records of all candidates
+  pub judged_from : (list : List Candidate) (old middle text : List ℕ) (n k : ℕ) (counts : Counts) → AddsFindings bytes f list old middle n → list ≡ candidates f → old ≡ [] → k ≡ length (candidates f) → text ≡ middle
+      → counts ≡ record { functions = 1; candidates = k; unstable = n; undecided = 0; skipped = 0 } → IsJudged bytes f text counts
+  judged_from list old middle text n k counts g all none same e st =
       let P : List Candidate → Type 0 = λ cs. AddsFindings bytes f cs old middle n in
       let Q : List ℕ → Type 0 = λ t. AddsFindings bytes f (candidates f) t middle n in
       let h = subst Q none (subst P all g) in record {
         findings = h.findings;
         lawful = h.lawful;
-        same_text = e ∙ (λ i. h.added i ++ summary_text (record { functions = 1; candidates = (same ∙ sym (length_same (candidates f) h.findings h.lawful)) i; unstable = h.count i; undecided = 0; skipped = 0 }));
-        same_status = st ∙ ap status_of h.count;
+        same_text = e ∙ h.added;
+        same_counts = st ∙ (λ i. record { functions = 1; candidates = (same ∙ sym (length_same (candidates f) h.findings h.lawful)) i; unstable = h.count i; undecided = 0; skipped = 0 });
       }

@@ -1,8 +1,8 @@
 -- How the texts of units are written, one after the other.
-use Rattle.std.proofs.Common.{◌≡◌, ℕ, ◌+◌, ◌-◌, ◌<◌, ◌≤◌, List, [], ◌∷◌, ◌++◌, length, take, drop, get_or, Option, Some, None, refl, sym, ap, subst, ◌∙◌, append_assoc, arith}
+use Rattle.std.proofs.Common.{◌≡◌, ℕ, suc, ◌+◌, ◌-◌, ◌<◌, ◌≤◌, List, [], ◌∷◌, ◌++◌, length, drop, get_or, Option, Some, None, refl, sym, ap, subst, ◌∙◌, append_assoc, arith}
 use Rattle.std.proofs.Common.{drop-cons}
-use Rattle.std.proofs.Math.Seq.{drop-length}
-use Rattle.std.proofs.lemmas.List.{append-nil, length-drop, length-take, drop_all}
+use Rattle.std.proofs.lemmas.List.{append-nil, length-take, drop_all}
+use Rattle.std.specs.Prelude.{Result, Ok, Err, OnErr}
 use Rattle.stk_base.specs.declared.status.Status.{Status}
 use Rattle.stk_base.specs.Streams.{Appended, AppendedFront, IsFlushed}
 use Rattle.stk_lex.specs.declared.token.Token.{Token}
@@ -10,11 +10,11 @@ use Rattle.stk_decl.specs.declared.cutting.Piece.{Piece}
 use Rattle.stk_decl.specs.Units.{AreJoined}
 use Rattle.stk_lint.specs.declared.records.Counts.{Counts}
 use Rattle.stk_lint.specs.Records.{summary_text}
-use Rattle.stk_lint.specs.LawfulText.{IsUnitText, nothing_counted, counts_sum, status_of, tokens_of_piece, AreUnitTexts, no_unit, then_unit, IsLawfulText}
+use Rattle.stk_lint.specs.LawfulText.{nothing_counted, counts_sum, status_of, tokens_of_piece, AreUnitTexts, no_unit, then_unit, IsLawfulText}
 use Rattle.stk_lint.specs.Judged.{AreAtMost, WroteUnit, WroteUnitFront, WroteUnits, WroteUnitsFront}
 use Rattle.stk_lint.specs.Lint.{AreUnitsOf, TookText, TookFront}
 use Rattle.stk_lint.proofs.Counted.{unit_most}
-use Rattle.stk_lint.proofs.Units.{piece_some, joined_up, texts_of_units}
+use Rattle.stk_lint.proofs.Units.{piece_some, joined_up, text_of_unit, texts_of_units}
 
 -- ---- what a sink takes
 
@@ -36,6 +36,17 @@ front_more before middle after a b rest first (front, back, same, second) =
 -- what was taken is a front of that and more
 pub front_of : (before after : Option (List ℕ)) (a rest : List ℕ) → AppendedFront before after a → AppendedFront before after (a ++ rest)
 front_of before after a rest (front, back, same, taken) = (front, back ++ rest, ap (λ (u : List ℕ). u ++ rest) same ∙ append_assoc front back rest, taken)
+
+-- an error has what holds
+pub on_err : {T E : Type 0} (result : Result T E) (W : Type 0) → W → OnErr result W
+on_err (Ok x) W w = tt
+on_err (Err e) W w = w
+
+-- nothing is a front of what may be written of a unit
+pub no_front : (bytes : List ℕ) (tokens : List Token) (before : Option (List ℕ)) → 0 < length tokens → WroteUnitFront bytes tokens before before
+no_front bytes tokens before some =
+    let unit = text_of_unit bytes tokens some in
+    record { text = unit.text; counts = unit.counts; is = unit.is; written = ([], unit.text, refl, nothing_appended before) }
 
 -- ---- counts
 
@@ -96,11 +107,11 @@ pub record AreSoFar (bytes : List ℕ) (tokens : List Token) (pieces : List Piec
   pub goes_on : (more : List ℕ) (others : Counts) → AreUnitTexts bytes tokens (drop i pieces) more others → AreUnitTexts bytes tokens pieces (lines ++ more) (counts_sum counts others)
 
 -- the next unit begins where those so far end, and its tokens are among all
-pub record IsNextUnit (size at : ℕ) (p : Piece) (rest : List Piece) : Type 0 where
+pub record IsNextUnit (size at : ℕ) (p : Piece) (behind : List Piece) : Type 0 where
   pub from : p.from ≡ at
   pub some : p.from < p.to
   pub within : p.to ≤ size
-  pub rest : AreJoined p.to size rest
+  pub rest : AreJoined p.to size behind
 
 module _ (bytes : List ℕ) (tokens : List Token) (pieces : List Piece) (before : Option (List ℕ)) where
   pub none_so_far : AreJoined 0 (length tokens) pieces → AreSoFar bytes tokens pieces 0 before before nothing_counted
@@ -121,10 +132,22 @@ module _ (bytes : List ℕ) (tokens : List Token) (pieces : List Piece) (before 
   pub next_unit : (i : ℕ) (d : Piece) (middle : Option (List ℕ)) (counts : Counts) → i < length pieces → (h : AreSoFar bytes tokens pieces i before middle counts) → IsNextUnit (length tokens) h.at (get_or pieces i d) (drop (i + 1) pieces)
   next_unit i d middle counts within h = next_joined h.at (drop i pieces) (get_or pieces i d) (drop (i + 1) pieces) (behind i d within) h.joined where
     behind : (i : ℕ) (d : Piece) → i < length pieces → drop i pieces ≡ get_or pieces i d ∷ drop (i + 1) pieces
-    behind i d h = drop-cons pieces i d h ∙ ap (λ n. get_or pieces i d ∷ drop n pieces) (omega arith)
+    behind i d h = let e : suc i ≡ i + 1 = omega arith in drop-cons pieces i d h ∙ ap (λ n. get_or pieces i d ∷ drop n pieces) e
 
   unit_length : (p : Piece) → p.to ≤ length tokens → length (tokens_of_piece tokens p) ≤ p.to - p.from
   unit_length p h = omega (arith, length-take (p.to - p.from) (drop p.from tokens))
+
+  -- what a unit counts for, and what those before it do, is few
+  pub unit_few : (i : ℕ) (d : Piece) (middle old after : Option (List ℕ)) (counts counted : Counts) (unit : List Token) → i < length pieces → AreSoFar bytes tokens pieces i before middle counts → length tokens ≤ 16777216
+      → unit ≡ tokens_of_piece tokens (get_or pieces i d) → WroteUnit bytes unit old after counted → AreAtMost 16777216 counted
+  unit_few i d middle old after counts counted unit within h few same w =
+      let p : Piece = get_or pieces i d in
+      let n = next_unit i d middle counts within h in
+      let some : 0 < length unit = rw same (piece_some tokens p n.some n.within) in
+      most_up (length unit) 16777216 counted (omega (arith, ap length same, unit_length p n.within, n.within, few)) (unit_most bytes unit w.text counted some w.is)
+
+  pub so_far_few : (i : ℕ) (middle : Option (List ℕ)) (counts : Counts) → AreSoFar bytes tokens pieces i before middle counts → length tokens ≤ 16777216 → AreAtMost 16777216 counts
+  so_far_few i middle counts h few = most_up h.at 16777216 counts (omega (arith, joined_up h.at (length tokens) (drop i pieces) h.joined, few)) h.most
 
   -- one more unit
   pub one_more_unit : (i : ℕ) (d : Piece) (middle after : Option (List ℕ)) (counts unit : Counts) → i < length pieces → AreSoFar bytes tokens pieces i before middle counts
@@ -133,7 +156,8 @@ module _ (bytes : List ℕ) (tokens : List Token) (pieces : List Piece) (before 
       let p : Piece = get_or pieces i d in
       let n = next_unit i d middle counts within h in
       let most = unit_most bytes (tokens_of_piece tokens p) w.text unit (piece_some tokens p n.some n.within) w.is in
-      let here : drop i pieces ≡ p ∷ drop (i + 1) pieces = drop-cons pieces i d within ∙ ap (λ n. p ∷ drop n pieces) (omega arith) in
+      let e : suc i ≡ i + 1 = omega arith in
+      let here : drop i pieces ≡ p ∷ drop (i + 1) pieces = drop-cons pieces i d within ∙ ap (λ n. p ∷ drop n pieces) e in
       record {
         at = p.to;
         joined = n.rest;
@@ -153,7 +177,8 @@ module _ (bytes : List ℕ) (tokens : List Token) (pieces : List Piece) (before 
       let p : Piece = get_or pieces i d in
       let n = next_unit i d middle counts within h in
       let rest = texts_of_units bytes tokens p.to (drop (i + 1) pieces) n.rest in
-      let here : drop i pieces ≡ p ∷ drop (i + 1) pieces = drop-cons pieces i d within ∙ ap (λ n. p ∷ drop n pieces) (omega arith) in
+      let e : suc i ≡ i + 1 = omega arith in
+      let here : drop i pieces ≡ p ∷ drop (i + 1) pieces = drop-cons pieces i d within ∙ ap (λ n. p ∷ drop n pieces) e in
       record {
         lines = h.lines ++ (w.text ++ rest.lines);
         counts = counts_sum counts (counts_sum w.counts rest.counts);

@@ -13,7 +13,7 @@ use Rattle.stk_meaning.specs.Parts.{candidates}
 use Rattle.stk_small.specs.SmallForm.{IsSmall}
 use Rattle.stk_lint.specs.declared.records.Counts.{Counts}
 use Rattle.stk_lint.specs.Records.{findings_text}
-use Rattle.stk_lint.specs.LawfulText.{AreLawful, unstable_count, one_judged, spans_of, Prints, IsUnitText, AreUnitTexts}
+use Rattle.stk_lint.specs.LawfulText.{AreLawful, unstable_count, one_judged, spans_of, IsUnitText, AreUnitTexts}
 
 -- the records of lawful findings for these candidates were added to a text; so many of them are reports
 pub record AddsFindings (bytes : List ℕ) (f : FunctionTree) (list : List Candidate) (old new : List ℕ) (unstable : ℕ) : Type 0 where

@@ -1,5 +1,5 @@
 -- What the top call does: how it ends, what it wrote, and what it tells of a failure.
-use Rattle.std.specs.Prelude.{◌≡◌, ℕ, ◌≤◌, ◌⊎◌, List, [], length, Option, Some, Result, Ok, Err, codes}
+use Rattle.std.specs.Prelude.{◌≡◌, ℕ, ◌≤◌, List, [], length, Option, Some, Result, Ok, Err, codes}
 use Rattle.stk_base.specs.declared.status.Status.{Status}
 use Rattle.stk_base.specs.declared.status.Status.TheVariants.{Stable, Found, Unsure, BadWords, ReadFault, WriteFault, TooLarge, NoMemory}
 use Rattle.stk_base.specs.Streams.{Appended, AppendedFront, IsFlushed}
@@ -7,7 +7,7 @@ use Rattle.stk_lex.specs.declared.token.Token.{Token}
 use Rattle.stk_lex.specs.Cut.{IsCut, AreSpans}
 use Rattle.stk_decl.specs.declared.skimming.Skimmed.{Skimmed}
 use Rattle.stk_decl.specs.declared.cutting.Piece.{Piece}
-use Rattle.stk_decl.specs.Skimming.{kept_tokens, notes_of}
+use Rattle.stk_decl.specs.Skimming.{kept_tokens, notes_of, ArePositions}
 use Rattle.stk_decl.specs.Units.{units_of}
 use Rattle.stk_lint.specs.declared.lint.Stop.{Stop}
 use Rattle.stk_lint.specs.declared.lint.Stop.TheVariants as stops
@@ -60,10 +60,11 @@ pub record HasWrittenFront (left_before left_after taken_before taken_after : Op
 pub record IsSkimmedFrom (bytes : List ℕ) (skimmed : Skimmed) : Type 0 where
   pub tokens : List Token
   pub cut : IsCut bytes tokens
-  pub spans : AreSpans (length bytes) 0 tokens
-  pub few : length tokens ≤ length bytes
   pub same_tokens : skimmed.tokens ≡ kept_tokens bytes tokens
   pub same_notes : skimmed.notes ≡ notes_of bytes tokens
+  pub few : length skimmed.tokens ≤ length bytes
+  pub spans : AreSpans (length bytes) 0 skimmed.tokens
+  pub positions : ArePositions 0 skimmed.notes
 
 -- these are the units of an input, among the tokens of it that skimming keeps
 pub record AreUnitsOf (bytes : List ℕ) (kept : List Token) (pieces : List Piece) : Type 0 where

@@ -6,8 +6,8 @@ use Rattle.stk_base.specs.declared.token.Place.{Place}
 use Rattle.stk_base.specs.Text.{text_of}
 use Rattle.stk_lex.specs.Placing.{place_of}
 use Rattle.stk_tree.specs.declared.node.Node.{Node}
-use Rattle.stk_tree.specs.Syntax.{ExprTree, ExprFormTree, DeclrTree, DeclrTrees, DeclarationTree, StmtTree, StmtFormTree, PartTree, PartTrees, ParamTrees, FunctionTree}
-use Rattle.stk_tree.specs.Syntax.{expression, binary, some_expression, declarator, declaration, no_declarators, then_declarator, plain, some_initialiser, statement, if_statement, no_statement, return_statement, local, run, no_parts, then_part, no_parameters, then_parameter, parameter, function}
+use Rattle.stk_tree.specs.Syntax.{ExprTree, ExprFormTree, DeclrTree, DeclrTrees, StmtTree, StmtFormTree, PartTree, PartTrees, ParamTrees, FunctionTree}
+use Rattle.stk_tree.specs.Syntax.{expression, binary, some_expression, declarator, declaration, no_declarators, then_declarator, plain, some_initialiser, statement, if_statement, no_statement, return_statement, local, run, no_parts, then_part, then_parameter, parameter, function}
 use Rattle.stk_meaning.specs.declared.condition.UbKind.{UbKind}
 use Rattle.stk_meaning.specs.declared.condition.UbKind.TheVariants as kinds
 use Rattle.stk_meaning.specs.declared.candidate.Candidate.{Candidate}

@@ -5,7 +5,7 @@ ghost use Rattle.stk_base.specs.Causes.{Rose, HasCause};
 ghost use Rattle.stk_base.specs.Streams.{Came, Appended, AppendedFront, IsFlushed};
 ghost use Rattle.stk_decl.specs.Units.{AreJoined};
 ghost use Rattle.stk_lint.specs.Records.{summary_text};
-ghost use Rattle.stk_lint.specs.LawfulText.{status_of};
+ghost use Rattle.stk_lint.specs.LawfulText.{status_of, tokens_of_piece};
 ghost use Rattle.stk_lint.specs.Judged.{WroteUnit, WroteUnitFront, WroteUnits, WroteUnitsFront};
 ghost use Rattle.stk_lint.specs.Lint.{IsWritten, IsUnread, fault_line, HasWritten, HasWrittenFront, IsSkimmedFrom, AreUnitsOf, TookText, TookFront, status_after};
 
@@ -74,13 +74,14 @@ impl From<NoMemory> for Stop {
 }
 
 // The units of an input: the tokens that skimming keeps, and where each unit's stand.
+#[derive(Debug, Drop)]
 struct Units {
     tokens: List<Token>,
     pieces: Vec<Piece>,
 }
 
 // The tokens of an input that skimming keeps, and its notes.
-fn skimmed(alloc: Global, bytes: &[u8]) -> Result<Skimmed, NoMemory>
+fn skimmed_tokens(alloc: Global, bytes: &[u8]) -> Result<Skimmed, NoMemory>
     requires { length bytes.now ≤ 16777216 }
     ensures { IfOk result (IsSkimmedFrom bytes.now) }
 {
@@ -89,13 +90,13 @@ fn skimmed(alloc: Global, bytes: &[u8]) -> Result<Skimmed, NoMemory>
 }
 
 // Cuts an input into its units.
-fn units(alloc: Global, bytes: &[u8]) -> Result<Units, NoMemory>
+fn cut_into_units(alloc: Global, bytes: &[u8]) -> Result<Units, NoMemory>
     requires { length bytes.now ≤ 16777216 }
     ensures are { IfOk result (λ units. AreUnitsOf bytes.now units.tokens units.pieces.items) }
     ensures joined { IfOk result (λ units. AreJoined 0 (length units.tokens) units.pieces.items) }
     ensures few { IfOk result (λ units. length units.tokens ≤ 16777216) }
 {
-    let skimmed = skimmed(alloc, bytes)?;
+    let skimmed = skimmed_tokens(alloc, bytes)?;
     let pieces = cut(alloc, bytes, &skimmed)?;
     let Skimmed { tokens, .. } = skimmed;
     Ok(Units { tokens, pieces })
@@ -120,6 +121,16 @@ fn write_unit<K: Sink>(
     Ok(unit.counts)
 }
 
+// The tokens of a unit, among those of its file.
+fn tokens_of(tokens: &[Token], piece: Piece) -> &[Token]
+    requires { (piece.from ≤ piece.to) × (piece.to ≤ length tokens.now) }
+    ensures { result.now ≡ tokens_of_piece tokens.now piece }
+{
+    let (_, rest) = tokens.split_at(piece.from as usize);
+    let (unit, _) = rest.split_at((piece.to - piece.from) as usize);
+    unit
+}
+
 // Judges units and writes their records, one after the other. The answer is what they count for together.
 fn write_units<K: Sink>(
     alloc: Global,
@@ -137,7 +148,7 @@ fn write_units<K: Sink>(
 {
     let mut counts = Counts::nothing();
     for piece in pieces {
-        let unit = &tokens[piece.from as usize..piece.to as usize];
+        let unit = tokens_of(tokens, *piece);
         let counted = write_unit(alloc, input, unit, out)?;
         counts = counts.plus(counted);
     }
@@ -202,7 +213,7 @@ fn prepared<'a>(alloc: Global, bytes: &'a [u8]) -> Result<(Units, Places<'a>), N
     ensures few { IfOk result (λ x. length x.0.tokens ≤ 16777216) }
     ensures input { IfOk result (λ x. x.1 ≡ bytes.now) }
 {
-    let units = units(alloc, bytes)?;
+    let units = cut_into_units(alloc, bytes)?;
     let input = Places::new(alloc, bytes)?;
     Ok((units, input))
 }

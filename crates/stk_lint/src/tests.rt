@@ -14,7 +14,7 @@ struct Row {
     status: Status,
 }
 
-const ROWS: [Row; 31] = [
+const ROWS: [Row; 25] = [
     Row {
         input: "",
         records: "0 functions, 0 candidates, 0 unstable, 0 undecided, 0 skipped\n",
@@ -106,63 +106,33 @@ const ROWS: [Row; 31] = [
         status: Status::Stable,
     },
     Row {
-        input: "int f(unsigned char x) { return 256; }",
-        records: "-:1:1: skipped: other form\n0 functions, 0 candidates, 0 unstable, 0 undecided, 1 skipped\n",
+        input: "union u { int a; };\nint g(int x) { goto out; out: return x; }\nint h(int x) { return x @ 1; }\nint f(unsigned char x) { int y = 10 / x; if (x == 0) return 1; return y; }\nint k(void) { return g(1); }",
+        records: "-:1:1: skipped: other form\n-:2:1: skipped: other form\n-:3:1: skipped: other form\n-:4:54: unstable: never entered in f\n  hit: x=0\n  needs division by zero at -:4:34; without it: x=0\n-:5:1: skipped: other form\n1 functions, 1 candidates, 1 unstable, 0 undecided, 4 skipped\n",
+        status: Status::Found,
+    },
+    Row {
+        input: "# 10 \"a.c\"\nint f(unsigned char x) { int y = 10 / x; if (x == 0) return 1; return y; }\n# 3 \"inc/b\t.h\" 2\nint f(unsigned char x) { int y = 10 / x; if (x == 0) return 1; return y; }",
+        records: "a.c:10:54: unstable: never entered in f\n  hit: x=0\n  needs division by zero at a.c:10:34; without it: x=0\ninc/b?.h:3:54: unstable: never entered in f\n  hit: x=0\n  needs division by zero at inc/b?.h:3:34; without it: x=0\n2 functions, 2 candidates, 2 unstable, 0 undecided, 0 skipped\n",
+        status: Status::Found,
+    },
+    Row {
+        input: ";;;",
+        records: "0 functions, 0 candidates, 0 unstable, 0 undecided, 0 skipped\n",
         status: Status::Stable,
     },
     Row {
-        input: "int f(unsigned char x) { return 01; }",
-        records: "-:1:1: skipped: other form\n0 functions, 0 candidates, 0 unstable, 0 undecided, 1 skipped\n",
+        input: "int f(unsigned char x) {\r\nint y = 3 / x;\r\nif (x == 0) return 1;\r\nreturn y; }\r\n",
+        records: "-:3:13: unstable: never entered in f\n  hit: x=0\n  needs division by zero at -:2:9; without it: x=0\n1 functions, 1 candidates, 1 unstable, 0 undecided, 0 skipped\n",
+        status: Status::Found,
+    },
+    Row {
+        input: "extern int e; int f(unsigned char x) { /* c */ return x; } ; __extension__ int g(const unsigned char x) __attribute__((cold)) { return x; } // end",
+        records: "-:1:1: skipped: other form\n2 functions, 0 candidates, 0 unstable, 0 undecided, 1 skipped\n",
         status: Status::Stable,
     },
     Row {
-        input: "int while(unsigned char x) { return x; }",
-        records: "-:1:1: skipped: other form\n0 functions, 0 candidates, 0 unstable, 0 undecided, 1 skipped\n",
-        status: Status::Stable,
-    },
-    Row {
-        input: "int f(unsigned char f) { return f; }",
-        records: "-:1:1: skipped: other form\n0 functions, 0 candidates, 0 unstable, 0 undecided, 1 skipped\n",
-        status: Status::Stable,
-    },
-    Row {
-        input: "int f(unsigned char x) { int x = 1; return x; }",
-        records: "-:1:1: skipped: other form\n0 functions, 0 candidates, 0 unstable, 0 undecided, 1 skipped\n",
-        status: Status::Stable,
-    },
-    Row {
-        input: "int f(unsigned char x) { return y; }",
-        records: "-:1:1: skipped: other form\n0 functions, 0 candidates, 0 unstable, 0 undecided, 1 skipped\n",
-        status: Status::Stable,
-    },
-    Row {
-        input: "int f(unsigned char x) {",
-        records: "-:1:1: skipped: other form\n0 functions, 0 candidates, 0 unstable, 0 undecided, 1 skipped\n",
-        status: Status::Stable,
-    },
-    Row {
-        input: "int f(void) { return 1; }",
-        records: "-:1:1: skipped: other form\n0 functions, 0 candidates, 0 unstable, 0 undecided, 1 skipped\n",
-        status: Status::Stable,
-    },
-    Row {
-        input: "int f(unsigned char x) { if (x == 0) return 1 }",
-        records: "-:1:1: skipped: other form\n0 functions, 0 candidates, 0 unstable, 0 undecided, 1 skipped\n",
-        status: Status::Stable,
-    },
-    Row {
-        input: "int f(unsigned char x) { return x * 2; }",
-        records: "-:1:1: skipped: other form\n0 functions, 0 candidates, 0 unstable, 0 undecided, 1 skipped\n",
-        status: Status::Stable,
-    },
-    Row {
-        input: "int f(unsigned char x) { /* c */ return x; }",
-        records: "-:1:1: skipped: other form\n0 functions, 0 candidates, 0 unstable, 0 undecided, 1 skipped\n",
-        status: Status::Stable,
-    },
-    Row {
-        input: "#",
-        records: "-:1:1: skipped: other form\n0 functions, 0 candidates, 0 unstable, 0 undecided, 1 skipped\n",
+        input: "#pragma once",
+        records: "0 functions, 0 candidates, 0 unstable, 0 undecided, 0 skipped\n",
         status: Status::Stable,
     },
     Row {
@@ -170,6 +140,33 @@ const ROWS: [Row; 31] = [
         records: "-:3:3: skipped: other form\n0 functions, 0 candidates, 0 unstable, 0 undecided, 1 skipped\n",
         status: Status::Stable,
     },
+];
+
+/// Texts of one unit that is of another form.
+const OTHER_FORMS: [&str; 23] = [
+    "int f(unsigned char x) { return 256; }",
+    "int f(unsigned char x) { return 01; }",
+    "int f(unsigned char x) { return 0x1; }",
+    "int while(unsigned char x) { return x; }",
+    "int f(unsigned char while) { return 0; }",
+    "int f(unsigned char f) { return f; }",
+    "int f(unsigned char x, unsigned char x) { return x; }",
+    "int f(unsigned char x) { int x = 1; return x; }",
+    "int f(unsigned char x) { return y; }",
+    "int f(unsigned char x) { return f; }",
+    "int f(unsigned char x) { int b = 1; int c = b; return c; }",
+    "int f(unsigned char x) { int b = x < 1; return b; }",
+    "int f(unsigned char x) {",
+    "int f(void) { return 1; }",
+    "int f() { return 0; }",
+    "int f(unsigned char x) { if (x == 0) return 1 }",
+    "int f(unsigned char x) { if (x) return 0; return x; }",
+    "int f(unsigned char x) { if (x < 1) return 0; }",
+    "int f(unsigned char x) { if (x < 1) return 0; int b = 1; return b; }",
+    "int f(unsigned char x) { return x * 2; }",
+    "static int f(unsigned char x) { return x; }",
+    "int f(unsigned char x) __attribute__((aligned(8))) { return x; }",
+    "int f(unsigned char x);",
 ];
 
 /// How a source and the sinks behave in a run: the most bytes of a call, and the calls that fail.
@@ -233,6 +230,23 @@ fn each_row_has_its_records(rt: HostRuntime) -> Result<(), Fail> {
     Ok(())
 }
 
+#[test]
+fn each_other_form_is_skipped(rt: HostRuntime) -> Result<(), Fail> {
+    let records = b"-:1:1: skipped: other form\n0 functions, 0 candidates, 0 unstable, 0 undecided, 1 skipped\n";
+    for input in OTHER_FORMS {
+        check(
+            rt.alloc(),
+            &rt,
+            &CALM,
+            input.as_bytes(),
+            Status::Stable,
+            records,
+            b"",
+        )?;
+    }
+    Ok(())
+}
+
 const INPUT: &[u8] = b"int f(unsigned char x) { int y = 10 / x; if (x == 0) return 1; return y; }";
 
 const RECORDS: &[u8] =
@@ -291,7 +305,7 @@ fn each_failure_has_its_status(rt: HostRuntime) -> Result<(), Fail> {
             unwritten,
         ),
         (
-            of_outside(0, 999, None, Some(1), None),
+            of_outside(0, 999, None, Some(2), None),
             Status::WriteFault,
             RECORDS,
             unwritten,

@@ -6,7 +6,7 @@ use std::env;
 use std::io::{BufWriter, ErrorKind};
 use std::process::ExitCode;
 use std::rt::Env;
-use stk_base::{Status, write_all};
+use stk_base::{Sink, Status, write_all};
 use stk_lint::lint_main;
 use stk_real::{RealSink, RealSource};
 
@@ -30,8 +30,11 @@ fn words_of<R: Env + AllocGlobal>(rt: &R) -> Result<Vec<String>, Status> {
 }
 
 fn main(rt: HostRuntime) -> ExitCode {
+    let Ok(writer) = BufWriter::new(rt.alloc(), rt.stdout()) else {
+        return ExitCode::from(Status::NoMemory.code());
+    };
     let mut source = RealSource::new(rt.stdin());
-    let mut out = RealSink::new(rt.stdout());
+    let mut out = RealSink::new(writer);
     let mut fault = RealSink::new(rt.stderr());
     let status = match words_of(&rt) {
         Ok(words) => lint_main(
@@ -47,6 +50,10 @@ fn main(rt: HostRuntime) -> ExitCode {
         }
         Err(status) => status,
     };
+    if matches!(status, Status::NoMemory) {
+        // What was written before memory ran out.
+        let _ = out.flush();
+    }
     ExitCode::from(status.code())
 }
 

@@ -1,5 +1,3 @@
-use Rattle.std.proofs.Common.{length}
-use Rattle.stk_base.specs.Causes.{Rose}
 use Rattle.stk_lint.proofs.Complete.{complete}
 use Rattle.stk_lint.proofs.lint.lint_main.Goals as goal
 

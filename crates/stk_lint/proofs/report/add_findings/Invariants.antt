@@ -6,5 +6,5 @@ use Rattle.stk_lint.proofs.report.add_findings.Given as goal
 abbrev pub invariant-loop-candidate : goal.invariant-loop-candidate
 invariant-loop-candidate l = record {
   few : l.unstable ≤ l.candidate-index;
-  so_far : AddsFindings l.bytes (view_function l.function) (take l.candidate-index l.list) l.initial.text.items l.text.items l.unstable;
+  so_far : AddsFindings l.input (view_function l.function) (take l.candidate-index l.list) l.initial.text.items l.text.items l.unstable;
 }

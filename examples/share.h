@@ -1,0 +1,2 @@
+int share(unsigned char whole, unsigned char parts);
+struct pair { int first; int second; };
