@@ -11,3 +11,6 @@ mod spelled;
 
 pub use cutting::{Piece, cut};
 pub use skimming::{Skimmed, skim};
+
+#[cfg(test)]
+mod tests;
