@@ -64,7 +64,7 @@ for t in '(' '{' '}' ';' '@' '){' '(}' '{;}' 'const ' '_Noreturn ' '_Noreturn;' 
     many "$t" "$size" > text
     run "16 MiB of '$t'"
 done
-{ many '__attribute__(' 14680000; echo packed; many ')' 1048571; } > text
+{ many '__attribute__(' 14679994; echo packed; many ')' 1048571; } > text
 run "1,048,571 groups of attributes in one another, with packed in the last"
 { many '__attribute__(' 14680064; many ')' 1048576; } > text
 run "1,048,576 groups of attributes in one another"
