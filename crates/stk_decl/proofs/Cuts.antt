@@ -25,13 +25,13 @@ pub record Cuts (bytes : List ℕ) (tokens : List Token) (notes : List ℕ) (pie
 
 -- ---- rows of the definition
 
-units_end : (bytes notes : List ℕ) (t : Token) (ts before : List Token) (from end : ℕ) → ends_unit bytes t before ≡ true
+pub units_end : (bytes notes : List ℕ) (t : Token) (ts before : List Token) (from end : ℕ) → ends_unit bytes t before ≡ true
     → units_behind bytes notes (t ∷ ts) before from end ≡ piece_of bytes notes end from t before ∷ units_behind bytes notes ts [] (from + length before + 1) t.span.to
 unfolding units_behind
 units_end bytes notes t ts [] from end e = rw e refl
 units_end bytes notes t ts (u ∷ before) from end e = rw e refl
 
-units_on : (bytes notes : List ℕ) (t : Token) (ts before : List Token) (from end : ℕ) → ends_unit bytes t before ≡ false
+pub units_on : (bytes notes : List ℕ) (t : Token) (ts before : List Token) (from end : ℕ) → ends_unit bytes t before ≡ false
     → units_behind bytes notes (t ∷ ts) before from end ≡ units_behind bytes notes ts (t ∷ before) from end
 unfolding units_behind
 units_on bytes notes t ts [] from end e = rw e refl

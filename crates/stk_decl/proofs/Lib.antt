@@ -5,3 +5,4 @@ pub mod Kept
 pub mod Skims
 pub mod Positions
 pub mod Cuts
+pub mod InOrder

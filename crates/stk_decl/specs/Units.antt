@@ -1,7 +1,7 @@
 -- The units of a file, its external declarations (C11 6.9), cut by brackets alone.
 --
 -- The tokens of a unit, as far as they are read, stand with the last one first.
-use Rattle.std.specs.Prelude.{◌≡◌, ℕ, ◌+◌, ◌<◌, ◌≤◌, Bool, true, false, cond, ◌&&◌, ◌||◌, ◌==◌, nat_lt, nat_le, List, [], ◌∷◌, length, Option, Some, None, IfSome}
+use Rattle.std.specs.Prelude.{◌≡◌, ℕ, ◌+◌, ◌<◌, ◌≤◌, Bool, true, false, cond, ◌&&◌, ◌||◌, ◌==◌, nat_lt, nat_le, List, [], ◌∷◌, ◌++◌, ◌⊎◌, length, Option, Some, None, IfSome}
 use Rattle.std.specs.Option.{option_map}
 use Rattle.std.specs.List.{list_any}
 use Rattle.stk_lex.specs.declared.token.Token.{Token}
@@ -82,3 +82,33 @@ HasBody p = IfSome p.body (λ n. (p.from ≤ n) × (n < p.to))
 abbrev pub AreJoined : ℕ → ℕ → List Piece → Type 0
 AreJoined from to [] = from ≡ to
 AreJoined from to (p ∷ ps) = (p.from ≡ from) × (from < p.to) × HasBody p × AreJoined p.to to ps
+
+-- ---- the same, said of the tokens in their order
+
+-- tokens that are read behind others, all with the last one first
+unfoldable pub read_behind : List Token → List Token → List Token
+read_behind before [] = before
+read_behind before (t ∷ ts) = read_behind (t ∷ before) ts
+
+-- none of these tokens ends the unit that has others before them
+unfoldable pub NoneEnds : List ℕ → List Token → List Token → Type 0
+NoneEnds bytes before [] = Unit {0}
+NoneEnds bytes before (t ∷ ts) = (ends_unit bytes t before ≡ false) × NoneEnds bytes (t ∷ before) ts
+
+-- The first unit of tokens: some in front and a last one. No token in front ends it, and the last one does, or no token is
+-- behind it.
+pub record FirstUnit (bytes : List ℕ) (tokens : List Token) : Type 0 where
+  pub front : List Token
+  pub last : Token
+  pub rest : List Token
+  pub parts : tokens ≡ front ++ last ∷ rest
+  pub none_ends : NoneEnds bytes [] front
+  pub ends : (ends_unit bytes last (read_behind [] front) ≡ true) ⊎ (rest ≡ [])
+
+-- the pieces are the units of tokens in order, the first of which begins at the token `from`, where the unit before ends at the
+-- byte `end`
+abbrev pub AreUnits : List ℕ → List ℕ → ℕ → ℕ → List Token → List Piece → Type 0
+AreUnits bytes notes from end tokens [] = tokens ≡ []
+AreUnits bytes notes from end tokens (p ∷ ps) =
+    (unit : FirstUnit bytes tokens)
+    × ((p ≡ piece_of bytes notes end from unit.last (read_behind [] unit.front)) × AreUnits bytes notes (from + length unit.front + 1) unit.last.span.to unit.rest ps)

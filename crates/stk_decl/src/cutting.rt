@@ -1,10 +1,12 @@
 // The units of a file.
 
-ghost use Rattle.std.specs.Prelude.{◌≡◌, ◌≤◌, length, IfOk};
+ghost use Rattle.std.specs.Prelude.{◌≡◌, ◌≤◌, ℕ, List, length, IfOk};
+ghost use Rattle.stk_lex.specs.declared.token.Token.{Token};
 ghost use Rattle.stk_lex.specs.Cut.{AreSpans};
+ghost use Rattle.stk_decl.specs.declared.cutting.Piece.{Piece};
 ghost use Rattle.stk_decl.specs.Skimming.{ArePositions};
 ghost use Rattle.stk_decl.specs.Begun.{is_first_before};
-ghost use Rattle.stk_decl.specs.Units.{units_of, AreJoined};
+ghost use Rattle.stk_decl.specs.Units.{units_of, AreJoined, AreUnits};
 
 use crate::begun::Begun;
 use crate::notes::{is_first_before, notes_from};
@@ -75,3 +77,10 @@ pub fn cut(alloc: Global, bytes: &[u8], skimmed: &Skimmed) -> Result<Vec<Piece>,
     pieces.push(whole_piece(unit, notes))?;
     Ok(pieces)
 }
+
+/// The definition `units_of` of the units is the same as that they are cut one after the other, each where its first token
+/// stands that ends it, or else at the end.
+pub fn units_in_order()
+    ensures are { (bytes notes : List ℕ) (tokens : List Token) → AreUnits bytes notes 0 0 tokens (units_of bytes tokens notes) }
+    ensures alone { (bytes notes : List ℕ) (tokens : List Token) (pieces : List Piece) → AreUnits bytes notes 0 0 tokens pieces → pieces ≡ units_of bytes tokens notes }
+{}

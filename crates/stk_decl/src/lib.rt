@@ -9,5 +9,8 @@ mod notes;
 mod skimming;
 mod spelled;
 
-pub use cutting::{Piece, cut};
+pub use cutting::{Piece, cut, units_in_order};
 pub use skimming::{Skimmed, skim};
+
+#[cfg(test)]
+mod tests;
