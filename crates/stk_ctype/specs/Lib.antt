@@ -1,0 +1,5 @@
+pub mod Kinds
+pub mod Types
+pub mod Structs
+pub mod Sound
+pub mod Names
