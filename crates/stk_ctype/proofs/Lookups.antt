@@ -4,11 +4,12 @@ use Rattle.std.proofs.lemmas.List.{take_more}
 use Rattle.stk_ctype.specs.declared.symbol.NameEntry.{NameEntry}
 use Rattle.stk_ctype.specs.Names.{later_of, symbol_named, find}
 
-later-assoc : {T : Type 0} (a b c : Option T) → later_of a (later_of b c) ≡ later_of (later_of a b) c
+-- the later of three answers
+pub later-assoc : {T : Type 0} (a b c : Option T) → later_of a (later_of b c) ≡ later_of (later_of a b) c
 later-assoc a b None = refl
 later-assoc a b (Some x) = refl
 
-later-none : {T : Type 0} (a : Option T) → later_of None a ≡ a
+pub later-none : {T : Type 0} (a : Option T) → later_of None a ≡ a
 later-none None = refl
 later-none (Some x) = refl
 

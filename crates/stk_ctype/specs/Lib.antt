@@ -3,3 +3,4 @@ pub mod Types
 pub mod Structs
 pub mod Sound
 pub mod Names
+pub mod Index

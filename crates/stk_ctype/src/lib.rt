@@ -3,6 +3,7 @@
 #![tactic(auto)]
 
 mod ctype;
+mod index;
 mod kind;
 mod names;
 mod symbol;
