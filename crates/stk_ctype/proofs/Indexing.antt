@@ -14,7 +14,7 @@ use Rattle.std.proofs.lemmas.Map.Text.{is_eq-slice_cmp}
 use Rattle.stk_base.specs.Text.{same_text}
 use Rattle.stk_ctype.specs.declared.index.Index.{Index}
 use Rattle.stk_ctype.specs.Names.{later_of}
-use Rattle.stk_ctype.specs.Index.{Places, place_of, last_place, earlier_places, looked_up, IsIndexOf}
+use Rattle.stk_ctype.specs.Index.{meaning_of, last_meaning, earlier_meanings, looked_up, IsIndexOf}
 use Rattle.stk_ctype.proofs.Lookups.{later-assoc, later-none}
 
 -- ---- maps whose keys are bytes
@@ -44,27 +44,10 @@ updates_bytes : (bs : List ℕ) {X : Type 0} (m n : BTreeMap (Vec ℕ Global) X)
 updates_bytes bs m n w h =
     by_bytes (found m) (found n) bs w h.1 (λ cs e. others _ _ _ _ h.3 _ (λ x y. (eq_by_cmp_equiv nat_list_cmp_total).congr cs x.items y.items) (λ k. apart_in_order bs cs k.items e))
 
--- ---- words that come behind others
-last_place-append : (word : List ℕ) (ps : Places) (p : List ℕ × ℕ) → last_place word (ps ++ p ∷ []) ≡ later_of (last_place word ps) (place_of word p)
-last_place-append word [] p = sym (later-none (place_of word p))
-last_place-append word (x ∷ ps) p = ap (later_of (place_of word x)) (last_place-append word ps p) ∙ later-assoc (place_of word x) (last_place word ps) (place_of word p)
-
-earlier-append : (before ps : Places) (p : List ℕ × ℕ) → earlier_places before (ps ++ p ∷ []) ≡ earlier_places before ps ++ last_place p.0 (before ++ ps) ∷ []
-earlier-append before [] p = ap (λ b. last_place p.0 b ∷ []) (sym (append-nil before))
-earlier-append before (x ∷ ps) p =
-    ap (λ t. last_place x.0 before ∷ t) (earlier-append (before ++ x ∷ []) ps p ∙ ap (λ b. earlier_places (before ++ x ∷ []) ps ++ last_place p.0 b ∷ []) (append_assoc before (x ∷ []) ps))
-
+-- ---- lists and answers
 later-cond : (b : Bool) {X : Type 0} (a : Option X) (x : X) → later_of a (cond b (Some x) None) ≡ cond b (Some x) a
 later-cond true a x = refl
 later-cond false a x = refl
-
--- a word came
-pub pushed : (old new : Index) (word : List ℕ) (place : ℕ) → UpdatesBy (λ x y. slice_cmp nat_cmp x.items y.items) (λ k. slice_cmp nat_cmp word k.items) old.last new.last (Some place)
-    → new.earlier.items ≡ old.earlier.items ++ looked_up old word ∷ [] → (places : Places) → IsIndexOf old places → IsIndexOf new (places ++ (word, place) ∷ [])
-pushed old new word place updates grown places is = record {
-  last = λ w. updates_bytes word old.last new.last (Some place) updates w ∙ ap (cond (bytes_eq word w) (Some place)) (is.last w) ∙ sym (later-cond (bytes_eq word w) (last_place w places) place) ∙ sym (last_place-append w places (word, place));
-  earlier = grown ∙ ap (λ e. e ++ looked_up old word ∷ []) is.earlier ∙ ap (λ x. earlier_places [] places ++ x ∷ []) (is.last word) ∙ sym (earlier-append [] places (word, place));
-}
 
 front_same : {X : Type 0} (xs ys : List X) (x y : X) → xs ++ x ∷ [] ≡ ys ++ y ∷ [] → (xs ≡ ys) × (x ≡ y)
 front_same [] [] x y e = (refl, cc)
@@ -84,33 +67,52 @@ later-other : (b : Bool) {X : Type 0} (a : Option X) (x : X) → b ≡ false →
 later-other true a x e = cc
 later-other false a x e = refl
 
--- the last word went, and its earlier place came back
-pub popped : (old new : Index) (word : List ℕ) (x : Option ℕ) → UpdatesBy (λ x y. slice_cmp nat_cmp x.items y.items) (λ k. slice_cmp nat_cmp word k.items) old.last new.last x
-    → old.earlier.items ≡ new.earlier.items ++ x ∷ [] → (places : Places) (place : ℕ) → IsIndexOf old (places ++ (word, place) ∷ []) → IsIndexOf new places
-popped old new word x updates shrunk places place is =
-    let both = front_same new.earlier.items (earlier_places [] places) x (last_place word places) (sym shrunk ∙ is.earlier ∙ earlier-append [] places (word, place)) in
-    record {
-      last = λ w. updates_bytes word old.last new.last x updates w
-          ∙ cond-same (bytes_eq word w) x (looked_up old w) (last_place w places)
-          (λ same. both.1 ∙ ap (λ v. last_place v places) ((bytes_decides word w).0 same))
-          (λ other. is.last w ∙ last_place-append w places (word, place) ∙ later-other (bytes_eq word w) (last_place w places) place other);
-      earlier = both.0;
-    }
+-- ---- words that come behind others
+module _ {M : Type 0} where
+  last_meaning-append : (word : List ℕ) (ps : List (List ℕ × M)) (p : List ℕ × M) → last_meaning word (ps ++ p ∷ []) ≡ later_of (last_meaning word ps) (meaning_of word p)
+  last_meaning-append word [] p = sym (later-none (meaning_of word p))
+  last_meaning-append word (x ∷ ps) p = ap (later_of (meaning_of word x)) (last_meaning-append word ps p) ∙ later-assoc (meaning_of word x) (last_meaning word ps) (meaning_of word p)
 
--- an index whose last word is this one has a place for it
-pub holds_last : (old : Index) (word : List ℕ) (places : Places) (place : ℕ) → IsIndexOf old (places ++ (word, place) ∷ []) → looked_up old word ≡ Some place
-holds_last old word places place is =
-    is.last word ∙ last_place-append word places (word, place) ∙ later-cond (bytes_eq word word) (last_place word places) place
-    ∙ cond-true (bytes_eq word word) (Some place) (last_place word places) ((bytes_decides word word).1 refl)
+  earlier-append : (before ps : List (List ℕ × M)) (p : List ℕ × M) → earlier_meanings before (ps ++ p ∷ []) ≡ earlier_meanings before ps ++ last_meaning p.0 (before ++ ps) ∷ []
+  earlier-append before [] p = ap (λ b. last_meaning p.0 b ∷ []) (sym (append-nil before))
+  earlier-append before (x ∷ ps) p =
+      ap (λ t. last_meaning x.0 before ∷ t) (earlier-append (before ++ x ∷ []) ps p ∙ ap (λ b. earlier_meanings (before ++ x ∷ []) ps ++ last_meaning p.0 b ∷ []) (append_assoc before (x ∷ []) ps))
 
--- it isn't empty
-pub holds_some : (old : Index) (word : List ℕ) (places : Places) (place : ℕ) → IsIndexOf old (places ++ (word, place) ∷ []) → 0 < length old.earlier.items
-holds_some old word places place is =
-    let size = ap length (is.earlier ∙ earlier-append [] places (word, place)) in
-    omega (arith, size, length-append (earlier_places [] places) (last_place word places ∷ []))
+  -- a word came
+  pub pushed : (old new : Index M) (word : List ℕ) (meaning : M) → UpdatesBy (λ x y. slice_cmp nat_cmp x.items y.items) (λ k. slice_cmp nat_cmp word k.items) old.last new.last (Some meaning)
+      → new.earlier.items ≡ old.earlier.items ++ looked_up old word ∷ [] → (words : List (List ℕ × M)) → IsIndexOf old words → IsIndexOf new (words ++ (word, meaning) ∷ [])
+  pushed old new word meaning updates grown words is = record {
+    last = λ w. updates_bytes word old.last new.last (Some meaning) updates w ∙ ap (cond (bytes_eq word w) (Some meaning)) (is.last w) ∙ sym (later-cond (bytes_eq word w) (last_meaning w words) meaning) ∙ sym (last_meaning-append w words (word, meaning));
+    earlier = grown ∙ ap (λ e. e ++ looked_up old word ∷ []) is.earlier ∙ ap (λ x. earlier_meanings [] words ++ x ∷ []) (is.last word) ∙ sym (earlier-append [] words (word, meaning));
+  }
 
--- a word came, which the map keeps under a copy
-pub pushed_key : (old new : Index) (key word : List ℕ) (place : ℕ) → key ≡ word → UpdatesBy (λ x y. slice_cmp nat_cmp x.items y.items) (λ k. slice_cmp nat_cmp key k.items) old.last new.last (Some place)
-    → new.earlier.items ≡ old.earlier.items ++ looked_up old word ∷ [] → (places : Places) → IsIndexOf old places → IsIndexOf new (places ++ (word, place) ∷ [])
-pushed_key old new key word place e updates =
-    pushed old new word place (subst (λ b. UpdatesBy (λ x y. slice_cmp nat_cmp x.items y.items) (λ k. slice_cmp nat_cmp b k.items) old.last new.last (Some place)) e updates)
+  -- the last word went, and its earlier meaning came back
+  pub popped : (old new : Index M) (word : List ℕ) (x : Option M) → UpdatesBy (λ x y. slice_cmp nat_cmp x.items y.items) (λ k. slice_cmp nat_cmp word k.items) old.last new.last x
+      → old.earlier.items ≡ new.earlier.items ++ x ∷ [] → (words : List (List ℕ × M)) (meaning : M) → IsIndexOf old (words ++ (word, meaning) ∷ []) → IsIndexOf new words
+  popped old new word x updates shrunk words meaning is =
+      let both = front_same new.earlier.items (earlier_meanings [] words) x (last_meaning word words) (sym shrunk ∙ is.earlier ∙ earlier-append [] words (word, meaning)) in
+      record {
+        last = λ w. updates_bytes word old.last new.last x updates w
+            ∙ cond-same (bytes_eq word w) x (looked_up old w) (last_meaning w words)
+            (λ same. both.1 ∙ ap (λ v. last_meaning v words) ((bytes_decides word w).0 same))
+            (λ other. is.last w ∙ last_meaning-append w words (word, meaning) ∙ later-other (bytes_eq word w) (last_meaning w words) meaning other);
+        earlier = both.0;
+      }
+
+  -- an index whose last word is this one has a meaning for it
+  pub holds_last : (old : Index M) (word : List ℕ) (words : List (List ℕ × M)) (meaning : M) → IsIndexOf old (words ++ (word, meaning) ∷ []) → looked_up old word ≡ Some meaning
+  holds_last old word words meaning is =
+      is.last word ∙ last_meaning-append word words (word, meaning) ∙ later-cond (bytes_eq word word) (last_meaning word words) meaning
+      ∙ cond-true (bytes_eq word word) (Some meaning) (last_meaning word words) ((bytes_decides word word).1 refl)
+
+  -- it isn't empty
+  pub holds_some : (old : Index M) (word : List ℕ) (words : List (List ℕ × M)) (meaning : M) → IsIndexOf old (words ++ (word, meaning) ∷ []) → 0 < length old.earlier.items
+  holds_some old word words meaning is =
+      let size = ap length (is.earlier ∙ earlier-append [] words (word, meaning)) in
+      omega (arith, size, length-append (earlier_meanings [] words) (last_meaning word words ∷ []))
+
+  -- a word came, which the map keeps under a copy
+  pub pushed_key : (old new : Index M) (key word : List ℕ) (meaning : M) → key ≡ word → UpdatesBy (λ x y. slice_cmp nat_cmp x.items y.items) (λ k. slice_cmp nat_cmp key k.items) old.last new.last (Some meaning)
+      → new.earlier.items ≡ old.earlier.items ++ looked_up old word ∷ [] → (words : List (List ℕ × M)) → IsIndexOf old words → IsIndexOf new (words ++ (word, meaning) ∷ [])
+  pushed_key old new key word meaning e updates =
+      pushed old new word meaning (subst (λ b. UpdatesBy (λ x y. slice_cmp nat_cmp x.items y.items) (λ k. slice_cmp nat_cmp b k.items) old.last new.last (Some meaning)) e updates)

@@ -4,3 +4,4 @@ pub mod Structs
 pub mod Sound
 pub mod Names
 pub mod Index
+pub mod Facts

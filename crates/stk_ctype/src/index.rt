@@ -1,21 +1,21 @@
-// Words with places, of which the last of each word is found fast.
-ghost use Rattle.std.specs.Prelude.{◌≡◌, [], ◌∷◌, ◌++◌, OnOk, OnErr, ℕ};
-ghost use Rattle.stk_ctype.specs.Index.{IsIndexOf, Places, last_place};
+// Words with meanings, of which the last of each word is found fast.
+ghost use Rattle.std.specs.Prelude.{◌≡◌, [], ◌∷◌, ◌++◌, OnOk, OnErr, ℕ, List};
+ghost use Rattle.stk_ctype.specs.Index.{IsIndexOf, last_meaning};
 
 use std::alloc::Global;
 use std::collections::BTreeMap;
 use stk_base::NoMemory;
 
-/// For each word its last place, and for each word that was pushed the place that it had before, so that a push can be undone.
+/// For each word its last meaning, and for each word that was pushed the meaning that it had before, so that a push can be undone.
 #[derive(Drop)]
-pub struct Index {
-    last: BTreeMap<Vec<u8>, u32>,
-    earlier: Vec<Option<u32>>,
+pub struct Index<M> {
+    last: BTreeMap<Vec<u8>, M>,
+    earlier: Vec<Option<M>>,
 }
 
-impl Index {
+impl<M: Copy> Index<M> {
     /// No words. It takes no memory.
-    pub fn new(alloc: Global) -> Index
+    pub fn new(alloc: Global) -> Index<M>
         ensures { IsIndexOf result [] }
     {
         Index {
@@ -24,15 +24,15 @@ impl Index {
         }
     }
 
-    /// Puts a word with a place behind the others. After `NoMemory` the index keeps what it kept.
-    pub fn push(&mut self, alloc: Global, word: &[u8], place: u32) -> Result<(), NoMemory>
-        ensures added { OnOk result ((places : Places) → IsIndexOf self.old places → IsIndexOf self.new (places ++ (word.now, place) ∷ [])) }
-        ensures kept { OnErr result ((places : Places) → IsIndexOf self.old places → IsIndexOf self.new places) }
+    /// Puts a word with a meaning behind the others. After `NoMemory` the index keeps what it kept.
+    pub fn push(&mut self, alloc: Global, word: &[u8], meaning: M) -> Result<(), NoMemory>
+        ensures added { OnOk result ((words : List (List ℕ × M)) → IsIndexOf self.old words → IsIndexOf self.new (words ++ (word.now, meaning) ∷ [])) }
+        ensures kept { OnErr result ((words : List (List ℕ × M)) → IsIndexOf self.old words → IsIndexOf self.new words) }
     {
         let key = Vec::from_slice(alloc, word)?;
         let earlier = self.last.get(word).copied();
         self.earlier.push(earlier)?;
-        let Ok(_) = self.last.insert(key, place) else {
+        let Ok(_) = self.last.insert(key, meaning) else {
             self.earlier.pop();
             return Err(NoMemory);
         };
@@ -41,12 +41,12 @@ impl Index {
 
     /// Takes the last word away, which is this one. It takes no memory.
     pub fn pop(&mut self, word: &[u8])
-        ensures { (places : Places) → (place : ℕ) → IsIndexOf self.old (places ++ (word.now, place) ∷ []) → IsIndexOf self.new places }
+        ensures { (words : List (List ℕ × M)) → (meaning : M) → IsIndexOf self.old (words ++ (word.now, meaning) ∷ []) → IsIndexOf self.new words }
     {
         match self.earlier.pop() {
-            Some(Some(place)) => {
+            Some(Some(meaning)) => {
                 if let Some(last) = self.last.get_mut(word) {
-                    *last = place;
+                    *last = meaning;
                 }
             }
             Some(None) => {
@@ -56,9 +56,9 @@ impl Index {
         }
     }
 
-    /// The last place of a word.
-    pub fn get(&self, word: &[u8]) -> Option<u32>
-        ensures { (places : Places) → IsIndexOf self.now places → result ≡ last_place word.now places }
+    /// The last meaning of a word.
+    pub fn get(&self, word: &[u8]) -> Option<M>
+        ensures { (words : List (List ℕ × M)) → IsIndexOf self.now words → result ≡ last_meaning word.now words }
     {
         self.last.get(word).copied()
     }

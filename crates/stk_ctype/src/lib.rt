@@ -3,6 +3,7 @@
 #![tactic(auto)]
 
 mod ctype;
+mod facts;
 mod index;
 mod kind;
 mod names;
