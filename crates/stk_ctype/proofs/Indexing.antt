@@ -1,17 +1,16 @@
 -- An index after a word came or went.
 use Rattle.std.proofs.Common.{◌≡◌, ◌<◌, ℕ, length, length-append, arith, Bool, true, false, cond, List, [], ◌∷◌, ◌++◌, Option, Some, None, refl, sym, ap, subst, ◌∙◌, append_assoc, append-nil}
 use mathlib.Core.Logic.{⊎_elim}
-use Rattle.std.specs.Ordering.{is_eq, nat_cmp, eq_by_cmp}
+use Rattle.std.specs.Ordering.{is_eq, nat_cmp}
 use Rattle.std.specs.Cmp.{eq_by_cmp_equiv}
 use Rattle.std.specs.Cmp.Lexicographic.{slice_cmp, bytes_decides, nat_list_cmp_total, nat_list_eq_equiv}
 use Rattle.std.specs.Str.{bytes_eq}
 use Rattle.std.specs.BTreeMap.{BTreeMap, UpdatesBy, get_by}
-use Rattle.std.specs.Map.{lookup, IsKeyTest, AreApart, KeepsOthers, update}
+use Rattle.std.specs.Map.{lookup, IsKeyTest, AreApart, KeepsOthers}
 use Rattle.std.specs.declared.vec.Vec.{Vec}
 use Rattle.std.specs.declared.alloc.Global.{Global}
 use Rattle.std.proofs.lemmas.Bool.{cases_Bool, cond-true, cond-false}
 use Rattle.std.proofs.lemmas.Map.Text.{is_eq-slice_cmp}
-use Rattle.stk_base.specs.Text.{same_text}
 use Rattle.stk_ctype.specs.declared.index.Index.{Index}
 use Rattle.stk_ctype.specs.Names.{later_of}
 use Rattle.stk_ctype.specs.Index.{meaning_of, last_meaning, earlier_meanings, looked_up, IsIndexOf}

@@ -1,7 +1,7 @@
 -- The facts of entries with one entry more.
-use Rattle.std.proofs.Common.{◌≡◌, ◌≢◌, ◌<◌, ◌≤◌, ◌+◌, ℕ, suc, zero, Bool, true, false, List, [], ◌∷◌, ◌++◌, Option, Some, None, Result, Ok, Err, OnOk, length, refl, sym, ap, subst, ◌∙◌, arith, append_assoc, append-nil, length-append, add_assoc, add-zero}
+use Rattle.std.proofs.Common.{◌≡◌, ◌<◌, ◌≤◌, ◌+◌, ℕ, suc, zero, List, [], ◌∷◌, ◌++◌, Option, Some, None, Result, Ok, Err, OnOk, length, refl, sym, ap, subst, ◌∙◌, arith, append_assoc, append-nil, length-append, add-zero}
 use mathlib.Core.Logic.{⊎_elim}
-use Rattle.std.specs.Prelude.{slice_index_or, slice_set, IsSome, ◌↔◌}
+use Rattle.std.specs.Prelude.{slice_index_or, slice_set, IsSome}
 use Rattle.std.specs.Option.{option_to_list}
 use Rattle.std.specs.Vec.{vec_len}
 use Rattle.std.specs.declared.vec.Vec.{Vec}
@@ -24,7 +24,7 @@ use Rattle.stk_ctype.specs.Structs.{Structs, StructLayout, struct_at, after, str
 use Rattle.stk_ctype.specs.Sound.{RestsOn}
 use Rattle.stk_ctype.specs.Names.{structs_in, struct_count}
 use Rattle.stk_ctype.specs.Index.{IsIndexOf}
-use Rattle.stk_ctype.specs.Facts.{symbol_word, symbol_words, tag_word, tag_words, entry_at, IsLayoutOf, IsKept, AreLawful, AreFactsOf, IsNewLayout}
+use Rattle.stk_ctype.specs.Facts.{symbol_word, symbol_words, tag_word, tag_words, entry_at, IsKept, AreLawful, AreFactsOf, IsNewLayout}
 
 -- ---- lists
 default-append : {X : Type 0} (xs : List X) (d : X) (i : ℕ) → slice_index_or (xs ++ d ∷ []) i d ≡ slice_index_or xs i d
@@ -78,6 +78,7 @@ kept_more es e id (Some k) (Some s) so = record {
   members = get_or-append es (e ∷ []) (entry.Enumeration []) k.at so.at ∙ so.members;
   offsets = so.offsets;
   size = so.size;
+  some = so.some;
   alignment = so.alignment;
   least = so.least;
   greatest = so.greatest;
@@ -101,6 +102,7 @@ kept_less es e id (Some k) (Some s) so other =
       members = sym (get_or-append es (e ∷ []) (entry.Enumeration []) k.at at) ∙ so.members;
       offsets = so.offsets;
       size = so.size;
+      some = so.some;
       alignment = so.alignment;
       least = so.least;
       greatest = so.greatest;

@@ -1,5 +1,6 @@
 -- What is kept beside the entries, so that look-ups are fast. No contract of a public call mentions it.
 use Rattle.std.specs.Prelude.{◌≡◌, ℕ, ◌+◌, ◌≤◌, ◌<◌, List, [], ◌∷◌, ◌++◌, length, slice_index_or, Option, Some, None}
+use Rattle.stk_ctype.specs.declared.symbol.Symbol.{Symbol}
 use Rattle.stk_ctype.specs.declared.symbol.NameEntry.{NameEntry}
 use Rattle.stk_ctype.specs.declared.symbol.NameEntry.TheVariants as entry
 use Rattle.stk_ctype.specs.declared.symbol.Tag.{Tag}
@@ -46,6 +47,7 @@ pub record IsLayoutOf (es : List NameEntry) (id : ℕ) (kept : Layout) (s : Stru
   pub members : entry_at es kept.at ≡ entry.Members id s.members
   pub offsets : kept.offsets.items ≡ s.offsets
   pub size : kept.size ≡ s.size
+  pub some : 1 ≤ s.size
   pub alignment : kept.alignment ≡ s.alignment
   pub least : 1 ≤ s.alignment
   pub greatest : s.alignment ≤ 8
@@ -69,6 +71,13 @@ pub record AreFactsOf (facts : Facts) (es : List NameEntry) : Type 0 where
   pub count : length facts.layouts.items ≡ length (structs_of es)
   pub layouts : (id : ℕ) → IsKept es id (slice_index_or facts.layouts.items id None) (struct_at (structs_of es) id)
   pub lawful : AreLawful [] es
+
+-- what an entry says a name means, whatever the name
+abbrev pub symbol_in : NameEntry → Option Symbol
+symbol_in (entry.Symbol name symbol) = Some symbol
+symbol_in (entry.Struct tag) = None
+symbol_in (entry.Members id members) = None
+symbol_in (entry.Enumeration tag) = None
 
 -- a layout to be kept is that of the struct that an entry gives its members; any other entry has none
 abbrev pub IsNewLayout : List NameEntry → NameEntry → Option Layout → Type 0

@@ -1,8 +1,10 @@
 -- Sizes and alignments of types, and how a struct's members are placed (C11 6.2.8, 6.5.3.4, 6.7.2.1), in bytes.
 --
 -- `Structs` says of each struct, in the order of their numbers, how it is laid out; `None` while it is incomplete.
-use Rattle.std.specs.Prelude.{ℕ, ◌+◌, ◌-◌, ◌*◌, ◌/◌, max, List, [], ◌∷◌, ◌++◌, slice_index_or, slice_set, Option, Some, None, unwrap_or}
+use Rattle.std.specs.Prelude.{ℕ, ◌+◌, ◌-◌, ◌*◌, ◌/◌, nat_le, ◌&&◌, if◌then◌else◌, max, List, [], ◌∷◌, ◌++◌, slice_index_or, slice_set, Option, Some, None, unwrap_or}
 use Rattle.std.specs.Option.{option_map, option_map_or}
+use Rattle.stk_base.specs.Text.{same_text}
+use Rattle.stk_ctype.specs.declared.ctype.CType.{CType}
 use Rattle.stk_ctype.specs.declared.symbol.MemberInfo.{MemberInfo}
 use Rattle.stk_ctype.specs.declared.symbol.NameEntry.{NameEntry}
 use Rattle.stk_ctype.specs.declared.symbol.NameEntry.TheVariants as entry
@@ -82,6 +84,14 @@ greatest_alignment structs (m ∷ ms) = max (alignment_of structs (type_of m.ty)
 abbrev pub struct_size : Structs → List MemberInfo → ℕ
 struct_size structs ms = round_up (greatest_alignment structs ms) (end_of structs 0 ms)
 
+-- a size of a struct, where it is from 1 to the limit
+abbrev pub within_limit : ℕ → Option ℕ
+within_limit size = if nat_le 1 size && nat_le size size_limit then Some size else None
+
+-- the size of a struct with these members, where it may be one
+abbrev pub layout_of : Structs → List MemberInfo → Option ℕ
+layout_of structs ms = within_limit (struct_size structs ms)
+
 -- a struct with these members
 abbrev pub laid_out : Structs → List MemberInfo → StructLayout
 laid_out structs ms = record {
@@ -90,6 +100,26 @@ laid_out structs ms = record {
   size = struct_size structs ms;
   alignment = greatest_alignment structs ms;
 }
+
+-- the first member of a name among members with their offsets: its offset and its type
+abbrev pub member_named : List ℕ → List MemberInfo → List ℕ → Option (ℕ × CType)
+member_named name [] offsets = None
+member_named name (m ∷ ms) [] = None
+member_named name (m ∷ ms) (offset ∷ offsets) = if same_text m.name name then Some (offset, m.ty) else member_named name ms offsets
+
+-- the same of a struct that may be incomplete
+abbrev pub member_in : List ℕ → Option StructLayout → Option (ℕ × CType)
+member_in name None = None
+member_in name (Some s) = member_named name s.members s.offsets
+
+-- the member of a name that a type has: its offset and its type (C11 6.5.2.3)
+abbrev pub member_of : Structs → TypeTree → List ℕ → Option (ℕ × CType)
+member_of structs void_type name = None
+member_of structs (integer_type kind) name = None
+member_of structs (pointer_type t) name = None
+member_of structs (array_type t count) name = None
+member_of structs (struct_type id) name = member_in name (struct_at structs id)
+member_of structs (function_type f) name = None
 
 -- the structs after one entry: one more that is incomplete, or one that is laid out now
 abbrev pub after : Structs → NameEntry → Structs

@@ -7,6 +7,7 @@ mod facts;
 mod index;
 mod kind;
 mod names;
+mod sizes;
 mod symbol;
 
 pub use ctype::{CType, Signature};

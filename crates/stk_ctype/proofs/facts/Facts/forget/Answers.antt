@@ -1,4 +1,4 @@
-use Rattle.std.proofs.Common.{◌≡◌, refl}
+use Rattle.std.proofs.Common.{refl}
 use Rattle.stk_ctype.proofs.Noting.{symbol_forgot, enumeration_forgot, untagged_forgot, tagged_forgot, members_forgot, has_place}
 use Rattle.stk_ctype.proofs.facts.Facts.forget.Goals as goal
 

@@ -1,4 +1,4 @@
-use Rattle.std.proofs.Common.{◌≡◌, refl}
+use Rattle.std.proofs.Common.{refl}
 use Rattle.stk_ctype.proofs.Noting.{symbol_noted, enumeration_noted, members_noted}
 use Rattle.stk_ctype.proofs.facts.Facts.note.Goals as goal
 

@@ -1,4 +1,4 @@
-use Rattle.std.proofs.Common.{◌≡◌, refl, arith}
+use Rattle.std.proofs.Common.{arith}
 use Rattle.stk_ctype.proofs.Noting.{untagged_noted, tagged_noted, kept_few}
 use Rattle.stk_ctype.proofs.facts.Facts.note_struct.Goals as goal
 

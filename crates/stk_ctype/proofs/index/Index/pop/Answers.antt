@@ -1,4 +1,4 @@
-use Rattle.std.proofs.Common.{◌≡◌, Some, None, Option, ℕ, rules, arith, ◌∙◌, ◌++◌, ◌∷◌, [], ap}
+use Rattle.std.proofs.Common.{◌≡◌, Some, None, Option, rules, arith, ◌∙◌, ◌++◌, ◌∷◌, [], ap}
 use Rattle.stk_ctype.proofs.Indexing.{popped, holds_last, holds_some}
 use Rattle.stk_ctype.proofs.index.Index.pop.Goals as goal
 

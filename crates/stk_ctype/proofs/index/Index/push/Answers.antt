@@ -1,4 +1,4 @@
-use Rattle.std.proofs.Common.{◌≡◌, ◌∙◌, ◌++◌, ◌∷◌, [], ap}
+use Rattle.std.proofs.Common.{◌∙◌, ◌++◌, ◌∷◌, [], ap}
 use Rattle.stk_ctype.proofs.Indexing.{pushed_key}
 use Rattle.stk_ctype.proofs.index.Index.push.Goals as goal
 
