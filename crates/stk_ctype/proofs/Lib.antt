@@ -4,3 +4,4 @@ pub mod Noting
 pub mod Views
 pub mod SizesOfTypes
 pub mod Placing
+pub mod Layering

@@ -5,3 +5,4 @@ pub mod Sound
 pub mod Names
 pub mod Index
 pub mod Facts
+pub mod Layers

@@ -2,6 +2,7 @@
 //! each type.
 #![tactic(auto)]
 
+mod copying;
 mod ctype;
 mod facts;
 mod index;
