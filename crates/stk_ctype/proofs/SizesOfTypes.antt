@@ -1,5 +1,5 @@
 -- Sizes of sound types, and the loops that find them.
-use Rattle.std.proofs.Common.{◌≡◌, ◌≤◌, ◌*◌, ℕ, suc, zero, List, Option, Some, None, IsSome, refl, sym, ap, subst, ◌∙◌, arith}
+use Rattle.std.proofs.Common.{◌≡◌, ◌≤◌, ◌<◌, ◌*◌, ℕ, suc, zero, List, Option, Some, None, IsSome, refl, sym, ap, subst, ◌∙◌, arith}
 use Rattle.std.specs.Prelude.{IfSome}
 use Rattle.std.specs.Option.{option_map}
 use Rattle.stk_ctype.specs.declared.kind.IntKind.{IntKind}
@@ -13,7 +13,9 @@ use Rattle.stk_ctype.specs.Kinds.{bytes_of}
 use Rattle.stk_ctype.specs.Types.{TypeTree, void_type, integer_type, pointer_type, array_type, struct_type, function_type, type_of}
 use Rattle.stk_ctype.specs.Structs.{Structs, StructLayout, struct_at, structs_of, array_size, size_of, size_limit}
 use Rattle.stk_ctype.specs.Sound.{IsSound, IsWithinLimit, IsCount}
+use Rattle.stk_ctype.specs.Names.{struct_count}
 use Rattle.stk_ctype.specs.Facts.{IsKept, AreFactsOf}
+use Rattle.stk_ctype.proofs.Noting.{length-structs_behind}
 use Rattle.stk_ctype.proofs.Views.{view_array}
 
 -- ---- sizes are at least 1 and within the limit
@@ -85,6 +87,20 @@ sound_within S (pointer_type t) so = omega arith
 sound_within S (array_type t count) so = so.3
 sound_within S (struct_type id) so = so.1
 sound_within S (function_type f) so = tt
+
+kept_within : (es : List NameEntry) (id : ℕ) (k : Option Layout) (s : Option StructLayout) → IsKept es id k s → IsWithinLimit (option_map (λ l. l.size) s)
+kept_within es id None None so = tt
+kept_within es id None (Some s) so = absurd so
+kept_within es id (Some k) None so = tt
+kept_within es id (Some k) (Some s) so = so.within
+
+-- each struct is within the limit
+pub struct_within : (facts : Facts) (es : List NameEntry) → AreFactsOf facts es → (id : ℕ) → IsWithinLimit (size_of (structs_of es) (struct_type id))
+struct_within facts es so id = kept_within es id _ _ (so.layouts id)
+
+-- a struct that is declared is sound
+pub declared_sound : (facts : Facts) (es : List NameEntry) (id : ℕ) → AreFactsOf facts es → id < struct_count es → IsSound (structs_of es) (struct_type id)
+declared_sound facts es id so below = (omega (arith, below, length-structs_behind [] es), struct_within facts es so id)
 
 -- ---- down an array
 -- so many of the type at hand make the whole type

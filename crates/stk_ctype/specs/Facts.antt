@@ -7,7 +7,7 @@ use Rattle.stk_ctype.specs.declared.symbol.Tag.{Tag}
 use Rattle.stk_ctype.specs.declared.symbol.Tag.TheVariants as tag
 use Rattle.stk_ctype.specs.declared.facts.Layout.{Layout}
 use Rattle.stk_ctype.specs.declared.facts.Facts.{Facts}
-use Rattle.stk_ctype.specs.Structs.{Structs, StructLayout, struct_at, after, structs_of, laid_out}
+use Rattle.stk_ctype.specs.Structs.{Structs, StructLayout, struct_at, after, structs_of, laid_out, size_limit}
 use Rattle.stk_ctype.specs.Sound.{RestsOn}
 use Rattle.stk_ctype.specs.Names.{structs_in}
 use Rattle.stk_ctype.specs.Index.{IsIndexOf}
@@ -48,6 +48,7 @@ pub record IsLayoutOf (es : List NameEntry) (id : ℕ) (kept : Layout) (s : Stru
   pub offsets : kept.offsets.items ≡ s.offsets
   pub size : kept.size ≡ s.size
   pub some : 1 ≤ s.size
+  pub within : s.size ≤ size_limit
   pub alignment : kept.alignment ≡ s.alignment
   pub least : 1 ≤ s.alignment
   pub greatest : s.alignment ≤ 8

@@ -28,7 +28,7 @@ fn round_up(alignment: u64, n: u64) -> u64
 
 impl Names {
     /// How the struct of a number is laid out, where it has its members.
-    fn kept(&self, id: u32) -> Option<&Layout>
+    pub(crate) fn kept(&self, id: u32) -> Option<&Layout>
         ensures { IsKept self.now id (option_copied result) (struct_at (structs_of self.now) id) }
     {
         match self.facts.layouts.get(id as usize) {
