@@ -4,6 +4,7 @@ use Rattle.std.specs.Prelude.{IfSome, slice_index_or, nat_le, ◌&&◌}
 use mathlib.Core.Logic.{⊎_elim}
 use Rattle.std.specs.Option.{option_map_or}
 use Rattle.std.proofs.lemmas.Bool.Decides.{leb_tells}
+use Rattle.std.proofs.lemmas.Bool.{leb-true}
 use Rattle.stk_ctype.specs.declared.symbol.MemberInfo.{MemberInfo}
 use Rattle.stk_ctype.specs.declared.symbol.NameEntry.{NameEntry}
 use Rattle.stk_ctype.specs.declared.facts.Layout.{Layout}
@@ -133,3 +134,17 @@ offsets_more S all rest ms m so_far grown behind next offset is more here at so 
 -- a struct within the limit has no member that ends past it
 pub none_too_large : (S : Structs) (all rest ms : List MemberInfo) (m : MemberInfo) (behind alignment next : ℕ) → HaveAlignments S → struct_size S all ≤ size_limit → rest ≡ m ∷ ms → ArePlaced S all rest behind alignment → next ≡ end_behind S behind m → next ≤ size_limit
 none_too_large S all rest ms m behind alignment next have fits is so at = omega (arith, fits, too_large S all rest ms m behind alignment next have is so at)
+
+cond_some : (p q : Bool) (n k : ℕ) → Some k ≡ cond (p && q) (Some n) None → (p ≡ true) × (q ≡ true)
+cond_some true true n k e = (refl, refl)
+cond_some true false n k e = cc
+cond_some false q n k e = cc
+
+-- a size that is given is within the limit
+pub within_known : (n k : ℕ) → Some k ≡ within_limit n → (1 ≤ n) × (n ≤ size_limit)
+within_known n k e = let both = cond_some (nat_le 1 n) (nat_le n size_limit) n k e in (leb-true 1 n both.0, leb-true n size_limit both.1)
+
+-- a struct that nothing is kept of is incomplete
+pub not_kept : (es : List NameEntry) (id : ℕ) (s : Option StructLayout) → IsKept es id None s → s ≡ None
+not_kept es id None so = refl
+not_kept es id (Some s) so = absurd so

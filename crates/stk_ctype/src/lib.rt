@@ -2,6 +2,8 @@
 //! each type.
 #![tactic(auto)]
 
+#[cfg(test)]
+mod checking;
 mod copying;
 mod ctype;
 mod facts;
@@ -10,6 +12,8 @@ mod kind;
 mod names;
 mod sizes;
 mod symbol;
+#[cfg(test)]
+mod tests;
 
 pub use ctype::{CType, Signature};
 pub use kind::IntKind;
