@@ -1,0 +1,8 @@
+pub mod Kinds
+pub mod Types
+pub mod Structs
+pub mod Sound
+pub mod Names
+pub mod Index
+pub mod Facts
+pub mod Layers
