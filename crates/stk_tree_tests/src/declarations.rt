@@ -80,7 +80,12 @@ fn bases(rt: HostRuntime) {
     make.check_file(make.words([]), make.list([make.named(A)]), "a ;", false);
     let named = base(BaseForm::Named(B));
     make.check_file(named, make.list([make.named(A)]), "b a ;", true);
-    make.check_file(base(BaseForm::StructRef(A)), make.none(), "struct a ;", true);
+    make.check_file(
+        base(BaseForm::StructRef(A)),
+        make.none(),
+        "struct a ;",
+        true,
+    );
     make.check_file(base(BaseForm::EnumRef(A)), make.none(), "enum a ;", true);
 }
 
@@ -147,13 +152,29 @@ fn parameters(rt: HostRuntime) {
         make.parameter(make.int(), 1, Some(A)),
         make.parameter(make.int(), 0, None),
     ]);
-    make.check_tail(Tail::Params(two, true), "int f ( int * a , int , ... ) ;", true);
+    make.check_tail(
+        Tail::Params(two, true),
+        "int f ( int * a , int , ... ) ;",
+        true,
+    );
     let void = make.parameter(make.words([Fixed::Void]), 0, None);
-    make.check_tail(Tail::Params(make.list([void]), false), "int f ( void ) ;", false);
+    make.check_tail(
+        Tail::Params(make.list([void]), false),
+        "int f ( void ) ;",
+        false,
+    );
     let void = make.parameter(make.words([Fixed::Void]), 0, None);
-    make.check_tail(Tail::Params(make.list([void]), true), "int f ( void , ... ) ;", true);
+    make.check_tail(
+        Tail::Params(make.list([void]), true),
+        "int f ( void , ... ) ;",
+        true,
+    );
     let pointer = make.parameter(make.words([Fixed::Void]), 1, None);
-    make.check_tail(Tail::Params(make.list([pointer]), false), "int f ( void * ) ;", true);
+    make.check_tail(
+        Tail::Params(make.list([pointer]), false),
+        "int f ( void * ) ;",
+        true,
+    );
     make.check_tail(Tail::Params(make.none(), false), "int f ( ) ;", false);
     let sizes = make.list([Dimension::Sized(name(A)), Dimension::Open]);
     make.check_tail(Tail::Arrays(sizes), "int f [ a ] [ ] ;", true);

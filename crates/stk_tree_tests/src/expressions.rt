@@ -11,12 +11,7 @@ use stk_tree::{
 impl<R: Abort> Maker<'_, R> {
     /// `int a = e ;`
     fn value(&self, e: Expr) -> Boxed<Unit> {
-        let declarator = declarator(
-            0,
-            Some(A),
-            Tail::Arrays(self.none()),
-            Some(Init::Plain(e)),
-        );
+        let declarator = declarator(0, Some(A), Tail::Arrays(self.none()), Some(Init::Plain(e)));
         let declaration = self.declares(self.int(), self.list([declarator]));
         self.boxed(Unit::Declares(BARE, declaration))
     }
@@ -39,11 +34,7 @@ impl<R: Abort> Maker<'_, R> {
     }
 
     fn choice(&self, a: Expr, b: Expr, c: Expr) -> Expr {
-        expression(ExprForm::Choice(
-            self.boxed(a),
-            self.boxed(b),
-            self.boxed(c),
-        ))
+        expression(ExprForm::Choice(self.boxed(a), self.boxed(b), self.boxed(c)))
     }
 
     fn index(&self, a: Expr, b: Expr) -> Expr {
@@ -103,7 +94,11 @@ fn leaves(rt: HostRuntime) {
     };
     make.check_value(name(B), "int a = b ;", true);
     make.check_value(expression(ExprForm::Number(ONE)), "int a = 1 ;", true);
-    make.check_value(expression(ExprForm::Character(LETTER)), "int a = 'c' ;", true);
+    make.check_value(
+        expression(ExprForm::Character(LETTER)),
+        "int a = 'c' ;",
+        true,
+    );
     let text = expression(ExprForm::Text(make.list([S, T])));
     make.check_value(text, "int a = \"s\" \"t\" ;", true);
     let empty = expression(ExprForm::Text(make.none()));

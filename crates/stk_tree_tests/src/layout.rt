@@ -88,11 +88,11 @@ const SAMPLE_SPANS: [(u32, u32); 28] = [
 
 /// The spans of the nodes 0 to 19 of the first unit.
 const SAMPLE_NODES: [(u32, u32); 20] = [
-    (0, 3),   // int
-    (6, 19),  // unsigned char
+    (0, 3), // int
+    (6, 19), // unsigned char
     (20, 21), // the declarator x
-    (6, 21),  // the parameter
-    (4, 22),  // the declarator of f
+    (6, 21), // the parameter
+    (4, 22), // the declarator of f
     (25, 28), // int
     (33, 35), // 10
     (38, 39), // x
@@ -107,7 +107,7 @@ const SAMPLE_NODES: [(u32, u32); 20] = [
     (70, 71), // y
     (63, 72), // return y;
     (23, 74), // the block
-    (0, 74),  // the unit
+    (0, 74), // the unit
 ];
 
 // `int **a[1] = {{1}};`
@@ -129,28 +129,21 @@ const ARRAY_SPANS: [(u32, u32); 14] = [
 ];
 
 const ARRAY_NODES: [(u32, u32); 5] = [
-    (0, 3),   // int
-    (8, 9),   // the 1 in brackets
+    (0, 3), // int
+    (8, 9), // the 1 in brackets
     (15, 16), // the 1 in braces
-    (4, 18),  // the declarator
-    (0, 19),  // the unit
+    (4, 18), // the declarator
+    (0, 19), // the unit
 ];
 
 // `int f(int);`
-const UNNAMED_SPANS: [(u32, u32); 6] = [
-    (0, 3),
-    (4, 5),
-    (5, 6),
-    (6, 9),
-    (9, 10),
-    (10, 11),
-];
+const UNNAMED_SPANS: [(u32, u32); 6] = [(0, 3), (4, 5), (5, 6), (6, 9), (9, 10), (10, 11)];
 
 const UNNAMED_NODES: [(u32, u32); 6] = [
-    (0, 3),  // int
-    (6, 9),  // int
-    (9, 9),  // the declarator that prints nothing
-    (6, 9),  // the parameter
+    (0, 3), // int
+    (6, 9), // int
+    (9, 9), // the declarator that prints nothing
+    (6, 9), // the parameter
     (4, 10), // the declarator of f
     (0, 11), // the unit
 ];
@@ -281,7 +274,10 @@ fn nodes_of(alloc: Global, unit: &Unit) -> Result<Vec<Node>, AllocError> {
 fn spans_of(alloc: Global, places: &[(u32, u32)]) -> Result<Vec<Span>, AllocError> {
     let mut spans = Vec::new(alloc);
     for (from, to) in places {
-        spans.push(Span { from: *from, to: *to })?;
+        spans.push(Span {
+            from: *from,
+            to: *to,
+        })?;
     }
     Ok(spans)
 }
@@ -306,7 +302,13 @@ fn check_layout(
     assert_eq!(rt; nodes.len(), wanted.len());
     let mut number = 0;
     for (node, span) in nodes.iter().zip(wanted.iter()) {
-        assert_eq!(rt; *node, Node { number, span: *span });
+        assert_eq!(rt;
+            *node,
+            Node {
+                number,
+                span: *span
+            }
+        );
         assert!(rt; number < 1000);
         number += 1;
     }

@@ -7,8 +7,8 @@ use std::process::Abort;
 use stk_base::{Boxed, List, Span};
 use stk_measure::{tokens_of, well_placed};
 use stk_tree::{
-    Base, BaseForm, BinaryOp, Declaration, Declr, Expr, ExprForm, Fixed, Function, Init, Node, Stmt,
-    StmtForm, Tail, Unit,
+    Base, BaseForm, BinaryOp, Declaration, Declr, Expr, ExprForm, Fixed, Function, Init, Node,
+    Stmt, StmtForm, Tail, Unit,
 };
 
 pub const BARE: Node = Node {

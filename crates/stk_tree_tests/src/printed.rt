@@ -6,12 +6,19 @@ use stk_tree::{Lexeme, spelling};
 pub const INPUT: &[u8] = b"a b c f 1 'c' \"s\" \"t\"";
 
 pub const A: Span = Span { from: 0, to: 1 };
+
 pub const B: Span = Span { from: 2, to: 3 };
+
 pub const C: Span = Span { from: 4, to: 5 };
+
 pub const F: Span = Span { from: 6, to: 7 };
+
 pub const ONE: Span = Span { from: 8, to: 9 };
+
 pub const LETTER: Span = Span { from: 10, to: 13 };
+
 pub const S: Span = Span { from: 14, to: 17 };
+
 pub const T: Span = Span { from: 18, to: 21 };
 
 fn class_of(text: &[u8]) -> Class {

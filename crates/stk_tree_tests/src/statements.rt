@@ -2,9 +2,7 @@
 use crate::maker::{BARE, Maker, base, name, statement};
 use crate::printed::{A, B, C};
 use std::process::Abort;
-use stk_tree::{
-    BaseForm, Declaration, Expr, Label, Part, Section, Start, StmtForm, Storage,
-};
+use stk_tree::{BaseForm, Declaration, Expr, Label, Part, Section, Start, StmtForm, Storage};
 
 impl<R: Abort> Maker<'_, R> {
     /// Compares `int f ( ) { part }` with what it is to print, and with whether it is to be well placed.
@@ -79,7 +77,11 @@ fn plain_statements(rt: HostRuntime) {
         true,
     );
     make.check_statement(StmtForm::Block(make.none()), "int f ( ) { { } }", true);
-    make.check(make.function(statement(StmtForm::Break)), "int f ( ) break ;", false);
+    make.check(
+        make.function(statement(StmtForm::Break)),
+        "int f ( ) break ;",
+        false,
+    );
 }
 
 #[test]
@@ -97,11 +99,7 @@ fn tests_and_loops(rt: HostRuntime) {
     // the same tokens, with the `else` at the outer `if`
     let outer = StmtForm::If(
         name(A),
-        make.boxed(statement(StmtForm::If(
-            name(B),
-            make.boxed(statement(StmtForm::Break)),
-            None,
-        ))),
+        make.boxed(statement(StmtForm::If(name(B), make.boxed(statement(StmtForm::Break)), None))),
         Some(make.boxed(statement(StmtForm::Continue))),
     );
     make.check_statement(
@@ -109,13 +107,19 @@ fn tests_and_loops(rt: HostRuntime) {
         "int f ( ) { if ( a ) if ( b ) break ; else continue ; }",
         false,
     );
-    let form = make.if_else(make.repeated(make.if_alone(StmtForm::Break)), StmtForm::Break);
+    let form = make.if_else(
+        make.repeated(make.if_alone(StmtForm::Break)),
+        StmtForm::Break,
+    );
     make.check_statement(
         form,
         "int f ( ) { if ( b ) while ( c ) if ( a ) break ; else break ; }",
         false,
     );
-    let form = StmtForm::Do(make.boxed(statement(make.if_alone(StmtForm::Break))), name(B));
+    let form = StmtForm::Do(
+        make.boxed(statement(make.if_alone(StmtForm::Break))),
+        name(B),
+    );
     make.check_statement(
         make.if_else(form, StmtForm::Break),
         "int f ( ) { if ( b ) do if ( a ) break ; while ( b ) ; else break ; }",
@@ -145,7 +149,11 @@ fn counted_loops(rt: HostRuntime) {
         true,
     );
     make.check_statement(
-        make.counted(Start::Local(make.two_names(Some(Storage::Extern))), Some(name(B)), None),
+        make.counted(
+            Start::Local(make.two_names(Some(Storage::Extern))),
+            Some(name(B)),
+            None,
+        ),
         "int f ( ) { for ( extern int a , b ; b ; ) break ; }",
         false,
     );
@@ -200,9 +208,21 @@ fn local_declarations(rt: HostRuntime) {
     };
     for (storage, text, placed) in [
         (None, "int f ( ) { int a , b ; }", true),
-        (Some(Storage::Static), "int f ( ) { static int a , b ; }", true),
-        (Some(Storage::Extern), "int f ( ) { extern int a , b ; }", false),
-        (Some(Storage::Typedef), "int f ( ) { typedef int a , b ; }", false),
+        (
+            Some(Storage::Static),
+            "int f ( ) { static int a , b ; }",
+            true,
+        ),
+        (
+            Some(Storage::Extern),
+            "int f ( ) { extern int a , b ; }",
+            false,
+        ),
+        (
+            Some(Storage::Typedef),
+            "int f ( ) { typedef int a , b ; }",
+            false,
+        ),
     ] {
         make.check_part(Part::Local(make.two_names(storage)), text, placed);
     }
