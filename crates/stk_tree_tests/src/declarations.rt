@@ -1,11 +1,11 @@
 //! What each form of declaration prints, and where it may stand.
-use crate::maker::{BARE, Maker, base, declarator, expression, name};
+use crate::maker::{BARE, Maker, base, declarator, name, number};
 use crate::printed::{A, B, C, F, ONE};
 use std::process::Abort;
 use stk_base::{List, Span};
 use stk_tree::{
-    Base, BaseForm, BinaryOp, Declaration, Declr, Desig, Dimension, Enumr, ExprForm, Fixed, Init,
-    Item, Member, Param, Storage, Tail, Unit,
+    Base, BaseForm, BinaryOp, Declaration, Declr, Desig, Dimension, Enumr, Fixed, Init, Item,
+    Member, Param, Storage, Tail, Unit,
 };
 
 impl<R: Abort> Maker<'_, R> {
@@ -114,7 +114,7 @@ fn members_and_enumerators(rt: HostRuntime) {
     let list = make.list([
         Enumr {
             name: A,
-            value: Some(expression(ExprForm::Number(ONE))),
+            value: Some(number(ONE)),
         },
         Enumr {
             name: B,

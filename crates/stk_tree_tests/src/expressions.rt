@@ -1,5 +1,5 @@
 //! What each form of expression prints, and which operands it may have.
-use crate::maker::{BARE, Maker, base, declarator, expression, name};
+use crate::maker::{BARE, Maker, base, declarator, expression, name, number};
 use crate::printed::{A, B, C, LETTER, ONE, S, T};
 use std::process::Abort;
 use stk_base::{Boxed, Span};
@@ -67,7 +67,7 @@ impl<R: Abort> Maker<'_, R> {
             node: BARE,
             base: self.int(),
             stars: 1,
-            arrays: self.list([Dimension::Sized(expression(ExprForm::Number(ONE)))]),
+            arrays: self.list([Dimension::Sized(number(ONE))]),
         }
     }
 
@@ -93,7 +93,7 @@ fn leaves(rt: HostRuntime) {
         rt: &rt,
     };
     make.check_value(name(B), "int a = b ;", true);
-    make.check_value(expression(ExprForm::Number(ONE)), "int a = 1 ;", true);
+    make.check_value(number(ONE), "int a = 1 ;", true);
     make.check_value(
         expression(ExprForm::Character(LETTER)),
         "int a = 'c' ;",

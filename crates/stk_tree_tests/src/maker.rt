@@ -1,5 +1,8 @@
 //! Makes trees whose nodes have no number and no span yet.
-ghost use Rattle.std.specs.Prelude.{◌≡◌, ◌++◌, ◌∷◌, []};
+ghost use Rattle.std.specs.Prelude.{◌≡◌, []};
+ghost use Rattle.stk_tree.specs.Height.{expression_height};
+ghost use Rattle.stk_tree.specs.Nodes.{expression_nodes};
+ghost use Rattle.stk_tree.specs.View.{view_expression};
 
 use crate::printed::{F, are_spelled};
 use std::alloc::Global;
@@ -20,8 +23,24 @@ pub fn expression(form: ExprForm) -> Expr {
     Expr { node: BARE, form }
 }
 
-pub fn name(at: Span) -> Expr {
-    expression(ExprForm::Name(at))
+pub fn name(at: Span) -> Expr
+    ensures nodes { expression_nodes (view_expression result) ≡ 1 }
+    ensures height { expression_height (view_expression result) ≡ 1 }
+{
+    Expr {
+        node: BARE,
+        form: ExprForm::Name(at),
+    }
+}
+
+pub fn number(at: Span) -> Expr
+    ensures nodes { expression_nodes (view_expression result) ≡ 1 }
+    ensures height { expression_height (view_expression result) ≡ 1 }
+{
+    Expr {
+        node: BARE,
+        form: ExprForm::Number(at),
+    }
 }
 
 pub fn statement(form: StmtForm) -> Stmt {
@@ -56,11 +75,10 @@ impl<R: Abort> Maker<'_, R> {
         Boxed::new(self.alloc, value).expect(self.rt, "no memory")
     }
 
-    pub fn list<T: Drop, const N: usize>(&self, items: [T; N]) -> List<T> {
-        let mut all = Vec::new(self.alloc);
-        for item in items {
-            all.push(item).expect(self.rt, "no memory");
-        }
+    pub fn list<T, const N: usize>(&self, items: [T; N]) -> List<T>
+        ensures { result ≡ items }
+    {
+        let all = Vec::from_array(self.alloc, items).expect(self.rt, "no memory");
         List::from_vec(all)
     }
 
@@ -68,21 +86,6 @@ impl<R: Abort> Maker<'_, R> {
         ensures { result ≡ [] }
     {
         List::empty(self.alloc)
-    }
-
-    pub fn one<T: Drop>(&self, item: T) -> List<T>
-        ensures { result ≡ item ∷ [] }
-    {
-        self.and(self.none(), item)
-    }
-
-    /// The list with one more item.
-    pub fn and<T: Drop>(&self, list: List<T>, item: T) -> List<T>
-        ensures { result ≡ list ++ item ∷ [] }
-    {
-        let mut all = list.into_vec();
-        all.push(item).expect(self.rt, "no memory");
-        List::from_vec(all)
     }
 
     pub fn binary(&self, op: BinaryOp, a: Expr, b: Expr) -> Expr {

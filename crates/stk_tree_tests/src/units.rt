@@ -1,10 +1,11 @@
 //! Three units whose nodes and heights are known, with the spans of their tokens.
 ghost use Rattle.std.specs.Prelude.{◌≡◌};
-ghost use Rattle.stk_tree.specs.Height.{base_height, declaration_height, declarator_height, expression_height, function_height, initialiser_height, statement_height, unit_height};
-ghost use Rattle.stk_tree.specs.Nodes.{base_nodes, declaration_nodes, declarator_nodes, expression_nodes, function_nodes, initialiser_nodes, statement_nodes, unit_nodes};
-ghost use Rattle.stk_tree.specs.View.{view_base, view_declaration, view_declarator, view_expression, view_function, view_initialiser, view_statement, view_unit};
+ghost use Rattle.stk_tree.specs.Height.{base_height, declaration_height, declarator_height, expression_height, statement_height, unit_height};
+ghost use Rattle.stk_tree.specs.Nodes.{base_nodes, declaration_nodes, declarator_nodes, expression_nodes, statement_nodes, unit_nodes};
+ghost use Rattle.stk_tree.specs.Syntax.{if_statement, no_statement};
+ghost use Rattle.stk_tree.specs.View.{view_base, view_declaration, view_declarator, view_expression, view_statement, view_statement_form, view_unit};
 
-use crate::maker::{BARE, Maker};
+use crate::maker::{BARE, Maker, name, number};
 use std::process::Abort;
 use stk_base::{Boxed, List, Span};
 use stk_tree::{
@@ -12,30 +13,8 @@ use stk_tree::{
     Item, Param, Part, Stmt, StmtForm, Tail, Unit,
 };
 
-fn at(from: u32, to: u32) -> Span
-    ensures { result ≡ record { from = from; to = to } }
-{
+fn at(from: u32, to: u32) -> Span {
     Span { from, to }
-}
-
-fn name(at: Span) -> Expr
-    ensures nodes { expression_nodes (view_expression result) ≡ 1 }
-    ensures height { expression_height (view_expression result) ≡ 1 }
-{
-    Expr {
-        node: BARE,
-        form: ExprForm::Name(at),
-    }
-}
-
-fn number(at: Span) -> Expr
-    ensures nodes { expression_nodes (view_expression result) ≡ 1 }
-    ensures height { expression_height (view_expression result) ≡ 1 }
-{
-    Expr {
-        node: BARE,
-        form: ExprForm::Number(at),
-    }
 }
 
 fn words(words: List<Fixed>) -> Base
@@ -46,6 +25,13 @@ fn words(words: List<Fixed>) -> Base
         node: BARE,
         form: BaseForm::Words(words),
     }
+}
+
+/// An `if` without `else`.
+fn if_form(test: Expr, body: Boxed<Stmt>) -> StmtForm
+    ensures { view_statement_form result ≡ if_statement (view_expression test) (view_statement body) no_statement }
+{
+    StmtForm::If(test, body, None)
 }
 
 impl<R: Abort> Maker<'_, R> {
@@ -85,7 +71,7 @@ impl<R: Abort> Maker<'_, R> {
             node: BARE,
             stars: 0,
             name: Some(at(4, 5)),
-            tail: Tail::Params(self.one(parameter), false),
+            tail: Tail::Params(self.list([parameter]), false),
             init: None,
         }
     }
@@ -105,8 +91,8 @@ impl<R: Abort> Maker<'_, R> {
         };
         Declaration {
             storage: None,
-            base: words(self.one(Fixed::Int)),
-            list: self.one(declr),
+            base: words(self.list([Fixed::Int])),
+            list: self.list([declr]),
         }
     }
 
@@ -132,7 +118,7 @@ impl<R: Abort> Maker<'_, R> {
         let body = self.boxed(self.returned(number(at(60, 61))));
         Stmt {
             node: BARE,
-            form: StmtForm::If(equal, body, None),
+            form: if_form(equal, body),
         }
     }
 
@@ -140,12 +126,12 @@ impl<R: Abort> Maker<'_, R> {
         ensures nodes { statement_nodes (view_statement result) ≡ 14 }
         ensures height { statement_height (view_statement result) ≡ 4 }
     {
-        let parts = self.one(Part::Local(self.local()));
-        let parts = self.and(parts, Part::Run(self.test()));
-        let parts = self.and(parts, Part::Run(self.returned(name(at(70, 71)))));
+        let local = Part::Local(self.local());
+        let test = Part::Run(self.test());
+        let last = Part::Run(self.returned(name(at(70, 71))));
         Stmt {
             node: BARE,
-            form: StmtForm::Block(parts),
+            form: StmtForm::Block(self.list([local, test, last])),
         }
     }
 
@@ -158,7 +144,7 @@ impl<R: Abort> Maker<'_, R> {
             BARE,
             Function {
                 storage: None,
-                base: words(self.one(Fixed::Int)),
+                base: words(self.list([Fixed::Int])),
                 declr: self.head(),
                 body: self.body(),
             },
@@ -176,19 +162,19 @@ impl<R: Abort> Maker<'_, R> {
         };
         let outer = Item {
             path: self.none(),
-            init: Init::Braces(self.one(inner), false),
+            init: Init::Braces(self.list([inner]), false),
         };
         let declr = Declr {
             node: BARE,
             stars: 2,
             name: Some(at(6, 7)),
-            tail: Tail::Arrays(self.one(Dimension::Sized(number(at(8, 9))))),
-            init: Some(Init::Braces(self.one(outer), false)),
+            tail: Tail::Arrays(self.list([Dimension::Sized(number(at(8, 9)))])),
+            init: Some(Init::Braces(self.list([outer]), false)),
         };
         let declaration = Declaration {
             storage: None,
-            base: words(self.one(Fixed::Int)),
-            list: self.one(declr),
+            base: words(self.list([Fixed::Int])),
+            list: self.list([declr]),
         };
         self.boxed(Unit::Declares(BARE, declaration))
     }
@@ -207,20 +193,20 @@ impl<R: Abort> Maker<'_, R> {
         };
         let parameter = Param {
             node: BARE,
-            base: words(self.one(Fixed::Int)),
+            base: words(self.list([Fixed::Int])),
             declr,
         };
         let declr = Declr {
             node: BARE,
             stars: 0,
             name: Some(at(4, 5)),
-            tail: Tail::Params(self.one(parameter), false),
+            tail: Tail::Params(self.list([parameter]), false),
             init: None,
         };
         let declaration = Declaration {
             storage: None,
-            base: words(self.one(Fixed::Int)),
-            list: self.one(declr),
+            base: words(self.list([Fixed::Int])),
+            list: self.list([declr]),
         };
         self.boxed(Unit::Declares(BARE, declaration))
     }
