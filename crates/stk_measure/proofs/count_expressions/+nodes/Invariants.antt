@@ -1,4 +1,4 @@
-use Rattle.std.proofs.Common.{◌≡◌, ◌+◌, map, max, drop}
+use Rattle.std.proofs.Common.{◌≡◌, ◌+◌, map, drop}
 use Rattle.stk_tree.specs.Nodes.{expressions_nodes, dimensions_nodes, members_nodes, enumerators_nodes, declarators_nodes, parameters_nodes, items_nodes, designators_nodes}
 use Rattle.stk_tree.specs.View.{expressions, view_expression, dimensions, view_dimension, members, view_member, enumerators, view_enumerator, declarators, view_declarator, parameters, view_parameter, items, view_item, designators, view_designator}
 use Rattle.stk_measure.proofs.count_expressions.+nodes.Given as goal

@@ -1,4 +1,4 @@
-use Rattle.std.proofs.Common.{◌≡◌, ◌+◌, map, max, drop}
+use Rattle.std.proofs.Common.{◌≡◌, ◌+◌, map, drop}
 use Rattle.stk_tree.specs.Nodes.{statements_nodes, parts_nodes, sections_nodes}
 use Rattle.stk_tree.specs.View.{statements, view_statement, parts, view_part, sections, view_section}
 use Rattle.stk_measure.proofs.count_units.+nodes_of_statement.Given as goal

@@ -1,4 +1,4 @@
-use Rattle.std.proofs.Common.{◌≡◌, ◌+◌, map, max, drop}
+use Rattle.std.proofs.Common.{◌≡◌, ◌+◌, map, drop}
 use Rattle.stk_tree.specs.Nodes.{labels_nodes}
 use Rattle.stk_tree.specs.View.{labels, view_label}
 use Rattle.stk_measure.proofs.count_units.labels_nodes.Given as goal

@@ -1,4 +1,4 @@
-use Rattle.std.proofs.Common.{◌≡◌, ◌+◌, ◌≤◌, map, max, drop}
+use Rattle.std.proofs.Common.{◌≡◌, map, max, drop}
 use Rattle.stk_tree.specs.Height.{statements_height, parts_height, sections_height}
 use Rattle.stk_tree.specs.View.{statements, view_statement, parts, view_part, sections, view_section}
 use Rattle.stk_measure.proofs.levels_units.+height_of_statement.Given as goal

@@ -1,4 +1,4 @@
-use Rattle.std.proofs.Common.{◌≡◌, ◌+◌, ◌≤◌, map, max, drop}
+use Rattle.std.proofs.Common.{◌≡◌, map, max, drop}
 use Rattle.stk_tree.specs.Height.{labels_height}
 use Rattle.stk_tree.specs.View.{labels, view_label}
 use Rattle.stk_measure.proofs.levels_units.labels_height.Given as goal
