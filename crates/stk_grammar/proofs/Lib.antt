@@ -1,2 +1,3 @@
 pub mod Operators
 pub mod Prints
+pub mod Well
