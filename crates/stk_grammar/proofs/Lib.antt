@@ -1,3 +1,4 @@
 pub mod Operators
 pub mod Prints
+pub mod Sound
 pub mod Well
