@@ -1,3 +1,4 @@
+pub mod Complete
 pub mod Operators
 pub mod Prints
 pub mod Sound
