@@ -1,4 +1,5 @@
 pub mod Complete
+pub mod Laws
 pub mod Operators
 pub mod Prints
 pub mod Sound

@@ -44,5 +44,5 @@ OneText = (named : Span → Bool) (x y : ExprTree) → IsTrue (expression_placed
 
 -- two expressions of a level that begin at one place end at one place, and are equal apart from the records of their nodes
 abbrev pub OnePlace : Type 0
-OnePlace = (named : Span → Bool) (least : ℕ) (ts : List Lexeme) (from to end : ℕ) (x y : ExprTree) → 1 ≤ least → IsExpression named least ts from to x → IsExpression named least ts from end y
+OnePlace = (named : Span → Bool) (least : ℕ) (ts : List Lexeme) (from to end : ℕ) (x y : ExprTree) → IsExpression named least ts from to x → IsExpression named least ts from end y
     → (bare_expression x ≡ bare_expression y) × (to ≡ end)
