@@ -7,7 +7,7 @@ ghost use Rattle.stk_tree.specs.Syntax as s;
 ghost use Rattle.stk_tree.specs.declared.expression.StepOp.TheVariants.{IncAfter, DecAfter};
 ghost use Rattle.stk_grammar.specs.Bare.{no_node};
 ghost use Rattle.stk_grammar.specs.Reading.{made};
-ghost use Rattle.stk_expr.specs.Prefixes.{prefix_form};
+ghost use Rattle.stk_expr.specs.Prefixes.{prefix_form, prefix_operand};
 
 use std::alloc::{AllocError, Global};
 use stk_base::{Boxed, List, Span};
@@ -22,6 +22,18 @@ pub enum Prefix {
     Increment,
     Decrement,
     Size,
+}
+
+impl Prefix {
+    /// The least level of the operand.
+    pub fn operand(self) -> usize
+        ensures { result ≡ prefix_operand self }
+    {
+        match self {
+            Prefix::Unary(_) => 14,
+            Prefix::Increment | Prefix::Decrement | Prefix::Size => 15,
+        }
+    }
 }
 
 /// The record of a node that isn't laid out yet.
@@ -76,7 +88,11 @@ pub fn paren(alloc: Global, inner: Boxed<Expr>) -> Result<Boxed<Expr>, AllocErro
     made(alloc, ExprForm::Paren(inner))
 }
 
-pub fn index(alloc: Global, left: Boxed<Expr>, right: Boxed<Expr>) -> Result<Boxed<Expr>, AllocError>
+pub fn index(
+    alloc: Global,
+    left: Boxed<Expr>,
+    right: Boxed<Expr>,
+) -> Result<Boxed<Expr>, AllocError>
     ensures { IfOk result (λ e. view_expression e ≡ made (s.index (view_expression left) (view_expression right))) }
 {
     made(alloc, ExprForm::Index(left, right))
@@ -107,7 +123,11 @@ pub fn stepped(alloc: Global, op: StepOp, left: Boxed<Expr>) -> Result<Boxed<Exp
     made(alloc, ExprForm::Step(op, left))
 }
 
-pub fn prefixed(alloc: Global, prefix: Prefix, operand: Boxed<Expr>) -> Result<Boxed<Expr>, AllocError>
+pub fn prefixed(
+    alloc: Global,
+    prefix: Prefix,
+    operand: Boxed<Expr>,
+) -> Result<Boxed<Expr>, AllocError>
     ensures { IfOk result (λ e. view_expression e ≡ made (prefix_form prefix (view_expression operand))) }
 {
     match prefix {
@@ -130,19 +150,34 @@ pub fn cast(alloc: Global, name: TypeName, operand: Boxed<Expr>) -> Result<Boxed
     made(alloc, ExprForm::Cast(name, operand))
 }
 
-pub fn binary(alloc: Global, op: BinaryOp, left: Boxed<Expr>, right: Boxed<Expr>) -> Result<Boxed<Expr>, AllocError>
+pub fn binary(
+    alloc: Global,
+    op: BinaryOp,
+    left: Boxed<Expr>,
+    right: Boxed<Expr>,
+) -> Result<Boxed<Expr>, AllocError>
     ensures { IfOk result (λ e. view_expression e ≡ made (s.binary op (view_expression left) (view_expression right))) }
 {
     made(alloc, ExprForm::Binary(op, left, right))
 }
 
-pub fn assign(alloc: Global, op: AssignOp, left: Boxed<Expr>, right: Boxed<Expr>) -> Result<Boxed<Expr>, AllocError>
+pub fn assign(
+    alloc: Global,
+    op: AssignOp,
+    left: Boxed<Expr>,
+    right: Boxed<Expr>,
+) -> Result<Boxed<Expr>, AllocError>
     ensures { IfOk result (λ e. view_expression e ≡ made (s.assign op (view_expression left) (view_expression right))) }
 {
     made(alloc, ExprForm::Assign(op, left, right))
 }
 
-pub fn choice(alloc: Global, test: Boxed<Expr>, then: Boxed<Expr>, other: Boxed<Expr>) -> Result<Boxed<Expr>, AllocError>
+pub fn choice(
+    alloc: Global,
+    test: Boxed<Expr>,
+    then: Boxed<Expr>,
+    other: Boxed<Expr>,
+) -> Result<Boxed<Expr>, AllocError>
     ensures { IfOk result (λ e. view_expression e ≡ made (s.choice (view_expression test) (view_expression then) (view_expression other))) }
 {
     made(alloc, ExprForm::Choice(test, then, other))

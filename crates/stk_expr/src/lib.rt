@@ -2,6 +2,8 @@
 #![tactic(auto)]
 
 mod build;
+mod front;
 mod parse;
+mod reader;
 
 pub use parse::Parse;

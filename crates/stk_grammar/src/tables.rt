@@ -1,6 +1,6 @@
 //! Which token begins what: the tables that the readers of expressions go by.
 
-ghost use Rattle.std.specs.Prelude.{◌≡◌};
+ghost use Rattle.std.specs.Prelude.{◌≡◌, ◌≤◌};
 ghost use Rattle.stk_tree.specs.Placed.{binary_level};
 ghost use Rattle.stk_grammar.specs.Reading.{head_leaf, head_mark, head_of, suffix_left, suffix_level, suffix_mark, suffix_of};
 
@@ -93,7 +93,8 @@ pub fn suffix_of(lexeme: Lexeme) -> Option<Suffix>
 
 /// The level of a binary operator (C11 6.5.5 to 6.5.14, 6.5.17).
 pub fn binary_level(op: BinaryOp) -> usize
-    ensures { result ≡ binary_level op }
+    ensures value { result ≡ binary_level op }
+    ensures low { result ≤ 13 }
 {
     match op {
         BinaryOp::Comma => 1,
