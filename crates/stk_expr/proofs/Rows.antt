@@ -12,6 +12,7 @@ use Rattle.stk_tree.specs.Syntax as s
 use Rattle.stk_tree.specs.View.{chained}
 use Rattle.stk_grammar.specs.declared.tables.Suffix.{Suffix}
 use Rattle.stk_grammar.specs.Reading.{◌>>=◌, Found, Sub, level, taken, tail_at, climb_on, climb, behind_comma, behind_left_bracket, behind_right_bracket, behind_right_paren, dimension_at, dimensions_on, dimensions_at, arguments_on, more_arguments, first_argument, arguments_from, arguments, expression_at}
+use Rattle.stk_grammar.proofs.Operators.{bind_some, some_is}
 use Rattle.stk_grammar.proofs.Prints.{prints, prints_longer}
 use Rattle.stk_grammar.proofs.Sound.{comma_is, expression_sound, left_bracket_is, right_bracket_is}
 use Rattle.stk_expr.specs.declared.parse.Parse.{Parse}
@@ -225,3 +226,43 @@ pub more_height-push : (xs : List ExprTree) (x : ExprTree)
     → expressions_height (chained s.then_expression s.no_expressions (xs ++ (x ∷ []))) ≡ max (expressions_height (chained s.then_expression s.no_expressions xs)) (expression_height x)
 more_height-push [] x = omega arith
 more_height-push (y ∷ ys) x = omega (arith, more_height-push ys x)
+
+-- ---- what was collected
+
+map_append : {A B : Type 0} (f : A → B) (xs : List A) (x : A) → map f (xs ++ (x ∷ [])) ≡ map f xs ++ (f x ∷ [])
+map_append f [] x = refl
+map_append f (y ∷ ys) x = ap (λ zs. f y ∷ zs) (map_append f ys x)
+
+pub map_push : {A B : Type 0} (f : A → B) (items new : List A) (x y : A) → new ≡ items ++ (y ∷ []) → y ≡ x → map f new ≡ map f items ++ (f x ∷ [])
+map_push f items new x y e d = ap (map f) (e ∙ ap (λ z. items ++ (z ∷ [])) d) ∙ map_append f items x
+
+length_map : {A B : Type 0} (f : A → B) (xs : List A) → length (map f xs) ≡ length xs
+length_map f [] = refl
+length_map f (x ∷ xs) = ap suc (length_map f xs)
+
+-- the height of array parts with one more behind them, by how many they were
+pub parts_height-items : {A : Type 0} (f : A → DimensionTree) (items : List A) (x : DimensionTree)
+    → dimensions_height (chained s.then_dimension s.no_dimensions (map f items ++ (x ∷ []))) ≡ max (dimensions_height (chained s.then_dimension s.no_dimensions (map f items))) (dimension_height x + suc (length items))
+parts_height-items f items x = parts_height-push (map f items) x ∙ ap (λ n. max (dimensions_height (chained s.then_dimension s.no_dimensions (map f items))) (dimension_height x + suc n)) (length_map f items)
+
+-- an array part takes a token or more
+part_on : (named : Span → Bool) (inner : ℕ) (inside : List Lexeme) (o : Option (List Lexeme)) (x : DimensionTree × List Lexeme) → behind_right_bracket inside ≡ o → dimension_at (expression_at named inner) o inside ≡ Some x
+    → length x.1 < length inside
+part_on named inner inside (Some rest) x is e =
+    subst (λ (y : DimensionTree × List Lexeme). length y.1 < length inside) (some_is (s.open_dimension, rest) x e) (omega (arith, closed_shorter inside rest (sym is)))
+part_on named inner inside None x is e =
+    let a = bind_some (expression_at named inner 3 inside) _ x e in
+    let b = bind_some (behind_right_bracket a.0.1) _ x a.2 in
+    let w = rest_within named inner 3 inside a.0.0 a.0.1 (omega arith) a.1 in
+    subst (λ (y : DimensionTree × List Lexeme). length y.1 < length inside) (some_is (s.sized a.0.0, b.0) x b.2) (omega (arith, closed_shorter a.0.1 b.0 (sym b.1)))
+
+pub part_shorter : (named : Span → Bool) (inner : ℕ) (inside : List Lexeme) (x : DimensionTree) (rest : List Lexeme) → dimension_at (expression_at named inner) (behind_right_bracket inside) inside ≡ Some (x, rest)
+    → length rest < length inside
+part_shorter named inner inside x rest e = part_on named inner inside (behind_right_bracket inside) (x, rest) refl e
+
+size_push : {A : Type 0} (items : List A) (y : A) → length (items ++ (y ∷ [])) ≡ suc (length items)
+size_push [] y = refl
+size_push (x ∷ xs) y = ap suc (size_push xs y)
+
+pub pushed_size : {A : Type 0} (items new : List A) (y : A) → new ≡ items ++ (y ∷ []) → length new ≡ suc (length items)
+pushed_size items new y e = ap length e ∙ size_push items y

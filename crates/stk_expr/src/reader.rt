@@ -2,7 +2,7 @@
 //!
 //! They call one another no deeper than the height that is left, and each loop takes a token or more in a turn.
 
-ghost use Rattle.std.specs.Prelude.{◌≡◌, ◌+◌, ◌*◌, ◌<◌, ◌≤◌, suc, IfOk, length, map};
+ghost use Rattle.std.specs.Prelude.{◌≡◌, ◌+◌, ◌*◌, ◌<◌, ◌≤◌, max, suc, IfOk, length, map};
 ghost use Rattle.stk_tree.specs.Height.{dimension_height, dimensions_height};
 ghost use Rattle.stk_tree.specs.View.{dimensions, expressions, view_dimension, view_expression, view_type_name};
 ghost use Rattle.stk_grammar.specs.Reading.{arguments, before_at, begins_type, behind_left_paren, behind_right_bracket, climb, dimension_at, dimensions_at, expression_at, head_at, opens_type, paren_at, size_at, tail_at, type_at};
@@ -295,6 +295,13 @@ fn type_name<'a>(
     })
 }
 
+/// The greater of two heights.
+fn higher(left: usize, right: usize) -> usize
+    ensures { result ≡ max left right }
+{
+    if left < right { right } else { left }
+}
+
 /// Array parts in a row.
 #[cycle(reader)]
 fn array_parts<'a>(
@@ -314,7 +321,7 @@ fn array_parts<'a>(
     while let Some(inside) = behind_left_bracket(rest) {
         let found = array_part(alloc, bytes, names, inner, inside)?;
         list.push(found.part)?;
-        height = height.max(found.height + list.len());
+        height = higher(height, found.height + list.len());
         rest = found.rest;
     }
     Ok(FoundDimensions {
