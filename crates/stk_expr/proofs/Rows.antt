@@ -266,3 +266,7 @@ size_push (x ∷ xs) y = ap suc (size_push xs y)
 
 pub pushed_size : {A : Type 0} (items new : List A) (y : A) → new ≡ items ++ (y ∷ []) → length new ≡ suc (length items)
 pushed_size items new y e = ap length e ∙ size_push items y
+
+pub none_of_fails : {A : Type 0} (e : Parse) (o : Option A) → e ≡ parse.NoTree → Fails e o → o ≡ None
+none_of_fails parse.NoMemory o is h = absurd cc
+none_of_fails parse.NoTree o is h = h

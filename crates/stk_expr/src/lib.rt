@@ -2,8 +2,10 @@
 #![tactic(auto)]
 
 mod build;
+mod reading;
 mod front;
 mod parse;
 mod reader;
 
+pub use reading::expr;
 pub use parse::Parse;
