@@ -1,19 +1,16 @@
 -- The turns of the readers' loops over suffixes, array parts and arguments.
-use Rattle.std.proofs.Common.{◌≡◌, ℕ, zero, suc, ◌+◌, ◌<◌, ◌≤◌, max, Bool, true, false, cond, List, [], ◌∷◌, ◌++◌, length, map, Option, Some, None, refl, sym, ap, subst, ◌∙◌, arith}
+use Rattle.std.proofs.Common.{◌≡◌, ℕ, zero, suc, ◌+◌, ◌<◌, ◌≤◌, max, Bool, List, [], ◌∷◌, ◌++◌, length, map, Option, Some, None, refl, sym, ap, subst, ◌∙◌, arith}
 use Rattle.std.proofs.lemmas.Bool.{le-leb, lt-leb}
 use Rattle.stk_base.specs.declared.span.Span.{Span}
-use Rattle.stk_tree.specs.declared.fixed.Fixed.{Fixed}
-use Rattle.stk_tree.specs.declared.fixed.Fixed.TheVariants as fixed
 use Rattle.stk_tree.specs.declared.fixed.Lexeme.{Lexeme}
-use Rattle.stk_tree.specs.declared.fixed.Lexeme.TheVariants.{Leaf, Fixed as Token}
 use Rattle.stk_tree.specs.Height.{dimension_height, dimensions_height, expression_height, expressions_height}
 use Rattle.stk_tree.specs.Syntax.{DimensionTree, DimensionTrees, ExprTree, ExprTrees}
 use Rattle.stk_tree.specs.Syntax as s
 use Rattle.stk_tree.specs.View.{chained}
 use Rattle.stk_grammar.specs.declared.tables.Suffix.{Suffix}
-use Rattle.stk_grammar.specs.Reading.{◌>>=◌, Found, Sub, level, taken, tail_at, climb_on, climb, behind_comma, behind_left_bracket, behind_right_bracket, behind_right_paren, dimension_at, dimensions_on, dimensions_at, arguments_on, more_arguments, first_argument, arguments_from, arguments, expression_at}
+use Rattle.stk_grammar.specs.Reading.{◌>>=◌, Found, Sub, level, taken, tail_at, climb_on, climb, behind_comma, behind_left_bracket, behind_right_bracket, behind_right_paren, dimension_at, dimensions_on, dimensions_at, arguments_on, more_arguments, arguments_from, arguments, expression_at}
 use Rattle.stk_grammar.proofs.Operators.{bind_some, some_is}
-use Rattle.stk_grammar.proofs.Prints.{prints, prints_longer}
+use Rattle.stk_grammar.proofs.Prints.{prints_longer}
 use Rattle.stk_grammar.proofs.Sound.{comma_is, expression_sound, left_bracket_is, right_bracket_is}
 use Rattle.stk_expr.specs.declared.parse.Parse.{Parse}
 use Rattle.stk_expr.specs.declared.parse.Parse.TheVariants as parse

@@ -2,8 +2,8 @@
 use Rattle.std.specs.Prelude.{◌≡◌, ℕ, ◌≤◌, Bool, List, Option, Some, None, Result, Ok, Err}
 use Rattle.stk_base.specs.declared.span.Span.{Span}
 use Rattle.stk_base.specs.Text.{text_of}
-use Rattle.stk_tree.specs.Height.{expression_height, expressions_height, dimensions_height, type_name_height}
-use Rattle.stk_tree.specs.Syntax.{DimensionTrees, ExprTree, ExprTrees, TypeNameTree}
+use Rattle.stk_tree.specs.Height.{expression_height, expressions_height, type_name_height}
+use Rattle.stk_tree.specs.Syntax.{ExprTree, ExprTrees, TypeNameTree}
 use Rattle.stk_ctype.specs.declared.symbol.NameEntry.{NameEntry}
 use Rattle.stk_ctype.specs.Names.{is_type}
 use Rattle.stk_grammar.specs.Reading.{level}

@@ -2,10 +2,10 @@
 #![tactic(auto)]
 
 mod build;
-mod reading;
 mod front;
 mod parse;
 mod reader;
+mod reading;
 
-pub use reading::expr;
 pub use parse::Parse;
+pub use reading::expr;

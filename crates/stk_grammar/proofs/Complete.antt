@@ -1,37 +1,32 @@
 -- What a tree prints is read as that tree, and no further.
-use Rattle.std.proofs.Common.{◌≡◌, ℕ, zero, suc, ◌+◌, ◌<◌, ◌≤◌, max, Bool, true, false, cond, ◌&&◌, List, [], ◌∷◌, length, Option, Some, None, refl, sym, ap, subst, ◌∙◌, arith}
-use Rattle.std.specs.Prelude.{nat_le}
+use Rattle.std.proofs.Common.{◌≡◌, ℕ, zero, suc, ◌+◌, ◌<◌, ◌≤◌, Bool, true, false, cond, List, [], ◌∷◌, length, Option, Some, None, refl, ap, ◌∙◌, arith}
 use Rattle.std.proofs.lemmas.Bool.{le-leb}
 use Rattle.stk_base.specs.declared.span.Span.{Span}
 use Rattle.stk_tree.specs.declared.node.Node.{Node}
-use Rattle.stk_base.specs.declared.token.Class.{Class}
-use Rattle.stk_base.specs.declared.token.Class.TheVariants.{Word, Number, Character, Text, Mark, Stray}
+use Rattle.stk_base.specs.declared.token.Class.TheVariants.{Word, Number, Character, Text}
 use Rattle.stk_tree.specs.declared.fixed.Fixed.{Fixed}
 use Rattle.stk_tree.specs.declared.fixed.Fixed.TheVariants as fixed
 use Rattle.stk_tree.specs.declared.fixed.Lexeme.{Lexeme}
 use Rattle.stk_tree.specs.declared.fixed.Lexeme.TheVariants.{Leaf, Fixed as Token}
-use Rattle.stk_tree.specs.declared.expression.StepOp.{StepOp}
 use Rattle.stk_tree.specs.declared.expression.StepOp.TheVariants.{IncBefore, DecBefore, IncAfter, DecAfter}
 use Rattle.stk_tree.specs.declared.expression.UnaryOp.{UnaryOp}
 use Rattle.stk_tree.specs.declared.expression.UnaryOp.TheVariants as unary
 use Rattle.stk_tree.specs.declared.expression.BinaryOp.{BinaryOp}
-use Rattle.stk_tree.specs.declared.expression.BinaryOp.TheVariants as binary
 use Rattle.stk_tree.specs.declared.expression.AssignOp.{AssignOp}
-use Rattle.stk_tree.specs.declared.expression.AssignOp.TheVariants as assign
 use Rattle.stk_tree.specs.Syntax.{BaseTree, BaseFormTree, TypeNameTree, DimensionTree, DimensionTrees, ExprTree, ExprTrees, ExprFormTree}
 use Rattle.stk_tree.specs.Syntax as s
 use Rattle.stk_tree.specs.Height.{expression_height, expressions_height, dimensions_height, type_name_height}
-use Rattle.stk_tree.specs.Placed.{all_basic, basic_words, binary_level, is_basic, is_filled, step_level}
+use Rattle.stk_tree.specs.Placed.{all_basic, binary_level, is_basic, is_filled}
 use Rattle.stk_tree.specs.Tokens.{assign_mark, binary_mark, unary_mark}
-use Rattle.stk_grammar.specs.Bare.{no_node, bare_base_form, bare_dimension, bare_dimensions, bare_expression, bare_expression_form, bare_expressions, bare_type_name}
+use Rattle.stk_grammar.specs.Bare.{no_node, bare_base_form, bare_dimensions, bare_expression, bare_expression_form, bare_expressions, bare_type_name}
 use Rattle.stk_grammar.specs.declared.tables.Head.{Head}
 use Rattle.stk_grammar.specs.declared.tables.Head.TheVariants as head
 use Rattle.stk_grammar.specs.declared.tables.Suffix.{Suffix}
 use Rattle.stk_grammar.specs.declared.tables.Suffix.TheVariants as suffix
-use Rattle.stk_grammar.specs.Reading.{◌>>=◌, Found, Sub, made, level, suffix_of, suffix_level, suffix_left, head_of, behind_right_paren, behind_left_paren, behind_right_bracket, behind_left_bracket, behind_colon, behind_comma, word_at, texts_at, begins_type, words_on, words_at, tag_base, words_base, base_at, stars_at, dimension_at, dimensions_on, dimensions_at, low_type, behind_stars, type_at, paren_at, before_at, opens_type, size_at, head_at, first_head, arguments_on, more_arguments, first_argument, arguments_from, arguments, tail_at, taken, climb_on, climb, expression_at}
-use Rattle.stk_grammar.proofs.Prints.{prints, prints_all, prints_base, prints_dimension, prints_dimensions, prints_form, prints_more, prints_stars, prints_texts, prints_type, prints_words, height_above, prints_longer, more_longer, dimensions_longer}
-use Rattle.stk_grammar.proofs.Well.{IsWell, AreWell, IsWellBase, IsWellDimension, AreWellDimensions, IsWellType, IsWellForm, level-bare}
-use Rattle.stk_grammar.proofs.Operators.{bind_some, both_true, right, last, level_below_last, Ends, is_text, taken_none, taken_some, Ends-last, Ends-suffix, suffix_of_binary, suffix_of_assign, binary_level_low, head_of_unary}
+use Rattle.stk_grammar.specs.Reading.{◌>>=◌, Found, Sub, made, level, suffix_of, suffix_level, suffix_left, head_of, behind_right_paren, behind_left_paren, behind_right_bracket, texts_at, begins_type, words_on, words_at, tag_base, words_base, base_at, stars_at, dimensions_at, low_type, behind_stars, type_at, before_at, opens_type, size_at, head_at, first_head, more_arguments, arguments, tail_at, climb_on, climb, expression_at}
+use Rattle.stk_grammar.proofs.Prints.{prints, prints_all, prints_base, prints_dimensions, prints_form, prints_more, prints_stars, prints_texts, prints_type, prints_words, height_above, prints_longer}
+use Rattle.stk_grammar.proofs.Well.{IsWell, AreWell, IsWellBase, AreWellDimensions, IsWellType, IsWellForm, level-bare}
+use Rattle.stk_grammar.proofs.Operators.{both_true, right, last, Ends, is_text, taken_none, taken_some, Ends-last, Ends-suffix, suffix_of_binary, suffix_of_assign, binary_level_low, head_of_unary}
 
 climb_end : (sub : Sub) (inner least f : ℕ) (a : ExprTree) (ts : List Lexeme) → 0 < f → Ends least ts → climb sub inner least f a ts ≡ Some (a, ts)
 unfolding climb
@@ -66,7 +61,7 @@ comes_by_head named inner least t u h ts rest is e = (
   suc (suc inner),
   omega (arith, height_above t),
   ap (λ (o : Option Head). (o >>= λ h. Some (h, ts)) >>= behind_head named inner least) is
-  ∙ ap (λ (o : Found ExprTree). o >>= λ a. climb (expression_at named inner) inner least (suc (suc inner)) a.0 a.1) e,
+      ∙ ap (λ (o : Found ExprTree). o >>= λ a. climb (expression_at named inner) inner least (suc (suc inner)) a.0 a.1) e,
 )
 
 comes_on : (named : Span → Bool) (inner least : ℕ) (a t : ExprTree) (ts : List Lexeme) (u : Lexeme) (body : List Lexeme) (x : Suffix) (rest : List Lexeme) (f : ℕ)

@@ -1,37 +1,23 @@
 -- What the definition says, whoever reads: one tree, one place, and what the reader's answers mean.
-use Rattle.std.proofs.Common.{◌≡◌, ℕ, zero, suc, ◌+◌, ◌-◌, ◌≤◌, ◌<◌, max, Bool, true, false, cond, List, [], ◌∷◌, ◌++◌, length, take, drop, Option, Some, None, refl, sym, ap, subst, ◌∙◌, arith}
-use Rattle.std.specs.Prelude.{IsTrue, nat_le, slice_range}
+use Rattle.std.proofs.Common.{◌≡◌, ℕ, ◌+◌, ◌-◌, ◌≤◌, max, Bool, true, false, List, [], ◌∷◌, ◌++◌, length, take, drop, Some, None, refl, sym, ap, ◌∙◌, arith}
 use Rattle.std.proofs.lemmas.Bool.{leb-true, false≢true}
 use Rattle.std.proofs.lemmas.List.{take-append-drop, append-nil, length-append, length-drop, drop-drop}
 use Rattle.std.proofs.Math.Seq.{drop-append_seam, take-append_seam}
 use Rattle.stk_base.specs.declared.span.Span.{Span}
-use Rattle.stk_base.specs.declared.token.Class.{Class}
-use Rattle.stk_base.specs.declared.token.Class.TheVariants.{Word, Number, Character, Text, Mark, Stray}
 use Rattle.stk_tree.specs.declared.fixed.Fixed.{Fixed}
 use Rattle.stk_tree.specs.declared.fixed.Fixed.TheVariants as fixed
 use Rattle.stk_tree.specs.declared.fixed.Lexeme.{Lexeme}
 use Rattle.stk_tree.specs.declared.fixed.Lexeme.TheVariants.{Leaf, Fixed as Token}
-use Rattle.stk_tree.specs.declared.expression.StepOp.{StepOp}
-use Rattle.stk_tree.specs.declared.expression.StepOp.TheVariants.{IncBefore, DecBefore, IncAfter, DecAfter}
-use Rattle.stk_tree.specs.declared.expression.UnaryOp.{UnaryOp}
-use Rattle.stk_tree.specs.declared.expression.UnaryOp.TheVariants as unary
-use Rattle.stk_tree.specs.declared.expression.BinaryOp.{BinaryOp}
-use Rattle.stk_tree.specs.declared.expression.BinaryOp.TheVariants as binary
-use Rattle.stk_tree.specs.declared.expression.AssignOp.{AssignOp}
-use Rattle.stk_tree.specs.declared.expression.AssignOp.TheVariants as assign
-use Rattle.stk_tree.specs.Syntax.{BaseTree, BaseFormTree, TypeNameTree, DimensionTree, DimensionTrees, ExprTree, ExprTrees, ExprFormTree}
-use Rattle.stk_tree.specs.Syntax as s
+use Rattle.stk_tree.specs.Syntax.{ExprTree}
 use Rattle.stk_tree.specs.Height.{expression_height}
-use Rattle.stk_tree.specs.Placed.{expression_placed}
 use Rattle.stk_tree.specs.Tokens.{expression_tokens}
 use Rattle.stk_grammar.specs.Bare.{bare_expression}
 use Rattle.stk_grammar.specs.Expressions.{IsExpression, OnePlace, OneText, stop_mark, stops}
-use Rattle.stk_grammar.specs.Fits.{expression_fits}
-use Rattle.stk_grammar.specs.Reading.{◌>>=◌, Found, expression_at, level, suffix_mark}
+use Rattle.stk_grammar.specs.Reading.{expression_at, level, suffix_mark}
 use Rattle.stk_grammar.proofs.Complete.{expression_reads}
-use Rattle.stk_grammar.proofs.Operators.{Ends, EndsAt, level_above, some_is}
+use Rattle.stk_grammar.proofs.Operators.{Ends, EndsAt, some_is}
 use Rattle.stk_grammar.proofs.Prints.{prints, tokens-append}
-use Rattle.stk_grammar.proofs.Sound.{Answers, expression_sound}
+use Rattle.stk_grammar.proofs.Sound.{expression_sound}
 use Rattle.stk_grammar.proofs.Well.{IsWell, height-bare, passes_of, well_of}
 
 mark_ends : (least : ℕ) (f : Fixed) → stop_mark least f ≡ true → EndsAt least (suffix_mark f)
@@ -81,7 +67,7 @@ one_place named least ts from to end s t h k =
     let a = well_of named least s h.placed h.fits in
     let b = well_of named least t k.placed k.fits in
     let p = one_tree named least s t (drop to ts) (drop end ts) a.1 b.1 a.0 b.0 (Ends-stops least _ h.stop) (Ends-stops least _ k.stop)
-        (sym (tokens_from named least ts from to s h) ∙ tokens_from named least ts from end t k) in
+    (sym (tokens_from named least ts from to s h) ∙ tokens_from named least ts from end t k) in
     (p.0, same_end ts to end h.within.1 k.within.1 p.1)
 
 -- an expression at a place, and what the reader finds there

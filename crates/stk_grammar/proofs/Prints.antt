@@ -1,25 +1,16 @@
 -- The tokens of a tree in front of others, with no `++`.
-use Rattle.std.specs.Prelude.{map, replicate}
-use Rattle.std.proofs.Common.{◌≡◌, ℕ, zero, suc, ◌+◌, ◌<◌, ◌≤◌, Bool, true, false, List, [], ◌∷◌, length, ◌++◌, refl, sym, ap, ◌∙◌, append_assoc, length-append, arith}
+use Rattle.std.proofs.Common.{◌≡◌, ℕ, zero, suc, ◌<◌, ◌≤◌, List, [], ◌∷◌, length, ◌++◌, refl, ap, ◌∙◌, append_assoc, length-append, arith}
 use Rattle.stk_base.specs.declared.span.Span.{Span}
-use Rattle.stk_base.specs.declared.token.Class.{Class}
-use Rattle.stk_base.specs.declared.token.Class.TheVariants.{Word, Number, Character, Text, Mark, Stray}
+use Rattle.stk_base.specs.declared.token.Class.TheVariants.{Word, Number, Character, Text}
 use Rattle.stk_tree.specs.declared.fixed.Fixed.{Fixed}
 use Rattle.stk_tree.specs.declared.fixed.Fixed.TheVariants as fixed
 use Rattle.stk_tree.specs.declared.fixed.Lexeme.{Lexeme}
 use Rattle.stk_tree.specs.declared.fixed.Lexeme.TheVariants.{Leaf, Fixed as Token}
-use Rattle.stk_tree.specs.declared.expression.StepOp.{StepOp}
 use Rattle.stk_tree.specs.declared.expression.StepOp.TheVariants.{IncBefore, DecBefore, IncAfter, DecAfter}
-use Rattle.stk_tree.specs.declared.expression.UnaryOp.{UnaryOp}
-use Rattle.stk_tree.specs.declared.expression.UnaryOp.TheVariants as unary
-use Rattle.stk_tree.specs.declared.expression.BinaryOp.{BinaryOp}
-use Rattle.stk_tree.specs.declared.expression.BinaryOp.TheVariants as binary
-use Rattle.stk_tree.specs.declared.expression.AssignOp.{AssignOp}
-use Rattle.stk_tree.specs.declared.expression.AssignOp.TheVariants as assign
 use Rattle.stk_tree.specs.Syntax.{BaseTree, BaseFormTree, TypeNameTree, DimensionTree, DimensionTrees, ExprTree, ExprTrees, ExprFormTree}
 use Rattle.stk_tree.specs.Syntax as s
 use Rattle.stk_tree.specs.Height.{expression_height}
-use Rattle.stk_tree.specs.Tokens.{assign_mark, base_form_tokens, binary_mark, dimension_tokens, dimensions_tokens, expression_form_tokens, expression_tokens, expressions_tokens, more_expressions, reserved, stars, step_tokens, texts, type_name_tokens, unary_mark}
+use Rattle.stk_tree.specs.Tokens.{assign_mark, base_form_tokens, binary_mark, dimension_tokens, dimensions_tokens, expression_form_tokens, expression_tokens, expressions_tokens, more_expressions, reserved, stars, texts, type_name_tokens, unary_mark}
 
 abbrev pub prints_texts : List Span → List Lexeme → List Lexeme
 prints_texts [] r = r

@@ -1,23 +1,8 @@
 -- Well-placed trees that fit the names, as one relation: each operand has at least the level of its place.
-use Rattle.std.proofs.Common.{◌≡◌, ℕ, zero, suc, ◌+◌, ◌<◌, ◌≤◌, max, Bool, true, false, not, ◌&&◌, List, [], ◌∷◌, refl, sym, ap, ◌∙◌, arith}
-use Rattle.std.specs.Prelude.{nat_le}
+use Rattle.std.proofs.Common.{◌≡◌, ℕ, ◌+◌, ◌≤◌, Bool, true, false, not, ◌&&◌, refl, ap}
 use Rattle.std.proofs.lemmas.Bool.{le-leb, leb-true}
 use Rattle.stk_base.specs.declared.span.Span.{Span}
 use Rattle.stk_tree.specs.declared.node.Node.{Node}
-use Rattle.stk_base.specs.declared.token.Class.{Class}
-use Rattle.stk_base.specs.declared.token.Class.TheVariants.{Word, Number, Character, Text, Mark, Stray}
-use Rattle.stk_tree.specs.declared.fixed.Fixed.{Fixed}
-use Rattle.stk_tree.specs.declared.fixed.Fixed.TheVariants as fixed
-use Rattle.stk_tree.specs.declared.fixed.Lexeme.{Lexeme}
-use Rattle.stk_tree.specs.declared.fixed.Lexeme.TheVariants.{Leaf, Fixed as Token}
-use Rattle.stk_tree.specs.declared.expression.StepOp.{StepOp}
-use Rattle.stk_tree.specs.declared.expression.StepOp.TheVariants.{IncBefore, DecBefore, IncAfter, DecAfter}
-use Rattle.stk_tree.specs.declared.expression.UnaryOp.{UnaryOp}
-use Rattle.stk_tree.specs.declared.expression.UnaryOp.TheVariants as unary
-use Rattle.stk_tree.specs.declared.expression.BinaryOp.{BinaryOp}
-use Rattle.stk_tree.specs.declared.expression.BinaryOp.TheVariants as binary
-use Rattle.stk_tree.specs.declared.expression.AssignOp.{AssignOp}
-use Rattle.stk_tree.specs.declared.expression.AssignOp.TheVariants as assign
 use Rattle.stk_tree.specs.Syntax.{BaseTree, BaseFormTree, TypeNameTree, DimensionTree, DimensionTrees, ExprTree, ExprTrees, ExprFormTree}
 use Rattle.stk_tree.specs.Syntax as s
 use Rattle.stk_tree.specs.Height.{expression_height, expressions_height, expression_form_height, dimension_height, dimensions_height, type_name_height, base_form_height}

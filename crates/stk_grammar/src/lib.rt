@@ -7,5 +7,6 @@ mod tables;
 
 pub use one_way::{one_place, one_text};
 pub use tables::{
-    Head, Suffix, binary_level, head_leaf, head_mark, head_of, suffix_left, suffix_level, suffix_mark, suffix_of,
+    Head, Suffix, binary_level, head_leaf, head_mark, head_of, suffix_left, suffix_level,
+    suffix_mark, suffix_of,
 };

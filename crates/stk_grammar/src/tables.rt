@@ -119,7 +119,12 @@ pub fn suffix_level(suffix: Suffix) -> usize
         Suffix::Binary(op) => binary_level(op),
         Suffix::Assign(_) => 2,
         Suffix::Choice => 3,
-        Suffix::Index | Suffix::Call | Suffix::Dot | Suffix::Arrow | Suffix::Increment | Suffix::Decrement => 16,
+        Suffix::Index
+        | Suffix::Call
+        | Suffix::Dot
+        | Suffix::Arrow
+        | Suffix::Increment
+        | Suffix::Decrement => 16,
     }
 }
 
@@ -131,7 +136,12 @@ pub fn suffix_left(suffix: Suffix) -> usize
         Suffix::Binary(op) => binary_level(op),
         Suffix::Assign(_) => 15,
         Suffix::Choice => 4,
-        Suffix::Index | Suffix::Call | Suffix::Dot | Suffix::Arrow | Suffix::Increment | Suffix::Decrement => 16,
+        Suffix::Index
+        | Suffix::Call
+        | Suffix::Dot
+        | Suffix::Arrow
+        | Suffix::Increment
+        | Suffix::Decrement => 16,
     }
 }
 

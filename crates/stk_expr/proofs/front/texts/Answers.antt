@@ -1,4 +1,4 @@
-use Rattle.std.proofs.Common.{◌≡◌, ◌∷◌, List, ◌∙◌}
+use Rattle.std.proofs.Common.{◌∷◌, ◌∙◌}
 use Rattle.stk_grammar.specs.Reading.{texts_at}
 use Rattle.stk_expr.proofs.Steps.{texts_done, texts_turn}
 use Rattle.stk_expr.proofs.front.texts.Goals as goal

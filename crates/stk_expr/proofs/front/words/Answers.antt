@@ -1,4 +1,4 @@
-use Rattle.std.proofs.Common.{◌≡◌, ◌∷◌, List, ◌∙◌}
+use Rattle.std.proofs.Common.{◌∷◌, ◌∙◌}
 use Rattle.stk_grammar.specs.Reading.{words_at}
 use Rattle.stk_expr.proofs.Steps.{words_done, words_turn}
 use Rattle.stk_expr.proofs.front.words.Goals as goal

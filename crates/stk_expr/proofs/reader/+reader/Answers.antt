@@ -1,4 +1,4 @@
-use Rattle.std.proofs.Common.{◌≡◌, ℕ, suc, ◌+◌, ◌<◌, ◌≤◌, None, Some, length, map, refl, sym, ap, ◌∙◌, arith}
+use Rattle.std.proofs.Common.{suc, None, Some, map, refl, sym, ◌∙◌, arith}
 use Rattle.std.proofs.lemmas.Result.{err_from_is_err_and}
 use Rattle.stk_tree.specs.View.{view_dimension, view_expression}
 use Rattle.stk_expr.specs.Gives.{named}

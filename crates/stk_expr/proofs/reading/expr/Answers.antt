@@ -1,11 +1,8 @@
-use Rattle.std.proofs.Common.{◌≡◌, ◌≤◌, length, drop, sym, ap, ◌∙◌, Err, Result, arith}
+use Rattle.std.proofs.Common.{drop, sym, ◌∙◌, arith}
 use Rattle.std.proofs.lemmas.Result.{err_from_is_err_and}
 use Rattle.std.proofs.lemmas.List.{length-drop}
-use Rattle.stk_tree.specs.declared.fixed.Lexeme.{Lexeme}
 use Rattle.stk_tree.specs.View.{view_expression}
-use Rattle.stk_grammar.specs.Bare.{bare_expression}
 use Rattle.stk_grammar.proofs.Laws.{Ends-stops, expression_of_found, found_bare, none_of_more, none_of_none}
-use Rattle.stk_expr.specs.declared.parse.Parse.{Parse}
 use Rattle.stk_expr.specs.Gives.{named}
 use Rattle.stk_expr.proofs.Rows.{none_of_fails, rest_within}
 use Rattle.stk_expr.proofs.reading.expr.Goals as goal
