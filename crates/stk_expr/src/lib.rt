@@ -9,3 +9,6 @@ mod reading;
 
 pub use parse::Parse;
 pub use reading::expr;
+
+#[cfg(test)]
+mod tests;
