@@ -1,0 +1,26 @@
+-- What stands at the front of some tokens, and what was read before them.
+use Rattle.std.specs.Prelude.{cond, List, [], ◌∷◌, Some, None}
+use Rattle.stk_base.specs.declared.span.Span.{Span}
+use Rattle.stk_base.specs.declared.token.Class.TheVariants.{Text}
+use Rattle.stk_tree.specs.declared.fixed.Fixed.{Fixed}
+use Rattle.stk_tree.specs.declared.fixed.Lexeme.{Lexeme}
+use Rattle.stk_tree.specs.declared.fixed.Lexeme.TheVariants.{Leaf, Fixed as Token}
+use Rattle.stk_tree.specs.Placed.{is_basic}
+use Rattle.stk_tree.specs.View.{chained}
+use Rattle.stk_grammar.specs.Reading.{Found}
+
+abbrev pub text_at : List Lexeme → Found Span
+text_at [] = None
+text_at (Token f ∷ ts) = None
+text_at (Leaf Text at ∷ ts) = Some (at, ts)
+text_at (Leaf class at ∷ ts) = None
+
+abbrev pub basic_at : List Lexeme → Found Fixed
+basic_at [] = None
+basic_at (Token f ∷ ts) = cond (is_basic f) (Some (f, ts)) None
+basic_at (Leaf class at ∷ ts) = None
+
+-- the elements that were read before a row
+abbrev pub in_front : {X T : Type 0} → (X → T → T) → List X → Found T → Found T
+in_front add xs None = None
+in_front add xs (Some y) = Some (chained add y.0 xs, y.1)

@@ -1,0 +1,303 @@
+//! What stands at the front of some tokens.
+
+ghost use Rattle.std.specs.Prelude.{◌≡◌, ◌∷◌, ◌+◌, ◌≤◌, IfOk, IfSome, length, option_map};
+ghost use Rattle.stk_tree.specs.Placed.{is_basic};
+ghost use Rattle.stk_tree.specs.View.{view_base_form};
+ghost use Rattle.stk_grammar.specs.Expressions.{stop_mark, stops};
+ghost use Rattle.stk_grammar.specs.Reading.{base_at, begins_type, behind_colon, behind_comma, behind_left_bracket, behind_left_paren, behind_right_bracket, behind_right_paren, first_head, is_tag_word, opens_type, stars_at, tag_base, taken, texts_at, word_at, words_at};
+ghost use Rattle.stk_expr.specs.Fronts.{basic_at, text_at};
+ghost use Rattle.stk_expr.specs.Gives.{Gives, named};
+
+use crate::build;
+use crate::parse::Parse;
+use std::alloc::{AllocError, AllocFailed, Global};
+use stk_base::{Class, List, Span};
+use stk_ctype::Names;
+use stk_grammar::{Head, Suffix, head_of, suffix_left, suffix_level, suffix_of};
+use stk_tree::{BaseForm, Fixed, Lexeme};
+
+pub fn behind_right_paren(lexemes: &[Lexeme]) -> Option<&[Lexeme]>
+    ensures { option_map (λ x. x.now) result ≡ behind_right_paren lexemes.now }
+{
+    match lexemes.split_first()? {
+        (Lexeme::Fixed(Fixed::RightParen), rest) => Some(rest),
+        _ => None,
+    }
+}
+
+pub fn behind_left_paren(lexemes: &[Lexeme]) -> Option<&[Lexeme]>
+    ensures { option_map (λ x. x.now) result ≡ behind_left_paren lexemes.now }
+{
+    match lexemes.split_first()? {
+        (Lexeme::Fixed(Fixed::LeftParen), rest) => Some(rest),
+        _ => None,
+    }
+}
+
+pub fn behind_right_bracket(lexemes: &[Lexeme]) -> Option<&[Lexeme]>
+    ensures { option_map (λ x. x.now) result ≡ behind_right_bracket lexemes.now }
+{
+    match lexemes.split_first()? {
+        (Lexeme::Fixed(Fixed::RightBracket), rest) => Some(rest),
+        _ => None,
+    }
+}
+
+pub fn behind_left_bracket(lexemes: &[Lexeme]) -> Option<&[Lexeme]>
+    ensures { option_map (λ x. x.now) result ≡ behind_left_bracket lexemes.now }
+{
+    match lexemes.split_first()? {
+        (Lexeme::Fixed(Fixed::LeftBracket), rest) => Some(rest),
+        _ => None,
+    }
+}
+
+pub fn behind_colon(lexemes: &[Lexeme]) -> Option<&[Lexeme]>
+    ensures { option_map (λ x. x.now) result ≡ behind_colon lexemes.now }
+{
+    match lexemes.split_first()? {
+        (Lexeme::Fixed(Fixed::Colon), rest) => Some(rest),
+        _ => None,
+    }
+}
+
+pub fn behind_comma(lexemes: &[Lexeme]) -> Option<&[Lexeme]>
+    ensures { option_map (λ x. x.now) result ≡ behind_comma lexemes.now }
+{
+    match lexemes.split_first()? {
+        (Lexeme::Fixed(Fixed::Comma), rest) => Some(rest),
+        _ => None,
+    }
+}
+
+pub fn word_at(lexemes: &[Lexeme]) -> Option<(Span, &[Lexeme])>
+    ensures { option_map (λ x. (x.0, x.1.now)) result ≡ word_at lexemes.now }
+{
+    match lexemes.split_first()? {
+        (Lexeme::Leaf(Class::Word, at), rest) => Some((*at, rest)),
+        _ => None,
+    }
+}
+
+fn text_at(lexemes: &[Lexeme]) -> Option<(Span, &[Lexeme])>
+    ensures { option_map (λ x. (x.0, x.1.now)) result ≡ text_at lexemes.now }
+{
+    match lexemes.split_first()? {
+        (Lexeme::Leaf(Class::Text, at), rest) => Some((*at, rest)),
+        _ => None,
+    }
+}
+
+fn is_basic(word: Fixed) -> bool
+    ensures { result ≡ is_basic word }
+{
+    matches!(
+        word,
+        Fixed::Void
+            | Fixed::Char
+            | Fixed::Short
+            | Fixed::Int
+            | Fixed::Long
+            | Fixed::Signed
+            | Fixed::Unsigned
+            | Fixed::Bool
+    )
+}
+
+fn is_tag_word(word: Fixed) -> bool
+    ensures { result ≡ is_tag_word word }
+{
+    matches!(word, Fixed::Struct | Fixed::Enum)
+}
+
+fn basic_at(lexemes: &[Lexeme]) -> Option<(Fixed, &[Lexeme])>
+    ensures { option_map (λ x. (x.0, x.1.now)) result ≡ basic_at lexemes.now }
+{
+    match lexemes.split_first()? {
+        (Lexeme::Fixed(word), rest) => {
+            if is_basic(*word) {
+                Some((*word, rest))
+            } else {
+                None
+            }
+        }
+        _ => None,
+    }
+}
+
+/// What an operand begins with, where one begins here.
+pub fn first_head(lexemes: &[Lexeme]) -> Option<(Head, &[Lexeme])>
+    ensures { option_map (λ x. (x.0, x.1.now)) result ≡ first_head lexemes.now }
+{
+    let (lexeme, rest) = lexemes.split_first()?;
+    let head = head_of(*lexeme)?;
+    Some((head, rest))
+}
+
+/// The suffix that an operand of this level takes, where an expression of the level `least` is wanted.
+pub fn taken(least: usize, left: usize, lexemes: &[Lexeme]) -> Option<(Suffix, &[Lexeme])>
+    ensures { option_map (λ x. (x.0, x.1.now)) result ≡ taken least left lexemes.now }
+{
+    let (lexeme, rest) = lexemes.split_first()?;
+    let suffix = suffix_of(*lexeme)?;
+    if least <= suffix_level(suffix) && suffix_left(suffix) <= left {
+        Some((suffix, rest))
+    } else {
+        None
+    }
+}
+
+fn stop_mark(least: usize, mark: Fixed) -> bool
+    ensures { result ≡ stop_mark least mark }
+{
+    match mark {
+        Fixed::RightParen
+        | Fixed::RightBracket
+        | Fixed::RightBrace
+        | Fixed::Semicolon
+        | Fixed::Colon => true,
+        Fixed::Comma => least >= 2,
+        _ => false,
+    }
+}
+
+/// Whether an expression of the level `least` may end before these tokens.
+pub fn stops(least: usize, lexemes: &[Lexeme]) -> bool
+    ensures { result ≡ stops least lexemes.now }
+{
+    match lexemes.first() {
+        None => true,
+        Some(Lexeme::Fixed(mark)) => stop_mark(least, *mark),
+        Some(Lexeme::Leaf(_, _)) => false,
+    }
+}
+
+/// Whether the word at a span is a typedef name in force.
+#[tactic(auto, unfolding(crate::specs::Gives::named))]
+pub fn is_named(bytes: &[u8], names: &Names, at: Span) -> bool
+    ensures { result ≡ named bytes.now names.now at }
+{
+    names.is_type(at.text(bytes))
+}
+
+/// Whether a type name begins here.
+pub fn begins_type(bytes: &[u8], names: &Names, lexemes: &[Lexeme]) -> bool
+    ensures { result ≡ begins_type (named bytes.now names.now) lexemes.now }
+{
+    match lexemes.first() {
+        None => false,
+        Some(Lexeme::Leaf(Class::Word, at)) => is_named(bytes, names, *at),
+        Some(Lexeme::Leaf(_, _)) => false,
+        Some(Lexeme::Fixed(word)) => is_basic(*word) || is_tag_word(*word),
+    }
+}
+
+/// Whether a type name in parentheses begins here.
+pub fn opens_type(bytes: &[u8], names: &Names, lexemes: &[Lexeme]) -> bool
+    ensures { result ≡ opens_type (named bytes.now names.now) (behind_left_paren lexemes.now) }
+{
+    match behind_left_paren(lexemes) {
+        None => false,
+        Some(inside) => begins_type(bytes, names, inside),
+    }
+}
+
+/// String literals in a row, the first of which is past.
+pub fn texts(
+    alloc: Global,
+    first: Span,
+    lexemes: &[Lexeme],
+) -> Result<(List<Span>, &[Lexeme]), AllocFailed<Span>>
+    ensures { IfOk result (λ x. (x.0 ≡ first ∷ (texts_at lexemes.now).0) × (x.1.now ≡ (texts_at lexemes.now).1)) }
+{
+    let mut parts = Vec::new(alloc);
+    parts.push(first)?;
+    let mut rest = lexemes;
+    while let Some((part, behind)) = text_at(rest) {
+        parts.push(part)?;
+        rest = behind;
+    }
+    Ok((List::from_vec(parts), rest))
+}
+
+/// Basic words in a row, the first of which is past.
+fn words(
+    alloc: Global,
+    first: Fixed,
+    lexemes: &[Lexeme],
+) -> Result<(List<Fixed>, &[Lexeme]), AllocFailed<Fixed>>
+    ensures { IfOk result (λ x. (x.0 ≡ first ∷ (words_at lexemes.now).0) × (x.1.now ≡ (words_at lexemes.now).1)) }
+{
+    let mut list = Vec::new(alloc);
+    list.push(first)?;
+    let mut rest = lexemes;
+    while let Some((word, behind)) = basic_at(rest) {
+        list.push(word)?;
+        rest = behind;
+    }
+    Ok((List::from_vec(list), rest))
+}
+
+/// How many `*` stand here, and the tokens behind them.
+#[tactic(auto, unfolding(stk_grammar::specs::Reading::stars_at))]
+pub fn stars_at(lexemes: &[Lexeme]) -> (usize, &[Lexeme])
+    ensures value { stars_at 0 lexemes.now ≡ (result.0, result.1.now) }
+    ensures few { result.0 + length result.1.now ≤ length lexemes.now }
+{
+    let mut stars = 0;
+    let mut rest = lexemes;
+    while let Some((Lexeme::Fixed(Fixed::Star), behind)) = rest.split_first() {
+        stars += 1;
+        rest = behind;
+    }
+    (stars, rest)
+}
+
+/// The base of a type name.
+pub fn base<'a>(
+    alloc: Global,
+    bytes: &[u8],
+    names: &Names,
+    lexemes: &'a [Lexeme],
+) -> Result<(BaseForm, &'a [Lexeme]), Parse>
+    ensures { Gives (λ x. (view_base_form x.0, x.1.now)) result (base_at (named bytes.now names.now) lexemes.now) }
+{
+    let Some((lexeme, rest)) = lexemes.split_first() else {
+        return Err(Parse::NoTree);
+    };
+    match lexeme {
+        Lexeme::Leaf(Class::Word, at) => {
+            if is_named(bytes, names, *at) {
+                Ok((build::named(*at), rest))
+            } else {
+                Err(Parse::NoTree)
+            }
+        }
+        Lexeme::Leaf(_, _) => Err(Parse::NoTree),
+        Lexeme::Fixed(word) => {
+            if is_basic(*word) {
+                let (list, rest) = words(alloc, *word, rest)?;
+                Ok((build::words(list), rest))
+            } else {
+                tag_base(*word, rest).ok_or(Parse::NoTree)
+            }
+        }
+    }
+}
+
+/// `struct tag` or `enum tag`, whose first word is past.
+fn tag_base(word: Fixed, lexemes: &[Lexeme]) -> Option<(BaseForm, &[Lexeme])>
+    ensures { option_map (λ x. (view_base_form x.0, x.1.now)) result ≡ tag_base word lexemes.now }
+{
+    match word {
+        Fixed::Struct => {
+            let (tag, rest) = word_at(lexemes)?;
+            Some((build::struct_ref(tag), rest))
+        }
+        Fixed::Enum => {
+            let (tag, rest) = word_at(lexemes)?;
+            Some((build::enum_ref(tag), rest))
+        }
+        _ => None,
+    }
+}

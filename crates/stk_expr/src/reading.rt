@@ -1,0 +1,46 @@
+ghost use Rattle.std.specs.Prelude.{◌≡◌, ◌≤◌, IfOk, length, ℕ};
+ghost use Rattle.std.specs.Result.{IsErrOf};
+ghost use Rattle.stk_tree.specs.Syntax.{ExprTree};
+ghost use Rattle.stk_tree.specs.View.{view_expression};
+ghost use Rattle.stk_grammar.specs.Bare.{bare_expression};
+ghost use Rattle.stk_grammar.specs.Expressions.{IsExpression};
+ghost use Rattle.stk_expr.specs.Gives.{named};
+
+use crate::front::stops;
+use crate::parse::Parse;
+use crate::reader::expression;
+use std::alloc::Global;
+use stk_ctype::Names;
+use stk_tree::{Expr, Lexeme};
+
+/// Reads the expression of the level `level` or a higher one that begins at the place `at`, and says at which place it ends
+/// (C11 6.5).
+///
+/// `lexemes` are the tokens of `bytes`, and the words that `names` has as typedef names stand for types. The answered tree is
+/// well placed, fits the names, is at most 400 high and prints exactly the tokens from `at` up to the answered place, where a
+/// stop stands: the end of the tokens, one of `)` `]` `}` `;` `:`, or, from level 2 on, `,`. `NoTree` comes exactly where no tree
+/// and no place are so. The records of its nodes aren't set: all of them have the number 0 and the empty span at 0, and the
+/// tree is laid out with the unit that it stands in.
+pub fn expr(
+    alloc: Global,
+    bytes: &[u8],
+    lexemes: &[Lexeme],
+    names: &Names,
+    at: usize,
+    level: u8,
+) -> Result<(Expr, usize), Parse>
+    requires level { (1 ≤ level) × (level ≤ 17) }
+    requires within { at ≤ length lexemes.now }
+    ensures found { IfOk result (λ x. IsExpression (named bytes.now names.now) level lexemes.now at x.1 (view_expression x.0)) }
+    ensures bare { IfOk result (λ x. bare_expression (view_expression x.0) ≡ view_expression x.0) }
+    ensures none { IsErrOf result Parse.NoTree
+        → (t : ExprTree) (to : ℕ) → IsExpression (named bytes.now names.now) level lexemes.now at to t → ⊥ }
+{
+    let (_, front) = lexemes.split_at(at);
+    let found = expression(alloc, bytes, names, 400, level as usize, front)?;
+    if stops(level as usize, found.rest) {
+        Ok((found.tree.into_inner(), lexemes.len() - found.rest.len()))
+    } else {
+        Err(Parse::NoTree)
+    }
+}

@@ -1,0 +1,48 @@
+-- Where an expression stands among tokens, and the laws of it (C11 6.5).
+use Rattle.std.specs.Prelude.{◌≡◌, ℕ, ◌≤◌, Bool, true, false, IsTrue, List, [], ◌∷◌, length, drop, slice_range, nat_le}
+use Rattle.stk_base.specs.declared.span.Span.{Span}
+use Rattle.stk_tree.specs.declared.fixed.Fixed.{Fixed}
+use Rattle.stk_tree.specs.declared.fixed.Fixed.TheVariants as fixed
+use Rattle.stk_tree.specs.declared.fixed.Lexeme.{Lexeme}
+use Rattle.stk_tree.specs.declared.fixed.Lexeme.TheVariants.{Leaf, Fixed as Token}
+use Rattle.stk_tree.specs.Height.{expression_height}
+use Rattle.stk_tree.specs.Placed.{expression_placed}
+use Rattle.stk_tree.specs.Syntax.{ExprTree}
+use Rattle.stk_tree.specs.Tokens.{expression_tokens}
+use Rattle.stk_grammar.specs.Bare.{bare_expression}
+use Rattle.stk_grammar.specs.Fits.{expression_fits}
+
+-- whether an expression of a level may end before this mark: before `)`, `]`, `}`, `;`, `:`, and before `,` from level 2 on
+abbrev pub stop_mark : ℕ → Fixed → Bool
+stop_mark least fixed.RightParen = true
+stop_mark least fixed.RightBracket = true
+stop_mark least fixed.RightBrace = true
+stop_mark least fixed.Semicolon = true
+stop_mark least fixed.Colon = true
+stop_mark least fixed.Comma = nat_le 2 least
+stop_mark least other = false
+
+-- whether an expression of a level may end before these tokens: at the end of the tokens, or before such a mark
+abbrev pub stops : ℕ → List Lexeme → Bool
+stops least [] = true
+stops least (Token f ∷ ts) = stop_mark least f
+stops least (Leaf class at ∷ ts) = false
+
+-- The tokens from one place up to another are this expression, of this level or a higher one, and a stop follows. `named` says whether the word at a span is a typedef name in force.
+pub record IsExpression (named : Span → Bool) (least : ℕ) (ts : List Lexeme) (from to : ℕ) (t : ExprTree) : Type 0 where
+  pub within : (from ≤ to) × (to ≤ length ts)
+  pub tokens : slice_range ts from to ≡ expression_tokens t
+  pub placed : IsTrue (expression_placed least t)
+  pub fits : IsTrue (expression_fits named t)
+  pub height : expression_height t ≤ 400
+  pub stop : IsTrue (stops least (drop to ts))
+
+-- an expression as one that prints all of some tokens: two of them are equal apart from the records of their nodes
+abbrev pub OneText : Type 0
+OneText = (named : Span → Bool) (x y : ExprTree) → IsTrue (expression_placed 1 x) → IsTrue (expression_placed 1 y) → IsTrue (expression_fits named x) → IsTrue (expression_fits named y)
+    → expression_tokens x ≡ expression_tokens y → bare_expression x ≡ bare_expression y
+
+-- two expressions of a level that begin at one place end at one place, and are equal apart from the records of their nodes
+abbrev pub OnePlace : Type 0
+OnePlace = (named : Span → Bool) (least : ℕ) (ts : List Lexeme) (from to end : ℕ) (x y : ExprTree) → IsExpression named least ts from to x → IsExpression named least ts from end y
+    → (bare_expression x ≡ bare_expression y) × (to ≡ end)

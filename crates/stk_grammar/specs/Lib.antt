@@ -1,0 +1,4 @@
+pub mod Bare
+pub mod Expressions
+pub mod Fits
+pub mod Reading

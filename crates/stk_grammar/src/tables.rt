@@ -1,0 +1,188 @@
+//! Which token begins what: the tables that the readers of expressions go by.
+
+ghost use Rattle.std.specs.Prelude.{◌≡◌, ◌≤◌};
+ghost use Rattle.stk_tree.specs.Placed.{binary_level};
+ghost use Rattle.stk_grammar.specs.Reading.{head_leaf, head_mark, head_of, suffix_left, suffix_level, suffix_mark, suffix_of};
+
+use stk_base::{Class, Span};
+use stk_tree::{AssignOp, BinaryOp, Fixed, Lexeme, UnaryOp};
+
+/// What an operand begins with, by its first token.
+#[derive(Clone, Copy, Debug, PartialEq, Eq)]
+pub enum Head {
+    Name(Span),
+    Number(Span),
+    Character(Span),
+    Text(Span),
+    Paren,
+    SizeOf,
+    Increment,
+    Decrement,
+    Unary(UnaryOp),
+}
+
+/// What may stand behind an operand, by the token that it begins with.
+#[derive(Clone, Copy, Debug, PartialEq, Eq)]
+pub enum Suffix {
+    Binary(BinaryOp),
+    Assign(AssignOp),
+    Choice,
+    Index,
+    Call,
+    Dot,
+    Arrow,
+    Increment,
+    Decrement,
+}
+
+/// What may stand behind an operand and begins with this mark; `None` where nothing does.
+pub fn suffix_mark(mark: Fixed) -> Option<Suffix>
+    ensures { result ≡ suffix_mark mark }
+{
+    match mark {
+        Fixed::Comma => Some(Suffix::Binary(BinaryOp::Comma)),
+        Fixed::OrOr => Some(Suffix::Binary(BinaryOp::OrElse)),
+        Fixed::AndAnd => Some(Suffix::Binary(BinaryOp::AndAlso)),
+        Fixed::Pipe => Some(Suffix::Binary(BinaryOp::Or)),
+        Fixed::Caret => Some(Suffix::Binary(BinaryOp::Xor)),
+        Fixed::Ampersand => Some(Suffix::Binary(BinaryOp::And)),
+        Fixed::EqualEqual => Some(Suffix::Binary(BinaryOp::Eq)),
+        Fixed::NotEqual => Some(Suffix::Binary(BinaryOp::Ne)),
+        Fixed::Less => Some(Suffix::Binary(BinaryOp::Lt)),
+        Fixed::Greater => Some(Suffix::Binary(BinaryOp::Gt)),
+        Fixed::LessEqual => Some(Suffix::Binary(BinaryOp::Le)),
+        Fixed::GreaterEqual => Some(Suffix::Binary(BinaryOp::Ge)),
+        Fixed::LeftShift => Some(Suffix::Binary(BinaryOp::Left)),
+        Fixed::RightShift => Some(Suffix::Binary(BinaryOp::Right)),
+        Fixed::Plus => Some(Suffix::Binary(BinaryOp::Add)),
+        Fixed::Minus => Some(Suffix::Binary(BinaryOp::Sub)),
+        Fixed::Star => Some(Suffix::Binary(BinaryOp::Mul)),
+        Fixed::Slash => Some(Suffix::Binary(BinaryOp::Div)),
+        Fixed::Percent => Some(Suffix::Binary(BinaryOp::Rem)),
+        Fixed::Assign => Some(Suffix::Assign(AssignOp::Plain)),
+        Fixed::StarAssign => Some(Suffix::Assign(AssignOp::Mul)),
+        Fixed::SlashAssign => Some(Suffix::Assign(AssignOp::Div)),
+        Fixed::PercentAssign => Some(Suffix::Assign(AssignOp::Rem)),
+        Fixed::PlusAssign => Some(Suffix::Assign(AssignOp::Add)),
+        Fixed::MinusAssign => Some(Suffix::Assign(AssignOp::Sub)),
+        Fixed::LeftShiftAssign => Some(Suffix::Assign(AssignOp::Left)),
+        Fixed::RightShiftAssign => Some(Suffix::Assign(AssignOp::Right)),
+        Fixed::AmpersandAssign => Some(Suffix::Assign(AssignOp::And)),
+        Fixed::CaretAssign => Some(Suffix::Assign(AssignOp::Xor)),
+        Fixed::PipeAssign => Some(Suffix::Assign(AssignOp::Or)),
+        Fixed::Question => Some(Suffix::Choice),
+        Fixed::LeftBracket => Some(Suffix::Index),
+        Fixed::LeftParen => Some(Suffix::Call),
+        Fixed::Dot => Some(Suffix::Dot),
+        Fixed::Arrow => Some(Suffix::Arrow),
+        Fixed::PlusPlus => Some(Suffix::Increment),
+        Fixed::MinusMinus => Some(Suffix::Decrement),
+        _ => None,
+    }
+}
+
+/// What may stand behind an operand and begins with this token; `None` where nothing does.
+pub fn suffix_of(lexeme: Lexeme) -> Option<Suffix>
+    ensures { result ≡ suffix_of lexeme }
+{
+    match lexeme {
+        Lexeme::Fixed(mark) => suffix_mark(mark),
+        Lexeme::Leaf(_, _) => None,
+    }
+}
+
+/// The level of a binary operator (C11 6.5.5 to 6.5.14, 6.5.17).
+pub fn binary_level(op: BinaryOp) -> usize
+    ensures value { result ≡ binary_level op }
+    ensures low { result ≤ 13 }
+{
+    match op {
+        BinaryOp::Comma => 1,
+        BinaryOp::OrElse => 4,
+        BinaryOp::AndAlso => 5,
+        BinaryOp::Or => 6,
+        BinaryOp::Xor => 7,
+        BinaryOp::And => 8,
+        BinaryOp::Eq | BinaryOp::Ne => 9,
+        BinaryOp::Lt | BinaryOp::Gt | BinaryOp::Le | BinaryOp::Ge => 10,
+        BinaryOp::Left | BinaryOp::Right => 11,
+        BinaryOp::Add | BinaryOp::Sub => 12,
+        BinaryOp::Mul | BinaryOp::Div | BinaryOp::Rem => 13,
+    }
+}
+
+/// The level of the expression that a suffix makes.
+pub fn suffix_level(suffix: Suffix) -> usize
+    ensures { result ≡ suffix_level suffix }
+{
+    match suffix {
+        Suffix::Binary(op) => binary_level(op),
+        Suffix::Assign(_) => 2,
+        Suffix::Choice => 3,
+        Suffix::Index
+        | Suffix::Call
+        | Suffix::Dot
+        | Suffix::Arrow
+        | Suffix::Increment
+        | Suffix::Decrement => 16,
+    }
+}
+
+/// The least level of the operand that a suffix may follow.
+pub fn suffix_left(suffix: Suffix) -> usize
+    ensures { result ≡ suffix_left suffix }
+{
+    match suffix {
+        Suffix::Binary(op) => binary_level(op),
+        Suffix::Assign(_) => 15,
+        Suffix::Choice => 4,
+        Suffix::Index
+        | Suffix::Call
+        | Suffix::Dot
+        | Suffix::Arrow
+        | Suffix::Increment
+        | Suffix::Decrement => 16,
+    }
+}
+
+/// What an operand that begins with this mark begins with; `None` where none does.
+pub fn head_mark(mark: Fixed) -> Option<Head>
+    ensures { result ≡ head_mark mark }
+{
+    match mark {
+        Fixed::LeftParen => Some(Head::Paren),
+        Fixed::Sizeof => Some(Head::SizeOf),
+        Fixed::PlusPlus => Some(Head::Increment),
+        Fixed::MinusMinus => Some(Head::Decrement),
+        Fixed::Ampersand => Some(Head::Unary(UnaryOp::Address)),
+        Fixed::Star => Some(Head::Unary(UnaryOp::Deref)),
+        Fixed::Plus => Some(Head::Unary(UnaryOp::Plus)),
+        Fixed::Minus => Some(Head::Unary(UnaryOp::Minus)),
+        Fixed::Tilde => Some(Head::Unary(UnaryOp::Flip)),
+        Fixed::Exclamation => Some(Head::Unary(UnaryOp::Not)),
+        _ => None,
+    }
+}
+
+/// What an operand that begins with a leaf of this class begins with; `None` where none does.
+pub fn head_leaf(class: Class, at: Span) -> Option<Head>
+    ensures { result ≡ head_leaf class at }
+{
+    match class {
+        Class::Word => Some(Head::Name(at)),
+        Class::Number => Some(Head::Number(at)),
+        Class::Character => Some(Head::Character(at)),
+        Class::Text => Some(Head::Text(at)),
+        Class::Mark | Class::Stray => None,
+    }
+}
+
+/// What an operand that begins with this token begins with; `None` where none does.
+pub fn head_of(lexeme: Lexeme) -> Option<Head>
+    ensures { result ≡ head_of lexeme }
+{
+    match lexeme {
+        Lexeme::Fixed(mark) => head_mark(mark),
+        Lexeme::Leaf(class, at) => head_leaf(class, at),
+    }
+}
