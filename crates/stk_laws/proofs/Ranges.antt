@@ -12,7 +12,7 @@ use Rattle.stk_base.specs.declared.span.Span.{Span}
 use Rattle.stk_base.specs.Text as texts
 use Rattle.stk_tree.specs.declared.expression.BinaryOp.{BinaryOp}
 use Rattle.stk_tree.specs.declared.expression.BinaryOp.TheVariants.{Add, Mul, Div, Lt, Gt, Le, Ge, Eq, Ne}
-use Rattle.stk_small.specs.SmallForm.{IsTermOperator, IsComparison, is_among, is_small_number, is_decimal, decimal}
+use Rattle.stk_small.specs.SmallForm.{IsTermOperator, IsComparison, is_among, is_small_number, is_decimal}
 use Rattle.stk_meaning.specs.declared.running.Register.{Register}
 use Rattle.stk_meaning.specs.Values.{bit, binary_number}
 use Rattle.stk_meaning.specs.Runs.{number_under}
@@ -96,11 +96,6 @@ exact_term op x y t p q =
     let both = natural_term op p.number q.number t p.small q.small in
     (at_naturals op x y p.number q.number p.is q.is both.0, number_at_naturals op x y p.number q.number 65025 p.is q.is both.1)
 
--- the value of a decimal text, told in two places
-same_decimal : (n : ℕ) (ds : List ℕ) → decimal n ds ≡ texts.decimal_behind n ds
-same_decimal n [] = refl
-same_decimal n (d ∷ ds) = same_decimal (n * 10 + (d - 48)) ds
-
 second_holds : (a b : Bool) → a && b ≡ true → b ≡ true
 second_holds true b e = e
 second_holds false b e = absurd cc
@@ -108,9 +103,7 @@ second_holds false b e = absurd cc
 pub small_number : (text : List ℕ) → is_small_number text ≡ true → texts.decimal text ≤ 255
 unfolding is_small_number
 small_number text h =
-    let small : decimal 0 text ≤ 255 = leb-true (decimal 0 text) 255 (second_holds (is_decimal text) (nat_le (decimal 0 text) 255) h) in
-    let same : decimal 0 text ≡ texts.decimal text = same_decimal 0 text in
-    omega arith
+    leb-true (texts.decimal text) 255 (second_holds (is_decimal text) (nat_le (texts.decimal text) 255) h)
 
 -- ---- registers
 
