@@ -1,4 +1,4 @@
--- Reading from left to right: what the readers of the code compute, over lexemes. No public contract speaks of it.
+-- Reading from left to right: what the readers compute, over lexemes. Only contracts of tables and of private functions speak of it.
 use Rattle.std.specs.Prelude.{ℕ, zero, suc, ◌+◌, Bool, true, false, cond, ◌&&◌, nat_le, List, [], ◌∷◌, length, Option, Some, None}
 use Rattle.stk_base.specs.declared.span.Span.{Span}
 use Rattle.stk_base.specs.declared.token.Class.{Class}

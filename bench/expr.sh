@@ -1,0 +1,88 @@
+#!/bin/bash
+# Times the reader of expressions on large texts. It builds a small program over stk_expr in a folder of its own, outside the
+# repository:
+#   bash bench/expr.sh
+# For each text it prints the seconds of the whole run, lexing included, and whether an expression was read.
+set -eu
+top=$(cd "$(dirname "$0")/.." && pwd)
+work=$(mktemp -d)
+trap 'rm -rf "$work"' EXIT
+mkdir -p "$work/crates/exprbench/src"
+for crate in stk_base stk_lex stk_ctype stk_tree stk_grammar stk_expr; do
+    cp -r "$top/crates/$crate" "$work/crates/"
+done
+grep -E '^(stk_base|stk_lex|stk_ctype|stk_tree|stk_grammar|stk_expr):' "$top/crates.txt" > "$work/crates.txt"
+echo 'exprbench: stk_base stk_lex stk_ctype stk_tree stk_expr' >> "$work/crates.txt"
+echo 'Handles allowed: none.' > "$work/HANDLES"
+cat > "$work/crates/exprbench/src/main.rt" <<'END'
+//! Reads the input as an expression.
+#![tactic(auto)]
+
+use std::alloc::Global;
+use std::io::{self, Read, Write};
+use stk_base::{Class, NoMemory};
+use stk_ctype::Names;
+use stk_expr::{Parse, expr};
+use stk_lex::{Token, lex};
+use stk_tree::{Lexeme, fixed_of};
+
+fn lexeme_of(bytes: &[u8], token: Token) -> Lexeme {
+    match (token.class, fixed_of(token.span.text(bytes))) {
+        (Class::Word | Class::Mark, Some(fixed)) => Lexeme::Fixed(fixed),
+        (class, _) => Lexeme::Leaf(class, token.span),
+    }
+}
+
+fn lexemes(alloc: Global, bytes: &[u8]) -> Result<Vec<Lexeme>, NoMemory> {
+    let mut list = Vec::new(alloc);
+    if bytes.len() > 16_777_216 {
+        return Ok(list);
+    }
+    let tokens = lex(alloc, bytes)?;
+    for token in &tokens {
+        list.push(lexeme_of(bytes, *token))?;
+    }
+    Ok(list)
+}
+
+fn answer(alloc: Global, bytes: &[u8]) -> &'static str {
+    let Ok(list) = lexemes(alloc, bytes) else {
+        return "no memory";
+    };
+    match expr(alloc, bytes, list.as_slice(), &Names::new(alloc), 0, 1) {
+        Ok((_, _)) => "a tree",
+        Err(Parse::NoTree) => "no tree",
+        Err(Parse::NoMemory) => "no memory",
+    }
+}
+
+fn main(rt: HostRuntime) -> io::Result<()> {
+    let mut bytes = Vec::new(rt.alloc());
+    let mut input = rt.stdin();
+    input.read_to_end(&mut bytes)?;
+    let said = answer(rt.alloc(), &bytes);
+    println!(rt; "{said}")
+}
+END
+cd "$work/crates/exprbench"
+rt run < /dev/null > "$work/build.log" 2>&1 || { tail -20 "$work/build.log"; exit 1; }
+program=$(find out -maxdepth 1 -type f -name exprbench)
+run() { # the name $1 of a text that the Python expression $2 gives
+    local TIMEFORMAT=%R took
+    python3 -c "import sys; sys.stdout.write($2)" > text
+    took=$( { time "$program" < text > result; } 2>&1 )
+    echo "$1: $took s, $(cat result)"
+}
+run '1,000,000 times (' "'(' * 1000000"
+run '1,000,000 times -' "'- ' * 1000000"
+run '1,000,000 times a?' "'a?' * 1000000"
+run '1,000,000 times a[' "'a[' * 1000000"
+run '1,000,000 times sizeof' "'sizeof ' * 1000000"
+run '1,000,000 times (int[' "'(int[' * 1000000"
+run 'a cast to int with 1,000,000 stars' "'(int' + '*' * 1000000 + ') a'"
+run 'a cast to int with 1,000,000 array parts' "'(int' + '[1]' * 1000000 + ') a'"
+run 'a call of 1,000,000 arguments' "'f(' + 'a,' * 999999 + 'a)'"
+run '1,000,000 string literals' "'\"a\"' * 1000000"
+run 'a sum of 399 names' "'+'.join(['a'] * 399)"
+run 'a sum of 1,000,000 names' "'+'.join(['a'] * 1000000)"
+run '2,000,000 calls in 1,000,000 arguments' "'f(' + 'a(b)(c),' * 999999 + 'a)'"
