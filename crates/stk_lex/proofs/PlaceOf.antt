@@ -220,8 +220,8 @@ place_behind_is text at stand fits r =
     let n = at - stand.at in
     let same : stand.at + n ≡ at = omega (arith, r.before) in
     let line : IsLine text at (line_along text stand.at n stand.line) =
-        subst (λ to. IsLine text to (line_along text stand.at n stand.line)) same
-        (along_is text stand.at n stand.line (omega (arith, same, fits)) (subst (λ to. NoMarker text stand.at to) (sym same) r.between) r.is.line) in
+    subst (λ to. IsLine text to (line_along text stand.at n stand.line)) same
+    (along_is text stand.at n stand.line (omega (arith, same, fits)) (subst (λ to. NoMarker text stand.at to) (sym same) r.between) r.is.line) in
     record { line = line.numbered; column = ((line_along text stand.at n stand.line).start, line.start, refl) }
 
 -- each byte has a place

@@ -60,11 +60,11 @@ below : (n k : ℕ) (P : List ℤ → Type 0) → k ≤ 256 → Decides (suc n) 
 below n zero P small decide search_rest = none_below (λ x xs is less p. omega (arith, ints, less, is.in_range.0))
 below n (suc k) P small decide search_rest =
     at_first (below n k P (omega (arith, small)) decide search_rest) (search_rest (λ xs. P (pos k ∷ xs)) (λ xs is. decide (pos k ∷ xs) (longer_map n k xs small is))) where
-  at_first : FirstBelow n k P → FirstMap n (λ xs. P (pos k ∷ xs)) → FirstBelow n (suc k) P
-  at_first (first_below m is p none) rest = first_below m is p none
-  at_first (none_below none) (first_map xs is p before) = first_below (pos k ∷ xs) (longer_map n k xs small is) p (none_before n k P xs none before)
-  at_first (none_below none) (no_map none_at) =
-      none_below (λ x xs is less p. elim (below_or_at x k less) [ inl l ↦ none x xs is l p | inr same ↦ none_at xs (shorter_map n x xs is) (subst (λ (y : ℤ). P (y ∷ xs)) same p) ])
+      at_first : FirstBelow n k P → FirstMap n (λ xs. P (pos k ∷ xs)) → FirstBelow n (suc k) P
+      at_first (first_below m is p none) rest = first_below m is p none
+      at_first (none_below none) (first_map xs is p before) = first_below (pos k ∷ xs) (longer_map n k xs small is) p (none_before n k P xs none before)
+      at_first (none_below none) (no_map none_at) =
+          none_below (λ x xs is less p. elim (below_or_at x k less) [ inl l ↦ none x xs is l p | inr same ↦ none_at xs (shorter_map n x xs is) (subst (λ (y : ℤ). P (y ∷ xs)) same p) ])
 
 all_below : (n : ℕ) (P : List ℤ → Type 0) → FirstBelow n 256 P → FirstMap (suc n) P
 all_below n P (first_below m is p none) = first_map m is p none
@@ -78,6 +78,7 @@ search_maps zero P decide = elim (decide [] empty_map) [ inl p ↦ first_map [] 
   none_before_it : (other : List ℤ) → IsMap 0 other → Precedes other [] → P other → ⊥
   none_before_it [] is p q = absurd p
   none_before_it (y ∷ ys) is p q = absurd p
+
   none_passes : (P [] → ⊥) → (m : List ℤ) → IsMap 0 m → P m → ⊥
   none_passes never [] is p = never p
   none_passes never (x ∷ xs) is p = absurd (omega (arith, is.count))
@@ -123,25 +124,27 @@ module _ (bytes : List ℕ) (f : FunctionTree) (c : Candidate) where
   needs_of (k ∷ rest) below none =
       let behind = needs_of rest (below ++ k ∷ []) (subst (λ (u : List Condition). NoAnswer bytes f c u) (sym (append_assoc below (k ∷ []) rest)) none) in
       with_one behind (asked (below ++ members behind.needs)) where
-    with_one : (behind : AreNeeds (below ++ k ∷ []) rest) → FirstOrNone (below ++ members behind.needs) → AreNeeds below (k ∷ rest)
-    with_one behind (an_answer start first) = record {
-      needs = need k start ∷ behind.needs;
-      minimal = member behind.minimal first;
-      sufficient = subst (λ (u : List Condition). NoAnswer bytes f c u) (append_assoc below (k ∷ []) (members behind.needs)) behind.sufficient;
-    }
-    with_one behind (no_answer none) = record { needs = behind.needs; minimal = no_member behind.minimal none; sufficient = none }
+        with_one : (behind : AreNeeds (below ++ k ∷ []) rest) → FirstOrNone (below ++ members behind.needs) → AreNeeds below (k ∷ rest)
+        with_one behind (an_answer start first) = record {
+          needs = need k start ∷ behind.needs;
+          minimal = member behind.minimal first;
+          sufficient = subst (λ (u : List Condition). NoAnswer bytes f c u) (append_assoc below (k ∷ []) (members behind.needs)) behind.sufficient;
+        }
+        with_one behind (no_answer none) = record { needs = behind.needs; minimal = no_member behind.minimal none; sufficient = none }
 
   finding_by : FirstOrNone (conditions f) → FirstOrNone [] → (x : Finding) × IsLawful bytes f c x
   finding_by (an_answer start first) hit = (Clear, λ unstable. unstable.none_free start first.answers)
   finding_by (no_answer none) (no_answer dead) = (Clear, λ unstable. dead unstable.start unstable.hit)
   finding_by (no_answer none) (an_answer start first) =
-      let s = needs_of (conditions f) [] none in
-      (Unstable (record { numbers = start }) s.needs, record {
-        unstable = record { start = start; hit = first.answers; none_free = none };
-        first = first;
-        minimal = s.minimal;
-        sufficient = s.sufficient;
-      })
+      let s = needs_of (conditions f) [] none in (
+        Unstable (record { numbers = start }) s.needs,
+        record {
+          unstable = record { start = start; hit = first.answers; none_free = none };
+          first = first;
+          minimal = s.minimal;
+          sufficient = s.sufficient;
+        },
+      )
 
   pub finding_of : (x : Finding) × IsLawful bytes f c x
   finding_of = finding_by (asked (conditions f)) (asked [])

@@ -30,7 +30,7 @@ appended_more (Some taken) middle after a b first second = second ∙ rw first (
 pub front_more : (before middle after : Option (List ℕ)) (a b rest : List ℕ) → Appended before middle a → AppendedFront middle after b → AppendedFront before after (a ++ (b ++ rest))
 front_more before middle after a b rest first (front, back, same, second) =
     let whole : a ++ (b ++ rest) ≡ (a ++ front) ++ (back ++ rest) =
-        ap (λ (u : List ℕ). a ++ (u ++ rest)) same ∙ ap (λ (u : List ℕ). a ++ u) (append_assoc front back rest) ∙ sym (append_assoc a front (back ++ rest)) in
+    ap (λ (u : List ℕ). a ++ (u ++ rest)) same ∙ ap (λ (u : List ℕ). a ++ u) (append_assoc front back rest) ∙ sym (append_assoc a front (back ++ rest)) in
     (a ++ front, back ++ rest, whole, appended_more before middle after a front first second)
 
 -- what was taken is a front of that and more

@@ -52,6 +52,7 @@ unfolding is_semicolon one_semicolon
 empty_or_not bytes tokens = on (is_semicolon (lexemes_of bytes tokens)) refl where
   none : Node
   none = record { number = 0; span = record { from = 0; to = 0 } }
+
   on : (p : Bool) → is_semicolon (lexemes_of bytes tokens) ≡ p → IsEmpty bytes tokens ⊎ (IsEmpty bytes tokens → ⊥)
   on true e = inl (record { node = none; printed = semicolon_is (lexemes_of bytes tokens) e })
   on false e = inr (λ is. false≢true (sym e ∙ ap is_semicolon (sym is.printed)))

@@ -12,9 +12,7 @@ ghost use Rattle.stk_lint.specs.Lint.{IsWritten, IsUnread, fault_line, HasWritte
 use crate::records::{Counts, add_summary};
 use crate::report::unit_text;
 use std::alloc::Global;
-use stk_base::{
-    Failed, List, NoMemory, ReadAll, Sink, Source, Status, read_all, write_all,
-};
+use stk_base::{Failed, List, NoMemory, ReadAll, Sink, Source, Status, read_all, write_all};
 use stk_decl::{Piece, Skimmed, cut, skim};
 use stk_lex::{Places, Token, lex};
 

@@ -117,10 +117,7 @@ fn is_empty(bytes: &[u8], tokens: &[Token]) -> bool
     ensures { IsTrue result ↔ IsEmpty bytes.now tokens.now }
 {
     match tokens {
-        [token] => matches!(
-            lexeme_of(bytes, *token),
-            Lexeme::Fixed(Fixed::Semicolon)
-        ),
+        [token] => matches!(lexeme_of(bytes, *token), Lexeme::Fixed(Fixed::Semicolon)),
         _ => false,
     }
 }

@@ -232,7 +232,8 @@ fn each_row_has_its_records(rt: HostRuntime) -> Result<(), Fail> {
 
 #[test]
 fn each_other_form_is_skipped(rt: HostRuntime) -> Result<(), Fail> {
-    let records = b"-:1:1: skipped: other form\n0 functions, 0 candidates, 0 unstable, 0 undecided, 1 skipped\n";
+    let records =
+        b"-:1:1: skipped: other form\n0 functions, 0 candidates, 0 unstable, 0 undecided, 1 skipped\n";
     for input in OTHER_FORMS {
         check(
             rt.alloc(),

@@ -9,8 +9,8 @@ ghost use Rattle.stk_small.specs.SmallForm.{is_among, is_small_number, is_decima
 ghost use Rattle.stk_small.specs.SmallTexts.{operand_fits, term_fits, sum_fits, local_fits, test_fits, are_names, inner_names, parts_fit, outline_fits};
 ghost use Rattle.stk_small.specs.Names.{is_in};
 
-use crate::small::{Local, Operand, Outline, Term, Test};
 use crate::reserved::is_reserved;
+use crate::small::{Local, Operand, Outline, Term, Test};
 use std::alloc::Global;
 use std::collections::BTreeSet;
 use stk_base::{NoMemory, Span};
