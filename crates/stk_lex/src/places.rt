@@ -11,12 +11,12 @@ use std::marker::Model;
 use stk_base::{NoMemory, Place};
 
 /// How many bytes there are at least between two stands that the index keeps.
-const STRIDE: usize = 512;
+const STRIDE: usize = 64;
 
 /// The places of one text. Contracts see the text.
 ///
-/// It keeps a stand for each 512 bytes, and one behind a `#` that has 512 blanks before it, so it is small beside the
-/// text. An answer for the beginning of a token reads at most 512 bytes, from the last stand before it.
+/// It keeps a stand for each 64 bytes, and one behind a `#` that has 64 blanks before it, so it is small beside the
+/// text. An answer for the beginning of a token reads at most 64 bytes, from the last stand before it.
 #[derive(Debug, Drop)]
 pub struct Places<'a> {
     bytes: &'a [u8],
