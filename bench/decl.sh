@@ -5,14 +5,8 @@
 # For each text it prints the seconds and the memory at most of the whole run, reading and lexing included, and what the
 # program prints: the tokens, those that are kept, the notes and the units.
 set -eu
-top=$(cd "$(dirname "$0")/.." && pwd)
-work=$(mktemp -d)
-trap 'rm -rf "$work"' EXIT
-mkdir -p "$work/crates/declbench/src"
-cp -r "$top/crates/stk_base" "$top/crates/stk_lex" "$top/crates/stk_decl" "$work/crates/"
-printf 'stk_base:\nstk_lex: stk_base\nstk_decl: stk_base stk_lex\ndeclbench: stk_base stk_lex stk_decl\n' > "$work/crates.txt"
-echo 'Handles allowed: none.' > "$work/HANDLES"
-cat > "$work/crates/declbench/src/main.rt" <<'END'
+. "$(dirname "$0")/program.sh"
+build_program declbench stk_base stk_lex stk_decl <<'END'
 //! Counts the units of the input.
 #![tactic(auto)]
 
@@ -43,13 +37,6 @@ fn main(rt: HostRuntime) -> io::Result<()> {
     println!(rt; "{all} tokens, {kept} kept, {notes} notes, {units} units")
 }
 END
-cd "$work/crates/declbench"
-rt run < /dev/null > "$work/build.log" 2>&1 || { tail -20 "$work/build.log"; exit 1; }
-program=$(find out -maxdepth 1 -type f -name declbench)
-size=16777216
-many() { # the text $1, repeated up to $2 bytes
-    python3 -c "import sys; t = sys.argv[1].encode(); n = int(sys.argv[2]); sys.stdout.buffer.write((t * (n // len(t) + 1))[:n])" "$1" "$2"
-}
 run() { # the name $1 of the text in the file `text`
     local took
     took=$(/usr/bin/python3 -c "

@@ -4,34 +4,19 @@
 #   bash bench/expr.sh
 # For each text it prints the seconds of the whole run, lexing included, and whether an expression was read.
 set -eu
-top=$(cd "$(dirname "$0")/.." && pwd)
-work=$(mktemp -d)
-trap 'rm -rf "$work"' EXIT
-mkdir -p "$work/crates/exprbench/src"
-for crate in stk_base stk_lex stk_ctype stk_tree stk_grammar stk_expr; do
-    cp -r "$top/crates/$crate" "$work/crates/"
-done
-grep -E '^(stk_base|stk_lex|stk_ctype|stk_tree|stk_grammar|stk_expr):' "$top/crates.txt" > "$work/crates.txt"
-echo 'exprbench: stk_base stk_lex stk_ctype stk_tree stk_expr' >> "$work/crates.txt"
-echo 'Handles allowed: none.' > "$work/HANDLES"
-cat > "$work/crates/exprbench/src/main.rt" <<'END'
+. "$(dirname "$0")/program.sh"
+build_program exprbench stk_base stk_lex stk_ctype stk_tree stk_lexeme stk_grammar stk_expr <<'END'
 //! Reads the input as an expression.
 #![tactic(auto)]
 
 use std::alloc::Global;
 use std::io::{self, Read, Write};
-use stk_base::{Class, NoMemory};
+use stk_base::NoMemory;
 use stk_ctype::Names;
 use stk_expr::{Parse, expr};
-use stk_lex::{Token, lex};
-use stk_tree::{Lexeme, fixed_of};
-
-fn lexeme_of(bytes: &[u8], token: Token) -> Lexeme {
-    match (token.class, fixed_of(token.span.text(bytes))) {
-        (Class::Word | Class::Mark, Some(fixed)) => Lexeme::Fixed(fixed),
-        (class, _) => Lexeme::Leaf(class, token.span),
-    }
-}
+use stk_lex::lex;
+use stk_lexeme::lexeme_of;
+use stk_tree::Lexeme;
 
 fn lexemes(alloc: Global, bytes: &[u8]) -> Result<Vec<Lexeme>, NoMemory> {
     let mut list = Vec::new(alloc);
@@ -64,9 +49,6 @@ fn main(rt: HostRuntime) -> io::Result<()> {
     println!(rt; "{said}")
 }
 END
-cd "$work/crates/exprbench"
-rt run < /dev/null > "$work/build.log" 2>&1 || { tail -20 "$work/build.log"; exit 1; }
-program=$(find out -maxdepth 1 -type f -name exprbench)
 run() { # the name $1 of a text that the Python expression $2 gives
     local TIMEFORMAT=%R took
     python3 -c "import sys; sys.stdout.write($2)" > text

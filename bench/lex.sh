@@ -4,14 +4,8 @@
 # For each text it prints the seconds of the whole run, reading included, and what the program prints: the tokens, and
 # with the word `places` the sum of the lines of all tokens, each found by the index.
 set -eu
-top=$(cd "$(dirname "$0")/.." && pwd)
-work=$(mktemp -d)
-trap 'rm -rf "$work"' EXIT
-mkdir -p "$work/crates/lexbench/src"
-cp -r "$top/crates/stk_base" "$top/crates/stk_lex" "$work/crates/"
-printf 'stk_base:\nstk_lex: stk_base\nlexbench: stk_base stk_lex\n' > "$work/crates.txt"
-echo 'Handles allowed: none.' > "$work/HANDLES"
-cat > "$work/crates/lexbench/src/main.rt" <<'END'
+. "$(dirname "$0")/program.sh"
+build_program lexbench stk_base stk_lex <<'END'
 //! Counts the tokens of the input.
 #![tactic(auto)]
 
@@ -45,13 +39,6 @@ fn main(rt: HostRuntime) -> io::Result<()> {
     Ok(())
 }
 END
-cd "$work/crates/lexbench"
-rt run < /dev/null > "$work/build.log" 2>&1 || { tail -20 "$work/build.log"; exit 1; }
-program=$(find out -maxdepth 1 -type f -name lexbench)
-size=16777216
-many() { # the text $1, repeated up to the limit
-    python3 -c "import sys; t = sys.argv[1].encode('latin-1').decode('unicode_escape').encode('latin-1'); n = int(sys.argv[2]); sys.stdout.buffer.write((t * (n // len(t) + 1))[:n])" "$1" "$2"
-}
 run() { # the name $1 of the text in the file `text`, and the program's words
     local name=$1 TIMEFORMAT=%R took
     shift

@@ -1,0 +1,25 @@
+# What the benches share; they source it. `build_program NAME CRATE..` takes the program's main.rt from standard input, builds it over
+# these crates of the repository, which it takes in a folder of its own, and leaves the shell there, with the path in `program`.
+# `many TEXT SIZE` writes a text, given with Python's escapes, again and again, up to so many bytes.
+top=$(cd "$(dirname "${BASH_SOURCE[0]}")/.." && pwd)
+work=$(mktemp -d)
+trap 'rm -rf "$work"' EXIT
+size=16777216
+build_program() {
+    local name=$1 crate
+    shift
+    mkdir -p "$work/crates/$name/src"
+    for crate in "$@"; do
+        cp -r "$top/crates/$crate" "$work/crates/"
+        grep "^$crate:" "$top/crates.txt" >> "$work/crates.txt"
+    done
+    echo "$name: $*" >> "$work/crates.txt"
+    echo 'Handles allowed: none.' > "$work/HANDLES"
+    cat > "$work/crates/$name/src/main.rt"
+    cd "$work/crates/$name"
+    rt run < /dev/null > "$work/build.log" 2>&1 || { tail -20 "$work/build.log"; exit 1; }
+    program=$(find out -maxdepth 1 -type f -name "$name")
+}
+many() {
+    python3 -c "import sys; t = sys.argv[1].encode('latin-1').decode('unicode_escape').encode('latin-1'); n = int(sys.argv[2]); sys.stdout.buffer.write((t * (n // len(t) + 1))[:n])" "$1" "$2"
+}
