@@ -4,3 +4,4 @@ pub mod Widths
 pub mod LaidTokens
 pub mod LaidHeights
 pub mod LaidPlaces
+pub mod Few
