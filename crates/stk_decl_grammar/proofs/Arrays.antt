@@ -1,6 +1,5 @@
 -- Declarators with array parts or nothing behind the name, and no initialiser: those of members and of parameters.
-use Rattle.std.proofs.Common.{◌≡◌, ℕ, zero, suc, ◌+◌, ◌<◌, ◌≤◌, Bool, true, false, cond, not, ◌&&◌, List, [], ◌∷◌, length, Option, Some, None, refl, ap, subst, ◌∙◌, arith}
-use Rattle.std.specs.Prelude.{nat_le}
+use Rattle.std.proofs.Common.{◌≡◌, ℕ, zero, suc, ◌<◌, ◌≤◌, Bool, true, false, cond, not, ◌&&◌, List, [], ◌∷◌, length, Option, Some, None, refl, ap, subst, ◌∙◌, arith}
 use Rattle.std.proofs.lemmas.Bool.{le-leb, leb-true}
 use Rattle.stk_base.specs.declared.span.Span.{Span}
 use Rattle.stk_base.specs.declared.token.Class.TheVariants.{Word}
@@ -22,7 +21,7 @@ use Rattle.stk_grammar.proofs.Operators.{bind_some, both_true, if_some, some_is,
 use Rattle.stk_grammar.proofs.Prints.{prints, prints_dimensions, prints_longer, prints_stars}
 use Rattle.stk_grammar.proofs.Sound.{Answers, IsSound, dimensions_sound, expression_sound, stars_is, word_is}
 use Rattle.stk_grammar.proofs.Well.{dimensions_pass, not_true, true_not}
-use Rattle.stk_decl_grammar.specs.Reading.{array_declarator_at, array_name_behind, arrays_behind, declared_name_at, low_declarator, name_at, optional_name_at, optional_name_on, optional_word_at, unless_named}
+use Rattle.stk_decl_grammar.specs.Reading.{array_declarator_at, array_name_behind, arrays_behind, declared_name_at, low_declarator, name_at, optional_name_at, optional_name_on, optional_word_at}
 use Rattle.stk_decl_grammar.proofs.Heights.{declarator-bare}
 use Rattle.stk_decl_grammar.proofs.Marks.{end_no_bracket, end_no_name, end_no_star, end_no_words, ends_declarator, expression_opens, expression_read}
 use Rattle.stk_decl_grammar.proofs.Prints.{prints_declarator, prints_name}

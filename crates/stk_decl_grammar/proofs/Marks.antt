@@ -1,11 +1,10 @@
 -- Marks and words at the front of some tokens, and expressions there.
-use Rattle.std.proofs.Common.{◌≡◌, ℕ, ◌≤◌, Bool, true, false, cond, List, [], ◌∷◌, Option, Some, None, refl, sym, ap, ◌∙◌, arith}
+use Rattle.std.proofs.Common.{◌≡◌, ℕ, ◌≤◌, Bool, true, false, List, [], ◌∷◌, Some, None, refl, sym, ap, ◌∙◌}
 use Rattle.stk_base.specs.declared.span.Span.{Span}
-use Rattle.stk_base.specs.declared.token.Class.TheVariants.{Word}
 use Rattle.stk_tree.specs.declared.fixed.Fixed.{Fixed}
 use Rattle.stk_tree.specs.declared.fixed.Fixed.TheVariants as fixed
 use Rattle.stk_tree.specs.declared.fixed.Lexeme.{Lexeme}
-use Rattle.stk_tree.specs.declared.fixed.Lexeme.TheVariants.{Leaf, Fixed as Token}
+use Rattle.stk_tree.specs.declared.fixed.Lexeme.TheVariants.{Fixed as Token}
 use Rattle.stk_tree.specs.Syntax.{ExprTree}
 use Rattle.stk_tree.specs.Height.{expression_height}
 use Rattle.stk_tree.specs.Placed.{expression_placed, is_basic}

@@ -1,5 +1,5 @@
 -- What a reader found: a tree that prints what stood there, and that is well placed, fits the names and isn't too high.
-use Rattle.std.proofs.Common.{◌≡◌, ℕ, ◌≤◌, Bool, true, false, List, Option, Some, None}
+use Rattle.std.proofs.Common.{◌≡◌, ℕ, ◌≤◌, Bool, true, List, Option, Some}
 use Rattle.stk_tree.specs.declared.fixed.Lexeme.{Lexeme}
 
 pub record Stands {A : Type 0} (prints : A → List Lexeme → List Lexeme) (is_placed is_fit : A → Bool) (height : A → ℕ) (room : ℕ) (ts : List Lexeme) (x : A × List Lexeme) : Type 0 where
