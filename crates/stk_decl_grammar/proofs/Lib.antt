@@ -1,5 +1,6 @@
 pub mod Arrays
 pub mod Heights
+pub mod Initialisers
 pub mod Marks
 pub mod Parameters
 pub mod Prints
