@@ -1,6 +1,8 @@
 pub mod Arrays
+pub mod Declarators
 pub mod Heights
 pub mod Initialisers
+pub mod Lists
 pub mod Marks
 pub mod Parameters
 pub mod Prints
