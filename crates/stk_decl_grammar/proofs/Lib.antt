@@ -1,5 +1,6 @@
 pub mod Arrays
 pub mod Declarators
+pub mod Enumerators
 pub mod Heights
 pub mod Initialisers
 pub mod Lists
