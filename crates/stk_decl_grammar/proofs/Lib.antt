@@ -1,4 +1,5 @@
 pub mod Arrays
+pub mod Bases
 pub mod Declarators
 pub mod Enumerators
 pub mod Heights
