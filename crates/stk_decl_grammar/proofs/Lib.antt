@@ -1,5 +1,6 @@
 pub mod Arrays
 pub mod Bases
+pub mod Declarations
 pub mod Declarators
 pub mod Enumerators
 pub mod Heights
