@@ -5,6 +5,7 @@ pub mod Declarators
 pub mod Enumerators
 pub mod Heights
 pub mod Initialisers
+pub mod Laws
 pub mod Lists
 pub mod Marks
 pub mod Parameters
