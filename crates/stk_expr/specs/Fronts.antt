@@ -15,11 +15,6 @@ text_at (Token f ∷ ts) = None
 text_at (Leaf Text at ∷ ts) = Some (at, ts)
 text_at (Leaf class at ∷ ts) = None
 
-abbrev pub basic_at : List Lexeme → Found Fixed
-basic_at [] = None
-basic_at (Token f ∷ ts) = cond (is_basic f) (Some (f, ts)) None
-basic_at (Leaf class at ∷ ts) = None
-
 -- the elements that were read before a row
 abbrev pub in_front : {X T : Type 0} → (X → T → T) → List X → Found T → Found T
 in_front add xs None = None

@@ -1,11 +1,10 @@
 //! What stands at the front of some tokens.
 
-ghost use Rattle.std.specs.Prelude.{◌≡◌, ◌∷◌, ◌+◌, ◌≤◌, IfOk, IfSome, length, option_map};
-ghost use Rattle.stk_tree.specs.Placed.{is_basic};
+ghost use Rattle.std.specs.Prelude.{◌≡◌, ◌∷◌, IfOk, option_map};
 ghost use Rattle.stk_tree.specs.View.{view_base_form};
 ghost use Rattle.stk_grammar.specs.Expressions.{stop_mark, stops};
-ghost use Rattle.stk_grammar.specs.Reading.{base_at, begins_type, behind_colon, behind_comma, behind_left_bracket, behind_left_paren, behind_right_bracket, behind_right_paren, first_head, is_tag_word, opens_type, stars_at, tag_base, taken, texts_at, word_at, words_at};
-ghost use Rattle.stk_expr.specs.Fronts.{basic_at, text_at};
+ghost use Rattle.stk_grammar.specs.Reading.{base_at, begins_type, behind_left_paren, first_head, opens_type, tag_base, taken, texts_at, words_at};
+ghost use Rattle.stk_expr.specs.Fronts.{text_at};
 ghost use Rattle.stk_expr.specs.Gives.{Gives, named};
 
 use crate::build;
@@ -13,114 +12,17 @@ use crate::parse::Parse;
 use std::alloc::{AllocError, AllocFailed, Global};
 use stk_base::{Class, List, Span};
 use stk_ctype::Names;
-use stk_grammar::{Head, Suffix, head_of, suffix_left, suffix_level, suffix_of};
+use stk_grammar::{
+    Head, Suffix, basic_at, behind_left_paren, head_of, is_basic, is_tag_word, suffix_left, suffix_level,
+    suffix_of, word_at,
+};
 use stk_tree::{BaseForm, Fixed, Lexeme};
-
-pub fn behind_right_paren(lexemes: &[Lexeme]) -> Option<&[Lexeme]>
-    ensures { option_map (λ x. x.now) result ≡ behind_right_paren lexemes.now }
-{
-    match lexemes.split_first()? {
-        (Lexeme::Fixed(Fixed::RightParen), rest) => Some(rest),
-        _ => None,
-    }
-}
-
-pub fn behind_left_paren(lexemes: &[Lexeme]) -> Option<&[Lexeme]>
-    ensures { option_map (λ x. x.now) result ≡ behind_left_paren lexemes.now }
-{
-    match lexemes.split_first()? {
-        (Lexeme::Fixed(Fixed::LeftParen), rest) => Some(rest),
-        _ => None,
-    }
-}
-
-pub fn behind_right_bracket(lexemes: &[Lexeme]) -> Option<&[Lexeme]>
-    ensures { option_map (λ x. x.now) result ≡ behind_right_bracket lexemes.now }
-{
-    match lexemes.split_first()? {
-        (Lexeme::Fixed(Fixed::RightBracket), rest) => Some(rest),
-        _ => None,
-    }
-}
-
-pub fn behind_left_bracket(lexemes: &[Lexeme]) -> Option<&[Lexeme]>
-    ensures { option_map (λ x. x.now) result ≡ behind_left_bracket lexemes.now }
-{
-    match lexemes.split_first()? {
-        (Lexeme::Fixed(Fixed::LeftBracket), rest) => Some(rest),
-        _ => None,
-    }
-}
-
-pub fn behind_colon(lexemes: &[Lexeme]) -> Option<&[Lexeme]>
-    ensures { option_map (λ x. x.now) result ≡ behind_colon lexemes.now }
-{
-    match lexemes.split_first()? {
-        (Lexeme::Fixed(Fixed::Colon), rest) => Some(rest),
-        _ => None,
-    }
-}
-
-pub fn behind_comma(lexemes: &[Lexeme]) -> Option<&[Lexeme]>
-    ensures { option_map (λ x. x.now) result ≡ behind_comma lexemes.now }
-{
-    match lexemes.split_first()? {
-        (Lexeme::Fixed(Fixed::Comma), rest) => Some(rest),
-        _ => None,
-    }
-}
-
-pub fn word_at(lexemes: &[Lexeme]) -> Option<(Span, &[Lexeme])>
-    ensures { option_map (λ x. (x.0, x.1.now)) result ≡ word_at lexemes.now }
-{
-    match lexemes.split_first()? {
-        (Lexeme::Leaf(Class::Word, at), rest) => Some((*at, rest)),
-        _ => None,
-    }
-}
 
 fn text_at(lexemes: &[Lexeme]) -> Option<(Span, &[Lexeme])>
     ensures { option_map (λ x. (x.0, x.1.now)) result ≡ text_at lexemes.now }
 {
     match lexemes.split_first()? {
         (Lexeme::Leaf(Class::Text, at), rest) => Some((*at, rest)),
-        _ => None,
-    }
-}
-
-fn is_basic(word: Fixed) -> bool
-    ensures { result ≡ is_basic word }
-{
-    matches!(
-        word,
-        Fixed::Void
-            | Fixed::Char
-            | Fixed::Short
-            | Fixed::Int
-            | Fixed::Long
-            | Fixed::Signed
-            | Fixed::Unsigned
-            | Fixed::Bool
-    )
-}
-
-fn is_tag_word(word: Fixed) -> bool
-    ensures { result ≡ is_tag_word word }
-{
-    matches!(word, Fixed::Struct | Fixed::Enum)
-}
-
-fn basic_at(lexemes: &[Lexeme]) -> Option<(Fixed, &[Lexeme])>
-    ensures { option_map (λ x. (x.0, x.1.now)) result ≡ basic_at lexemes.now }
-{
-    match lexemes.split_first()? {
-        (Lexeme::Fixed(word), rest) => {
-            if is_basic(*word) {
-                Some((*word, rest))
-            } else {
-                None
-            }
-        }
         _ => None,
     }
 }
@@ -220,8 +122,8 @@ pub fn texts(
     Ok((List::from_vec(parts), rest))
 }
 
-/// Basic words in a row, the first of which is past.
-fn words(
+/// Basic words in a row (C11 6.7.2), the first of which is past, and the tokens behind them. `AllocFailed` where memory runs out.
+pub fn words(
     alloc: Global,
     first: Fixed,
     lexemes: &[Lexeme],
@@ -236,21 +138,6 @@ fn words(
         rest = behind;
     }
     Ok((List::from_vec(list), rest))
-}
-
-/// How many `*` stand here, and the tokens behind them.
-#[tactic(auto, unfolding(stk_grammar::specs::Reading::stars_at))]
-pub fn stars_at(lexemes: &[Lexeme]) -> (usize, &[Lexeme])
-    ensures value { stars_at 0 lexemes.now ≡ (result.0, result.1.now) }
-    ensures few { result.0 + length result.1.now ≤ length lexemes.now }
-{
-    let mut stars = 0;
-    let mut rest = lexemes;
-    while let Some((Lexeme::Fixed(Fixed::Star), behind)) = rest.split_first() {
-        stars += 1;
-        rest = behind;
-    }
-    (stars, rest)
 }
 
 /// The base of a type name.

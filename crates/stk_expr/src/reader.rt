@@ -10,16 +10,15 @@ ghost use Rattle.stk_expr.specs.Gives.{AreRead, Gives, IsRead, IsTypeRead, named
 ghost use Rattle.stk_expr.specs.Prefixes.{prefix_form, prefix_operand};
 
 use crate::build::{self, Prefix};
-use crate::front::{
-    base, begins_type, behind_colon, behind_comma, behind_left_bracket, behind_left_paren,
-    behind_right_bracket, behind_right_paren, first_head, is_named, opens_type, stars_at, taken,
-    texts, word_at,
-};
+use crate::front::{base, begins_type, first_head, is_named, opens_type, taken, texts};
 use crate::parse::Parse;
 use std::alloc::Global;
 use stk_base::{Boxed, List};
 use stk_ctype::Names;
-use stk_grammar::{Head, Suffix, binary_level};
+use stk_grammar::{
+    Head, Suffix, behind_colon, behind_comma, behind_left_bracket, behind_left_paren,
+    behind_right_bracket, behind_right_paren, binary_level, stars_at, word_at,
+};
 use stk_tree::{Dimension, Expr, Lexeme, StepOp, TypeName};
 
 /// An expression that was read, its height and its level, and the tokens behind it.

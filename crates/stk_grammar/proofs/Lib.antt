@@ -4,3 +4,4 @@ pub mod Operators
 pub mod Prints
 pub mod Sound
 pub mod Well
+pub mod Stopped

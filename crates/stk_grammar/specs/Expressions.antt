@@ -1,5 +1,5 @@
 -- Where an expression stands among tokens, and the laws of it (C11 6.5).
-use Rattle.std.specs.Prelude.{◌≡◌, ℕ, ◌≤◌, Bool, true, false, IsTrue, List, [], ◌∷◌, length, drop, slice_range, nat_le}
+use Rattle.std.specs.Prelude.{◌≡◌, ℕ, ◌≤◌, Bool, true, false, IsTrue, List, [], ◌∷◌, ◌++◌, length, drop, slice_range, nat_le}
 use Rattle.stk_base.specs.declared.span.Span.{Span}
 use Rattle.stk_tree.specs.declared.fixed.Fixed.{Fixed}
 use Rattle.stk_tree.specs.declared.fixed.Fixed.TheVariants as fixed
@@ -36,6 +36,14 @@ pub record IsExpression (named : Span → Bool) (least : ℕ) (ts : List Lexeme)
   pub fits : IsTrue (expression_fits named t)
   pub height : expression_height t ≤ 400
   pub stop : IsTrue (stops least (drop to ts))
+
+-- Some tokens begin with this expression, of a level or a higher one and no higher than there is room; the rest stands behind it, and begins with a stop.
+pub record Leads (named : Span → Bool) (room least : ℕ) (ts : List Lexeme) (t : ExprTree) (rest : List Lexeme) : Type 0 where
+  pub tokens : ts ≡ expression_tokens t ++ rest
+  pub placed : IsTrue (expression_placed least t)
+  pub fits : IsTrue (expression_fits named t)
+  pub height : expression_height t ≤ room
+  pub stop : IsTrue (stops least rest)
 
 -- an expression as one that prints all of some tokens: two of them are equal apart from the records of their nodes
 abbrev pub OneText : Type 0

@@ -163,6 +163,30 @@ abbrev pub behind_comma : List Lexeme → Option (List Lexeme)
 behind_comma (Token fixed.Comma ∷ ts) = Some ts
 behind_comma ts = None
 
+abbrev pub behind_semicolon : List Lexeme → Option (List Lexeme)
+behind_semicolon (Token fixed.Semicolon ∷ ts) = Some ts
+behind_semicolon ts = None
+
+abbrev pub behind_left_brace : List Lexeme → Option (List Lexeme)
+behind_left_brace (Token fixed.LeftBrace ∷ ts) = Some ts
+behind_left_brace ts = None
+
+abbrev pub behind_right_brace : List Lexeme → Option (List Lexeme)
+behind_right_brace (Token fixed.RightBrace ∷ ts) = Some ts
+behind_right_brace ts = None
+
+abbrev pub behind_assign : List Lexeme → Option (List Lexeme)
+behind_assign (Token fixed.Assign ∷ ts) = Some ts
+behind_assign ts = None
+
+abbrev pub behind_dot : List Lexeme → Option (List Lexeme)
+behind_dot (Token fixed.Dot ∷ ts) = Some ts
+behind_dot ts = None
+
+abbrev pub behind_ellipsis : List Lexeme → Option (List Lexeme)
+behind_ellipsis (Token fixed.Ellipsis ∷ ts) = Some ts
+behind_ellipsis ts = None
+
 abbrev pub word_at : List Lexeme → Found Span
 word_at (Leaf Word at ∷ ts) = Some (at, ts)
 word_at ts = None
@@ -187,6 +211,12 @@ begins_type named [] = false
 begins_type named (Leaf Word at ∷ ts) = named at
 begins_type named (Leaf class at ∷ ts) = false
 begins_type named (Token f ∷ ts) = cond (is_basic f) true (is_tag_word f)
+
+-- a basic word
+abbrev pub basic_at : List Lexeme → Found Fixed
+basic_at [] = None
+basic_at (Token f ∷ ts) = cond (is_basic f) (Some (f, ts)) None
+basic_at (Leaf class at ∷ ts) = None
 
 -- basic words in a row
 abbrev pub words_on : Bool → Fixed → List Lexeme → List Fixed × List Lexeme → List Fixed × List Lexeme

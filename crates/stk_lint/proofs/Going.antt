@@ -6,8 +6,8 @@ use Rattle.std.specs.Prelude.{Result, Ok, Err, OnErr}
 use Rattle.stk_base.specs.declared.status.Status.{Status}
 use Rattle.stk_base.specs.Streams.{Appended, AppendedFront, IsFlushed}
 use Rattle.stk_lex.specs.declared.token.Token.{Token}
-use Rattle.stk_decl.specs.declared.cutting.Piece.{Piece}
-use Rattle.stk_decl.specs.Units.{AreJoined}
+use Rattle.stk_units.specs.declared.cutting.Piece.{Piece}
+use Rattle.stk_units.specs.Units.{AreJoined}
 use Rattle.stk_lint.specs.declared.records.Counts.{Counts}
 use Rattle.stk_lint.specs.Records.{summary_text}
 use Rattle.stk_lint.specs.LawfulText.{nothing_counted, counts_sum, status_of, tokens_of_piece, AreUnitTexts, no_unit, then_unit, IsLawfulText}

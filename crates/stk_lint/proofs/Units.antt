@@ -4,8 +4,8 @@ use Rattle.std.proofs.lemmas.Bool.{false≢true}
 use Rattle.std.proofs.lemmas.List.{length-drop, length-take}
 use Rattle.stk_base.specs.declared.span.Span.{Span}
 use Rattle.stk_lex.specs.declared.token.Token.{Token}
-use Rattle.stk_decl.specs.declared.cutting.Piece.{Piece}
-use Rattle.stk_decl.specs.Units.{AreJoined}
+use Rattle.stk_units.specs.declared.cutting.Piece.{Piece}
+use Rattle.stk_units.specs.Units.{AreJoined}
 use Rattle.stk_tree.specs.declared.node.Node.{Node}
 use Rattle.stk_tree.specs.declared.fixed.Lexeme.{Lexeme}
 use Rattle.stk_tree.specs.declared.fixed.Lexeme.TheVariants as lexemes

@@ -2,7 +2,7 @@
 use Rattle.std.specs.Prelude.{◌≡◌, ℕ, ◌≤◌, List, ◌++◌, Option}
 use Rattle.stk_lex.specs.declared.token.Token.{Token}
 use Rattle.stk_lexeme.specs.Lexemes.{lexemes_of}
-use Rattle.stk_decl.specs.declared.cutting.Piece.{Piece}
+use Rattle.stk_units.specs.declared.cutting.Piece.{Piece}
 use Rattle.stk_base.specs.Streams.{Appended, AppendedFront}
 use Rattle.stk_tree.specs.Syntax.{FunctionTree, UnitTree}
 use Rattle.stk_tree.specs.Tokens.{unit_tokens}

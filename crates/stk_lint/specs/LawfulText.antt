@@ -6,9 +6,9 @@ use Rattle.stk_base.specs.declared.status.Status.{Status}
 use Rattle.stk_base.specs.declared.status.Status.TheVariants.{Stable, Found}
 use Rattle.stk_lex.specs.declared.token.Token.{Token}
 use Rattle.stk_lex.specs.Cut.{IsCut}
-use Rattle.stk_decl.specs.declared.cutting.Piece.{Piece}
-use Rattle.stk_decl.specs.Skimming.{kept_tokens, notes_of}
-use Rattle.stk_decl.specs.Units.{units_of}
+use Rattle.stk_units.specs.declared.cutting.Piece.{Piece}
+use Rattle.stk_units.specs.Skimming.{kept_tokens, notes_of}
+use Rattle.stk_units.specs.Units.{units_of}
 use Rattle.stk_tree.specs.declared.node.Node.{Node}
 use Rattle.stk_tree.specs.Syntax.{UnitTree, FunctionTree, defines, empty_unit}
 use Rattle.stk_tree.specs.Tokens.{unit_tokens}

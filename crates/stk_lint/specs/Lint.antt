@@ -5,10 +5,10 @@ use Rattle.stk_base.specs.declared.status.Status.TheVariants.{Stable, Found, Uns
 use Rattle.stk_base.specs.Streams.{Appended, AppendedFront, IsFlushed}
 use Rattle.stk_lex.specs.declared.token.Token.{Token}
 use Rattle.stk_lex.specs.Cut.{IsCut, AreSpans}
-use Rattle.stk_decl.specs.declared.skimming.Skimmed.{Skimmed}
-use Rattle.stk_decl.specs.declared.cutting.Piece.{Piece}
-use Rattle.stk_decl.specs.Skimming.{kept_tokens, notes_of, ArePositions}
-use Rattle.stk_decl.specs.Units.{units_of}
+use Rattle.stk_units.specs.declared.skimming.Skimmed.{Skimmed}
+use Rattle.stk_units.specs.declared.cutting.Piece.{Piece}
+use Rattle.stk_units.specs.Skimming.{kept_tokens, notes_of, ArePositions}
+use Rattle.stk_units.specs.Units.{units_of}
 use Rattle.stk_lint.specs.declared.lint.Stop.{Stop}
 use Rattle.stk_lint.specs.declared.lint.Stop.TheVariants as stops
 use Rattle.stk_lint.specs.LawfulText.{IsLawfulText}

@@ -3,7 +3,7 @@
 ghost use Rattle.std.specs.Prelude.{◌≡◌, ◌↔◌, ◌⊎◌, ◌≤◌, ◌<◌, ℕ, List, length, Some, Err, IfOk, OnOk, OnErr};
 ghost use Rattle.stk_base.specs.Causes.{Rose, HasCause};
 ghost use Rattle.stk_base.specs.Streams.{Came, Appended, AppendedFront, IsFlushed};
-ghost use Rattle.stk_decl.specs.Units.{AreJoined};
+ghost use Rattle.stk_units.specs.Units.{AreJoined};
 ghost use Rattle.stk_lint.specs.Records.{summary_text};
 ghost use Rattle.stk_lint.specs.LawfulText.{status_of, tokens_of_piece};
 ghost use Rattle.stk_lint.specs.Judged.{WroteUnit, WroteUnitFront, WroteUnits, WroteUnitsFront};
@@ -13,7 +13,7 @@ use crate::records::{Counts, add_summary};
 use crate::report::unit_text;
 use std::alloc::Global;
 use stk_base::{Failed, List, NoMemory, ReadAll, Sink, Source, Status, read_all, write_all};
-use stk_decl::{Piece, Skimmed, cut, skim};
+use stk_units::{Piece, Skimmed, cut, skim};
 use stk_lex::{Places, Token, lex};
 
 /// The most bytes that an input may have.

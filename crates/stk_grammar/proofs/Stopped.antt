@@ -1,0 +1,67 @@
+-- An expression that a stop follows: read both ways, and what an answer of a reader says of the functional reader.
+use Rattle.std.proofs.Common.{◌≡◌, ℕ, ◌≤◌, Bool, true, false, cond, List, ◌++◌, Some, None, refl, sym, ap, ◌∙◌, arith}
+use Rattle.stk_base.specs.declared.span.Span.{Span}
+use Rattle.stk_tree.specs.declared.fixed.Lexeme.{Lexeme}
+use Rattle.stk_tree.specs.Syntax.{ExprTree}
+use Rattle.stk_tree.specs.Height.{expression_height}
+use Rattle.stk_tree.specs.Placed.{expression_placed}
+use Rattle.stk_tree.specs.Tokens.{expression_tokens}
+use Rattle.stk_grammar.specs.Bare.{bare_expression}
+use Rattle.stk_grammar.specs.Fits.{expression_fits}
+use Rattle.stk_grammar.specs.Expressions.{Leads, stops}
+use Rattle.stk_grammar.specs.Reading.{◌>>=◌, Found, expression_at}
+use Rattle.stk_grammar.specs.Stopped.{if_stopped, stopped_at}
+use Rattle.stk_grammar.proofs.Complete.{expression_reads}
+use Rattle.stk_grammar.proofs.Laws.{Ends-stops, found_bare}
+use Rattle.stk_grammar.proofs.Operators.{some_is}
+use Rattle.stk_grammar.proofs.Prints.{tokens-append}
+use Rattle.stk_grammar.proofs.Sound.{expression_sound}
+use Rattle.stk_grammar.proofs.Well.{height-bare, passes_of, well_of}
+
+-- what stands at the front, with a stop behind it, is read as that tree
+pub leads_read : (named : Span → Bool) (room least : ℕ) (ts : List Lexeme) (t : ExprTree) (rest : List Lexeme) → Leads named room least ts t rest
+    → stopped_at named room least ts ≡ Some (bare_expression t, rest)
+unfolding stopped_at
+leads_read named room least ts t rest h =
+    let w = well_of named least t h.placed h.fits in
+    let low : expression_height (bare_expression t) ≤ room = omega (arith, height-bare named t w.1, h.height) in
+    ap (λ x. expression_at named room least x >>= if_stopped least) (h.tokens ∙ tokens-append t rest)
+    ∙ ap (λ (o : Found ExprTree). o >>= if_stopped least) (expression_reads named room least t rest w.1 w.0 low (Ends-stops least rest h.stop))
+    ∙ ap (λ (b : Bool). cond b (Some (bare_expression t, rest)) None) h.stop
+
+-- the same, of what a tree prints
+pub stopped_reads : (named : Span → Bool) (room least : ℕ) (t : ExprTree) (rest : List Lexeme) → expression_placed least t ≡ true → expression_fits named t ≡ true → expression_height t ≤ room → stops least rest ≡ true
+    → stopped_at named room least (expression_tokens t ++ rest) ≡ Some (bare_expression t, rest)
+stopped_reads named room least t rest p f low stop =
+    leads_read named room least _ t rest (record { tokens = refl; placed = p; fits = f; height = low; stop = stop })
+
+abbrev SameFound : ExprTree → List Lexeme → ExprTree → List Lexeme → Type 0
+SameFound u more t rest = let a : Found ExprTree = Some (u, more) in let b : Found ExprTree = Some (t, rest) in a ≡ b
+
+inside_by : (least : ℕ) (u : ExprTree) (more : List Lexeme) (t : ExprTree) (rest : List Lexeme) (b : Bool) → stops least more ≡ b → cond {A = Found ExprTree} b (Some (u, more)) None ≡ Some (t, rest) → SameFound u more t rest × (stops least rest ≡ true)
+inside_by least u more t rest false is e = absurd cc
+inside_by least u more t rest true is e = (e, ap (λ (p : ExprTree × List Lexeme). stops least p.1) (sym (some_is (u, more) (t, rest) e)) ∙ is)
+
+stopped_inside : (named : Span → Bool) (room least : ℕ) (ts : List Lexeme) (o : Found ExprTree) (t : ExprTree) (rest : List Lexeme) → o >>= if_stopped least ≡ Some (t, rest) → (o ≡ Some (t, rest)) × (stops least rest ≡ true)
+stopped_inside named room least ts None t rest e = absurd cc
+stopped_inside named room least ts (Some (u, more)) t rest e = inside_by least u more t rest (stops least more) refl e
+
+-- what is read stands at the front, with a stop behind it, and no record of its nodes is set
+pub stopped_sound : (named : Span → Bool) (room least : ℕ) (ts : List Lexeme) (t : ExprTree) (rest : List Lexeme) → least ≤ 17 → stopped_at named room least ts ≡ Some (t, rest)
+    → Leads named room least ts t rest × (bare_expression t ≡ t)
+unfolding stopped_at
+stopped_sound named room least ts t rest wide e =
+    let k = stopped_inside named room least ts (expression_at named room least ts) t rest e in
+    let p = expression_sound named room least wide ts (t, rest) k.0 in
+    let passes = passes_of named least t p.at p.well in (
+      record { tokens = p.text ∙ sym (tokens-append t rest); placed = passes.0; fits = passes.1; height = p.low; stop = k.1 },
+      found_bare named room least ts t rest wide k.0 (Ends-stops least rest k.1),
+    )
+
+none_by : (named : Span → Bool) (room least : ℕ) (ts : List Lexeme) → least ≤ 17 → ((t : ExprTree) (rest : List Lexeme) → Leads named room least ts t rest → ⊥) → (o : Found ExprTree) → stopped_at named room least ts ≡ o → stopped_at named room least ts ≡ None
+none_by named room least ts wide h None e = e
+none_by named room least ts wide h (Some (t, rest)) e = absurd (h t rest (stopped_sound named room least ts t rest wide e).0)
+
+-- where nothing stands so, nothing is read
+pub none_leads : (named : Span → Bool) (room least : ℕ) (ts : List Lexeme) → least ≤ 17 → ((t : ExprTree) (rest : List Lexeme) → Leads named room least ts t rest → ⊥) → stopped_at named room least ts ≡ None
+none_leads named room least ts wide h = none_by named room least ts wide h (stopped_at named room least ts) refl
