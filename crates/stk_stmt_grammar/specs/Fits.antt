@@ -4,7 +4,7 @@ use Rattle.stk_base.specs.declared.span.Span.{Span}
 use Rattle.stk_tree.specs.Syntax.{StartTree, LabelTree, LabelTrees, StmtTree, StmtTrees, MaybeStmtTree, StmtFormTree, PartTree, PartTrees, SectionTree, SectionTrees, FunctionTree, UnitTree}
 use Rattle.stk_tree.specs.Syntax as s
 use Rattle.stk_grammar.specs.Fits.{base_fits, declarator_fits, expression_fits, maybe_expression_fits}
-use Rattle.stk_decl_grammar.specs.Fits.{declaration_fits}
+use Rattle.stk_decl_grammar.specs.Declarations.{declaration_fits}
 
 abbrev pub start_fits : (Span → Bool) → StartTree → Bool
 start_fits named (s.start_declaration d) = declaration_fits named d

@@ -1,15 +1,16 @@
 -- Reading statements and units from left to right: what the readers compute, over lexemes. Only contracts of tables and of private functions speak of it.
-use Rattle.std.specs.Prelude.{ℕ, zero, suc, Bool, true, false, ◌||◌, List, [], ◌∷◌, length, Option, Some, None}
+use Rattle.std.specs.Prelude.{ℕ, zero, suc, Bool, true, false, cond, ◌||◌, List, [], ◌∷◌, length, Option, Some, None}
 use Rattle.stk_base.specs.declared.span.Span.{Span}
 use Rattle.stk_tree.specs.declared.fixed.Fixed.{Fixed}
 use Rattle.stk_tree.specs.declared.fixed.Fixed.TheVariants as fixed
 use Rattle.stk_tree.specs.declared.fixed.Lexeme.{Lexeme}
 use Rattle.stk_tree.specs.declared.fixed.Lexeme.TheVariants.{Leaf, Fixed as Token}
-use Rattle.stk_tree.specs.Syntax.{DeclarationTree, ExprTree, LabelTree, LabelTrees, MaybeExprTree, PartTree, PartTrees, SectionTree, SectionTrees, StartTree, StmtFormTree, StmtTree, StmtTrees}
+use Rattle.stk_tree.specs.Syntax.{DeclarationTree, ExprTree, LabelTree, LabelTrees, MaybeExprTree, PartTree, PartTrees, SectionTree, SectionTrees, StartTree, StmtFormTree, StmtTree, StmtTrees, UnitTree}
 use Rattle.stk_tree.specs.Syntax as s
 use Rattle.stk_grammar.specs.Bare.{no_node}
-use Rattle.stk_grammar.specs.Reading.{◌>>=◌, Found, begins_type, behind_colon, behind_left_paren, behind_right_paren, stopped_at}
-use Rattle.stk_decl_grammar.specs.Reading.{declaration_at}
+use Rattle.stk_grammar.specs.Reading.{◌>>=◌, Found, begins_type, behind_colon, behind_left_brace, behind_left_paren, behind_right_brace, behind_right_paren, behind_semicolon}
+use Rattle.stk_grammar.specs.Stopped.{stopped_at}
+use Rattle.stk_decl_grammar.specs.Reading.{declaration_at, front_at}
 use Rattle.stk_stmt_grammar.specs.declared.tables.Kind.{Kind}
 use Rattle.stk_stmt_grammar.specs.declared.tables.Kind.TheVariants as kind
 
@@ -25,18 +26,6 @@ abbrev pub made_statement : StmtFormTree → StmtTree
 made_statement f = s.statement no_node f
 
 -- ---- tokens
-
-abbrev pub behind_semicolon : List Lexeme → Option (List Lexeme)
-behind_semicolon (Token fixed.Semicolon ∷ ts) = Some ts
-behind_semicolon ts = None
-
-abbrev pub behind_left_brace : List Lexeme → Option (List Lexeme)
-behind_left_brace (Token fixed.LeftBrace ∷ ts) = Some ts
-behind_left_brace ts = None
-
-abbrev pub behind_right_brace : List Lexeme → Option (List Lexeme)
-behind_right_brace (Token fixed.RightBrace ∷ ts) = Some ts
-behind_right_brace ts = None
 
 abbrev pub behind_else : List Lexeme → Option (List Lexeme)
 behind_else (Token fixed.Else ∷ ts) = Some ts
@@ -267,3 +256,45 @@ unfoldable mutual
   pub section_at : (Span → Bool) → ℕ → List Lexeme → Found SectionTree
   section_at named zero ts = None
   section_at named (suc inner) ts = section_of named inner (statement_at named inner) ts
+
+-- ---- units: all of the tokens
+
+-- a lone `;`
+abbrev pub is_semicolon : List Lexeme → Bool
+is_semicolon (Token fixed.Semicolon ∷ []) = true
+is_semicolon ts = false
+
+abbrev pub is_end : List Lexeme → Bool
+is_end [] = true
+is_end (t ∷ ts) = false
+
+-- a declaration with nothing behind it
+abbrev pub declared_on : DeclarationTree × List Lexeme → Option UnitTree
+declared_on d = cond (is_end d.1) (Some (s.declares no_node d.0)) None
+
+-- a function: what stands before its body, as a declaration with one declarator, and its body
+abbrev pub function_of : DeclarationTree → StmtTree → Option UnitTree
+function_of (s.declaration word b (s.then_declarator d s.no_declarators)) body = Some (s.defines no_node (s.function word b d body))
+function_of other body = None
+
+-- a body with nothing behind it
+abbrev pub defined_on : DeclarationTree → StmtTree × List Lexeme → Option UnitTree
+defined_on front x = cond (is_end x.1) (function_of front x.0) None
+
+-- a function where the body of one begins behind its front, and else a declaration
+abbrev pub unit_behind : (Span → Bool) → ℕ → Found DeclarationTree → List Lexeme → Option UnitTree
+unit_behind named inner None ts = declaration_at named true inner ts >>= declared_on
+unit_behind named inner (Some front) ts = statement_at named inner front.1 >>= defined_on front.0
+
+abbrev pub unit_on : (Span → Bool) → ℕ → Bool → List Lexeme → Option UnitTree
+unit_on named inner true ts = Some (s.empty_unit no_node)
+unit_on named inner false ts = unit_behind named inner (front_at named inner ts) ts
+
+-- the unit that all of these tokens are, of at most this height
+unfoldable pub unit_within : (Span → Bool) → ℕ → List Lexeme → Option UnitTree
+unit_within named zero ts = None
+unit_within named (suc inner) ts = unit_on named inner (is_semicolon ts) ts
+
+-- the unit that all of these tokens are
+abbrev pub unit_at : (Span → Bool) → List Lexeme → Option UnitTree
+unit_at named ts = unit_within named 400 ts
