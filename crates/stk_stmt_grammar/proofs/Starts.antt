@@ -7,7 +7,7 @@ use Rattle.stk_tree.specs.declared.fixed.Fixed.TheVariants as fixed
 use Rattle.stk_tree.specs.declared.fixed.Lexeme.{Lexeme}
 use Rattle.stk_tree.specs.declared.fixed.Lexeme.TheVariants.{Leaf, Fixed as Token}
 use Rattle.stk_tree.specs.Height.{expression_height}
-use Rattle.stk_tree.specs.Placed.{expression_placed, is_basic}
+use Rattle.stk_tree.specs.Placed.{expression_placed, is_basic, statement_placed}
 use Rattle.stk_tree.specs.Syntax.{ExprTree, MaybeExprTree, StmtTree}
 use Rattle.stk_tree.specs.Syntax as s
 use Rattle.stk_tree.specs.Tokens.{expression_tokens}
@@ -20,8 +20,10 @@ use Rattle.stk_grammar.specs.declared.tables.Head.{Head}
 use Rattle.stk_grammar.specs.declared.tables.Head.TheVariants as head
 use Rattle.stk_grammar.proofs.Operators.{bind_some, some_is, unless_some}
 use Rattle.stk_grammar.proofs.Stopped.{stopped_reads}
+use Rattle.stk_stmt_grammar.specs.Fits.{statement_fits}
 use Rattle.stk_stmt_grammar.specs.Reading.{begins_label, begins_local, begins_static, behind_else, ends_section, kind_at}
 use Rattle.stk_stmt_grammar.specs.declared.tables.Kind.TheVariants as kind
+use Rattle.stk_stmt_grammar.proofs.Prints.{prints}
 
 -- some expression begins here
 pub record IsOpen (named : Span → Bool) (ts : List Lexeme) : Type 0 where
@@ -140,3 +142,17 @@ pub goes_on : (ts : List Lexeme) → behind_right_brace ts ≡ None → begins_l
 goes_on [] h k = refl
 goes_on (Token fixed.RightBrace ∷ ts) h k = absurd cc
 goes_on (t ∷ ts) h k = k
+
+-- a statement begins as none of these
+pub statement_start : (named : Span → Bool) (t : StmtTree) (r : List Lexeme) → statement_placed t ≡ true → statement_fits named t ≡ true → IsStart named (prints t r)
+statement_start named (s.statement n (s.block ps)) r p q = record { no_brace = refl; no_else = refl; no_label = refl; no_local = refl }
+statement_start named (s.statement n (s.expression_statement s.no_expression)) r p q = record { no_brace = refl; no_else = refl; no_label = refl; no_local = refl }
+statement_start named (s.statement n (s.expression_statement (s.some_expression e))) r p q = start_of_open named _ (expression_open named 1 e (Token fixed.Semicolon ∷ r) p q refl)
+statement_start named (s.statement n (s.if_statement e x other)) r p q = record { no_brace = refl; no_else = refl; no_label = refl; no_local = refl }
+statement_start named (s.statement n (s.switch_statement e xs)) r p q = record { no_brace = refl; no_else = refl; no_label = refl; no_local = refl }
+statement_start named (s.statement n (s.while_statement e x)) r p q = record { no_brace = refl; no_else = refl; no_label = refl; no_local = refl }
+statement_start named (s.statement n (s.do_statement x e)) r p q = record { no_brace = refl; no_else = refl; no_label = refl; no_local = refl }
+statement_start named (s.statement n (s.for_statement first test step x)) r p q = record { no_brace = refl; no_else = refl; no_label = refl; no_local = refl }
+statement_start named (s.statement n s.break_statement) r p q = record { no_brace = refl; no_else = refl; no_label = refl; no_local = refl }
+statement_start named (s.statement n s.continue_statement) r p q = record { no_brace = refl; no_else = refl; no_label = refl; no_local = refl }
+statement_start named (s.statement n (s.return_statement e)) r p q = record { no_brace = refl; no_else = refl; no_label = refl; no_local = refl }

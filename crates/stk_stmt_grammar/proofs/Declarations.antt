@@ -1,0 +1,111 @@
+-- What is asked of the readers of declarations, and what declarations begin with.
+use Rattle.std.proofs.Common.{◌≡◌, ℕ, ◌≤◌, Bool, true, false, cond, ◌&&◌, ◌||◌, List, [], ◌∷◌, ◌++◌, Option, Some, None, refl, sym, ap, ◌∙◌, append_assoc}
+use Rattle.stk_base.specs.declared.span.Span.{Span}
+use Rattle.stk_base.specs.declared.token.Class.TheVariants.{Word}
+use Rattle.stk_tree.specs.declared.declaration.Storage.{Storage}
+use Rattle.stk_tree.specs.declared.declaration.Storage.TheVariants.{Typedef, Extern, Static}
+use Rattle.stk_tree.specs.declared.fixed.Fixed.{Fixed}
+use Rattle.stk_tree.specs.declared.fixed.Fixed.TheVariants as fixed
+use Rattle.stk_tree.specs.declared.fixed.Lexeme.{Lexeme}
+use Rattle.stk_tree.specs.declared.fixed.Lexeme.TheVariants.{Leaf, Fixed as Token}
+use Rattle.stk_tree.specs.Height.{declaration_height}
+use Rattle.stk_tree.specs.Placed.{base_form_placed, file_placed, is_basic, local_placed}
+use Rattle.stk_tree.specs.Syntax.{BaseFormTree, DeclarationTree}
+use Rattle.stk_tree.specs.Syntax as s
+use Rattle.stk_tree.specs.Tokens.{base_form_tokens, declaration_tokens, declarators_tokens}
+use Rattle.stk_grammar.specs.Fits.{base_form_fits}
+use Rattle.stk_grammar.specs.Reading.{begins_type, behind_right_brace, is_tag_word}
+use Rattle.stk_grammar.proofs.Operators.{both_true}
+use Rattle.stk_decl_grammar.specs.Bare.{bare_declaration}
+use Rattle.stk_decl_grammar.specs.Declarations.{DeclarationLeads, FrontLeads, declaration_fits, declaration_placed, front_placed, front_tokens, opens_body}
+use Rattle.stk_decl_grammar.specs.Reading.{declaration_at, front_at}
+use Rattle.stk_stmt_grammar.specs.Reading.{begins_local, begins_static, behind_else, is_semicolon}
+
+-- what a declaration prints is read as that declaration
+abbrev pub DeclarationReads : Type 0
+DeclarationReads = (named : Span → Bool) (file : Bool) (room : ℕ) (d : DeclarationTree) (rest : List Lexeme) → declaration_placed file d ≡ true → declaration_fits named d ≡ true → declaration_height d ≤ room
+    → declaration_at named file room (declaration_tokens d ++ rest) ≡ Some (bare_declaration d, rest)
+
+-- what is read is a declaration that prints what stood there
+abbrev pub DeclarationSound : Type 0
+DeclarationSound = (named : Span → Bool) (file : Bool) (room : ℕ) (ts : List Lexeme) (x : DeclarationTree × List Lexeme) → declaration_at named file room ts ≡ Some x → DeclarationLeads named file room ts x.0 x.1
+
+-- the same of what stands before the body of a function
+abbrev pub FrontReads : Type 0
+FrontReads = (named : Span → Bool) (room : ℕ) (d : DeclarationTree) (rest : List Lexeme) → front_placed d ≡ true → declaration_fits named d ≡ true → declaration_height d ≤ room → opens_body rest ≡ true
+    → front_at named room (front_tokens d ++ rest) ≡ Some (bare_declaration d, rest)
+
+abbrev pub FrontSound : Type 0
+FrontSound = (named : Span → Bool) (room : ℕ) (ts : List Lexeme) (x : DeclarationTree × List Lexeme) → front_at named room ts ≡ Some x → FrontLeads named room ts x.0 x.1
+
+-- what a declaration prints is no front of a function
+abbrev pub FrontApart : Type 0
+FrontApart = (named : Span → Bool) (room : ℕ) (d : DeclarationTree) → file_placed d ≡ true → declaration_fits named d ≡ true → front_at named room (declaration_tokens d) ≡ None
+
+-- ---- what a base begins with
+
+cond_true : (b c : Bool) → b ≡ true → cond b true c ≡ true
+cond_true true c h = refl
+cond_true false c h = absurd cc
+
+base_begins : (named : Span → Bool) (f : BaseFormTree) (r : List Lexeme) → base_form_placed f ≡ true → base_form_fits named f ≡ true → begins_type named (base_form_tokens f ++ r) ≡ true
+base_begins named (s.words []) r p q = absurd cc
+base_begins named (s.words (w ∷ ws)) r p q = cond_true (is_basic w) (is_tag_word w) (both_true _ _ p).0
+base_begins named (s.struct_ref tag) r p q = refl
+base_begins named (s.struct_def tag ms) r p q = refl
+base_begins named (s.enum_ref tag) r p q = refl
+base_begins named (s.enum_def tag es comma) r p q = refl
+base_begins named (s.named at) r p q = q
+
+type_no_brace : (named : Span → Bool) (ts : List Lexeme) → begins_type named ts ≡ true → behind_right_brace ts ≡ None
+type_no_brace named [] h = refl
+type_no_brace named (Token fixed.RightBrace ∷ ts) h = absurd cc
+type_no_brace named (t ∷ ts) h = refl
+
+type_no_else : (named : Span → Bool) (ts : List Lexeme) → begins_type named ts ≡ true → behind_else ts ≡ None
+type_no_else named [] h = refl
+type_no_else named (Token fixed.Else ∷ ts) h = absurd cc
+type_no_else named (t ∷ ts) h = refl
+
+type_no_semicolon : (named : Span → Bool) (ts : List Lexeme) → begins_type named ts ≡ true → is_semicolon ts ≡ false
+type_no_semicolon named [] h = refl
+type_no_semicolon named (Token fixed.Semicolon ∷ []) h = absurd cc
+type_no_semicolon named (t ∷ ts) h = refl
+
+-- ---- declarations
+
+-- a base, what is declared and the `;`, in front of other tokens
+declared_text : (base declared r : List Lexeme) → ((base ++ declared) ++ Token fixed.Semicolon ∷ []) ++ r ≡ base ++ (declared ++ Token fixed.Semicolon ∷ r)
+declared_text base declared r = append_assoc (base ++ declared) (Token fixed.Semicolon ∷ []) r ∙ append_assoc base declared (Token fixed.Semicolon ∷ r)
+
+-- where a declaration of a block begins, no block ends and no `else` begins
+pub record IsLocalStart (named : Span → Bool) (ts : List Lexeme) : Type 0 where
+  pub no_brace : behind_right_brace ts ≡ None
+  pub no_else : behind_else ts ≡ None
+  pub is_local : begins_local named ts ≡ true
+
+or_right : (a b : Bool) → b ≡ true → (a || b) ≡ true
+or_right true b h = refl
+or_right false b h = h
+
+start_of_type : (named : Span → Bool) (ts : List Lexeme) → begins_type named ts ≡ true → IsLocalStart named ts
+start_of_type named ts h = record { no_brace = type_no_brace named ts h; no_else = type_no_else named ts h; is_local = or_right (begins_static ts) (begins_type named ts) h }
+
+pub local_start : (named : Span → Bool) (d : DeclarationTree) (r : List Lexeme) → local_placed d ≡ true → declaration_fits named d ≡ true → IsLocalStart named (declaration_tokens d ++ r)
+local_start named (s.declaration None (s.base n f) ds) r p q =
+    let a = (both_true _ _ (both_true _ _ (both_true _ _ (both_true _ _ p).0).0).0).1 in
+    let b = (both_true _ _ q).0 in
+    start_of_type named _ (ap (begins_type named) (declared_text (base_form_tokens f) (declarators_tokens ds) r) ∙ base_begins named f _ a b)
+local_start named (s.declaration (Some Typedef) (s.base n f) ds) r p q = absurd cc
+local_start named (s.declaration (Some Extern) (s.base n f) ds) r p q = absurd cc
+local_start named (s.declaration (Some Static) (s.base n f) ds) r p q = record { no_brace = refl; no_else = refl; is_local = refl }
+
+-- a declaration is no lone `;`
+pub file_no_semicolon : (named : Span → Bool) (d : DeclarationTree) (r : List Lexeme) → file_placed d ≡ true → declaration_fits named d ≡ true → is_semicolon (declaration_tokens d ++ r) ≡ false
+file_no_semicolon named (s.declaration None (s.base n f) ds) r p q =
+    let a = (both_true _ _ (both_true _ _ p).0).0 in
+    let b = (both_true _ _ q).0 in
+    type_no_semicolon named _ (ap (begins_type named) (declared_text (base_form_tokens f) (declarators_tokens ds) r) ∙ base_begins named f _ a b)
+file_no_semicolon named (s.declaration (Some Typedef) (s.base n f) ds) r p q = refl
+file_no_semicolon named (s.declaration (Some Extern) (s.base n f) ds) r p q = refl
+file_no_semicolon named (s.declaration (Some Static) (s.base n f) ds) r p q = refl
