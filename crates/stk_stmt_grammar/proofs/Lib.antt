@@ -1,3 +1,4 @@
+pub mod Complete
 pub mod Declarations
 pub mod Prints
 pub mod Starts

@@ -57,7 +57,7 @@ abbrev mutual
   prints_parts (s.then_part x xs) r = prints_part x (prints_parts xs r)
 
   pub prints_section : SectionTree → List Lexeme → List Lexeme
-  prints_section (s.section n labels body) r = prints_labels labels (prints_all body r)
+  prints_section (s.section n ls body) r = prints_labels ls (prints_all body r)
 
   pub prints_sections : SectionTrees → List Lexeme → List Lexeme
   prints_sections s.no_sections r = r
@@ -127,7 +127,7 @@ mutual
   parts-append (s.then_part x xs) r = row_append (part_tokens x) (parts_tokens xs) r _ _ (parts-append xs r) (part-append x (prints_parts xs r))
 
   section-append : (t : SectionTree) (r : List Lexeme) → section_tokens t ++ r ≡ prints_section t r
-  section-append (s.section n labels body) r = row_append (labels_tokens labels) (statements_tokens body) r _ _ (all-append body r) (labels-append labels (prints_all body r))
+  section-append (s.section n ls body) r = row_append (labels_tokens ls) (statements_tokens body) r _ _ (all-append body r) (labels-append ls (prints_all body r))
 
   sections-append : (ts : SectionTrees) (r : List Lexeme) → sections_tokens ts ++ r ≡ prints_sections ts r
   sections-append s.no_sections r = refl
@@ -190,13 +190,13 @@ mutual
   parts_longer (s.then_part x xs) r = omega (arith, part_longer x (prints_parts xs r), parts_longer xs r)
 
   section_longer : (t : SectionTree) (r : List Lexeme) → length r ≤ length (prints_section t r)
-  section_longer (s.section n labels body) r = omega (arith, labels_longer labels (prints_all body r), all_longer body r)
+  section_longer (s.section n ls body) r = omega (arith, labels_longer ls (prints_all body r), all_longer body r)
 
   sections_longer : (ts : SectionTrees) (r : List Lexeme) → length r ≤ length (prints_sections ts r)
   sections_longer s.no_sections r = omega arith
   sections_longer (s.then_section x xs) r = omega (arith, section_longer x (prints_sections xs r), sections_longer xs r)
 
 -- a section with a label
-pub labelled_longer : (labels : LabelTrees) (body : StmtTrees) (r : List Lexeme) → some_labels labels ≡ true → length r < length (prints_labels labels (prints_all body r))
+pub labelled_longer : (ls : LabelTrees) (body : StmtTrees) (r : List Lexeme) → some_labels ls ≡ true → length r < length (prints_labels ls (prints_all body r))
 labelled_longer s.no_labels body r h = absurd cc
 labelled_longer (s.then_label x xs) body r h = omega (arith, label_longer x (prints_labels xs (prints_all body r)), labels_longer xs (prints_all body r), all_longer body r)

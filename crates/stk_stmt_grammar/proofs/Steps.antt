@@ -1,5 +1,5 @@
 -- One step of each reader, where its parts are read.
-use Rattle.std.proofs.Common.{◌≡◌, ℕ, zero, suc, Bool, true, false, List, [], ◌∷◌, length, Option, Some, None, refl, ap, ◌∙◌}
+use Rattle.std.proofs.Common.{◌≡◌, ℕ, suc, Bool, true, false, List, ◌∷◌, length, Some, None, refl, ap, ◌∙◌}
 use Rattle.stk_base.specs.declared.span.Span.{Span}
 use Rattle.stk_tree.specs.declared.fixed.Fixed.TheVariants as fixed
 use Rattle.stk_tree.specs.declared.fixed.Lexeme.{Lexeme}
@@ -10,7 +10,6 @@ use Rattle.stk_grammar.specs.Bare.{no_node}
 use Rattle.stk_grammar.specs.Reading.{◌>>=◌, Found, behind_right_brace}
 use Rattle.stk_decl_grammar.specs.Reading.{declaration_at}
 use Rattle.stk_stmt_grammar.specs.Reading.{SectionReader, StatementReader, begins_label, begins_local, behind_else, block_at, closed_at, condition_at, do_at, ended_at, ends_section, for_at, for_on, if_at, kind_at, label_at, labels_at, made_statement, part_at, parts_at, plain_at, return_at, section_at, section_of, sections_at, start_at, statement_at, statement_on, statements_at, switch_at, while_at}
-use Rattle.stk_stmt_grammar.specs.declared.tables.Kind.{Kind}
 use Rattle.stk_stmt_grammar.specs.declared.tables.Kind.TheVariants as kind
 
 -- ---- rows

@@ -49,7 +49,7 @@ abbrev mutual
   bare_parts (s.then_part x xs) = s.then_part (bare_part x) (bare_parts xs)
 
   pub bare_section : SectionTree → SectionTree
-  bare_section (s.section node labels body) = s.section no_node (bare_labels labels) (bare_statements body)
+  bare_section (s.section node ls body) = s.section no_node (bare_labels ls) (bare_statements body)
 
   pub bare_sections : SectionTrees → SectionTrees
   bare_sections s.no_sections = s.no_sections

@@ -51,7 +51,7 @@ abbrev mutual
   parts_fit named (s.then_part x xs) = part_fits named x && parts_fit named xs
 
   pub section_fits : (Span → Bool) → SectionTree → Bool
-  section_fits named (s.section n labels body) = labels_fit named labels && statements_fit named body
+  section_fits named (s.section n ls body) = labels_fit named ls && statements_fit named body
 
   pub sections_fit : (Span → Bool) → SectionTrees → Bool
   sections_fit named s.no_sections = true
