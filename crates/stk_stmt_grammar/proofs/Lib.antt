@@ -1,5 +1,7 @@
 pub mod Complete
 pub mod Declarations
+pub mod Marks
 pub mod Prints
+pub mod Sound
 pub mod Starts
 pub mod Steps
