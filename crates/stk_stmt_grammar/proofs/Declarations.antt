@@ -1,7 +1,9 @@
 -- What is asked of the readers of declarations, and what declarations begin with.
-use Rattle.std.proofs.Common.{◌≡◌, ℕ, ◌≤◌, Bool, true, false, cond, ◌||◌, List, [], ◌∷◌, ◌++◌, Some, None, refl, ap, ◌∙◌, append_assoc}
+use Rattle.std.proofs.Common.{◌≡◌, ℕ, ◌≤◌, Bool, true, false, cond, ◌||◌, List, [], ◌∷◌, ◌++◌, Option, Some, None, refl, ap, ◌∙◌, append_assoc}
 use Rattle.stk_base.specs.declared.span.Span.{Span}
+use Rattle.stk_tree.specs.declared.declaration.Storage.{Storage}
 use Rattle.stk_tree.specs.declared.declaration.Storage.TheVariants.{Typedef, Extern, Static}
+use Rattle.stk_tree.specs.declared.node.Node.{Node}
 use Rattle.stk_tree.specs.declared.fixed.Fixed.TheVariants as fixed
 use Rattle.stk_tree.specs.declared.fixed.Lexeme.{Lexeme}
 use Rattle.stk_tree.specs.declared.fixed.Lexeme.TheVariants.{Fixed as Token}
@@ -9,7 +11,7 @@ use Rattle.stk_tree.specs.Height.{declaration_height}
 use Rattle.stk_tree.specs.Placed.{base_form_placed, file_placed, is_basic, local_placed}
 use Rattle.stk_tree.specs.Syntax.{BaseFormTree, DeclarationTree}
 use Rattle.stk_tree.specs.Syntax as s
-use Rattle.stk_tree.specs.Tokens.{base_form_tokens, declaration_tokens, declarators_tokens}
+use Rattle.stk_tree.specs.Tokens.{base_form_tokens, declaration_tokens, declarators_tokens, storage_tokens}
 use Rattle.stk_grammar.specs.Fits.{base_form_fits}
 use Rattle.stk_grammar.specs.Reading.{begins_type, behind_right_brace, is_tag_word}
 use Rattle.stk_grammar.proofs.Operators.{both_true}
@@ -37,7 +39,7 @@ FrontSound = (named : Span → Bool) (room : ℕ) (ts : List Lexeme) (x : Declar
 
 -- what a declaration prints is no front of a function
 abbrev pub FrontApart : Type 0
-FrontApart = (named : Span → Bool) (room : ℕ) (d : DeclarationTree) → file_placed d ≡ true → declaration_fits named d ≡ true → front_at named room (declaration_tokens d) ≡ None
+FrontApart = (named : Span → Bool) (room : ℕ) (d : DeclarationTree) → file_placed d ≡ true → declaration_fits named d ≡ true → declaration_height d ≤ room → front_at named room (declaration_tokens d) ≡ None
 
 -- ---- what a base begins with
 
@@ -97,12 +99,20 @@ local_start named (s.declaration (Some Typedef) (s.base n f) ds) r p q = absurd 
 local_start named (s.declaration (Some Extern) (s.base n f) ds) r p q = absurd cc
 local_start named (s.declaration (Some Static) (s.base n f) ds) r p q = record { no_brace = refl; no_else = refl; is_local = refl }
 
--- a declaration is no lone `;`
-pub file_no_semicolon : (named : Span → Bool) (d : DeclarationTree) (r : List Lexeme) → file_placed d ≡ true → declaration_fits named d ≡ true → is_semicolon (declaration_tokens d ++ r) ≡ false
-file_no_semicolon named (s.declaration None (s.base n f) ds) r p q =
-    let a = (both_true _ _ (both_true _ _ p).0).0 in
-    let b = (both_true _ _ q).0 in
-    type_no_semicolon named _ (ap (begins_type named) (declared_text (base_form_tokens f) (declarators_tokens ds) r) ∙ base_begins named f _ a b)
-file_no_semicolon named (s.declaration (Some Typedef) (s.base n f) ds) r p q = refl
-file_no_semicolon named (s.declaration (Some Extern) (s.base n f) ds) r p q = refl
-file_no_semicolon named (s.declaration (Some Static) (s.base n f) ds) r p q = refl
+-- neither a declaration nor a function is a lone `;`
+file_no_semicolon : (named : Span → Bool) (word : Option Storage) (n : Node) (f : BaseFormTree) (declared r : List Lexeme) → base_form_placed f ≡ true → base_form_fits named f ≡ true
+    → is_semicolon (((storage_tokens word ++ base_form_tokens f) ++ declared) ++ r) ≡ false
+file_no_semicolon named None n f declared r p q =
+    type_no_semicolon named _ (ap (begins_type named) (append_assoc (base_form_tokens f) declared r) ∙ ap (begins_type named) refl ∙ base_begins named f (declared ++ r) p q)
+file_no_semicolon named (Some Typedef) n f declared r p q = refl
+file_no_semicolon named (Some Extern) n f declared r p q = refl
+file_no_semicolon named (Some Static) n f declared r p q = refl
+
+pub declaration_no_semicolon : (named : Span → Bool) (d : DeclarationTree) → file_placed d ≡ true → declaration_fits named d ≡ true → is_semicolon (declaration_tokens d) ≡ false
+declaration_no_semicolon named (s.declaration word (s.base n f) ds) p q =
+    file_no_semicolon named word n f (declarators_tokens ds) (Token fixed.Semicolon ∷ []) (both_true _ _ (both_true _ _ p).0).0 (both_true _ _ q).0
+
+pub front_no_semicolon : (named : Span → Bool) (d : DeclarationTree) (r : List Lexeme) → front_placed d ≡ true → declaration_fits named d ≡ true → is_semicolon (front_tokens d ++ r) ≡ false
+front_no_semicolon named (s.declaration word (s.base n f) (s.then_declarator d s.no_declarators)) r p q =
+    file_no_semicolon named word n f (declarators_tokens (s.then_declarator d s.no_declarators)) r (both_true _ _ (both_true _ _ (both_true _ _ p).0).0).1 (both_true _ _ q).0
+front_no_semicolon named (s.declaration word (s.base n f) other) r p q = absurd cc

@@ -5,3 +5,4 @@ pub mod Prints
 pub mod Sound
 pub mod Starts
 pub mod Steps
+pub mod Units

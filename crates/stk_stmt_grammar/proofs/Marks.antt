@@ -1,5 +1,5 @@
 -- The mark or the word that stood where something was found behind it.
-use Rattle.std.proofs.Common.{◌≡◌, Bool, true, false, List, [], ◌∷◌, Option, Some, None, refl, sym, ap}
+use Rattle.std.proofs.Common.{◌≡◌, true, false, List, [], ◌∷◌, Some, refl, sym, ap}
 use Rattle.stk_tree.specs.declared.fixed.Fixed.{Fixed}
 use Rattle.stk_tree.specs.declared.fixed.Fixed.TheVariants as fixed
 use Rattle.stk_tree.specs.declared.fixed.Lexeme.{Lexeme}

@@ -1,5 +1,5 @@
 -- What is read is a well-placed statement that prints what stood there.
-use Rattle.std.proofs.Common.{◌≡◌, ℕ, zero, suc, ◌+◌, ◌≤◌, Bool, true, false, not, List, [], ◌∷◌, ◌++◌, length, Option, Some, None, refl, sym, ap, subst, ◌∙◌, arith}
+use Rattle.std.proofs.Common.{◌≡◌, ℕ, zero, suc, ◌≤◌, Bool, true, false, not, List, ◌∷◌, ◌++◌, length, Option, Some, None, refl, sym, ap, subst, ◌∙◌, arith}
 use Rattle.stk_base.specs.declared.span.Span.{Span}
 use Rattle.stk_tree.specs.declared.fixed.Fixed.TheVariants as fixed
 use Rattle.stk_tree.specs.declared.fixed.Lexeme.{Lexeme}
@@ -17,7 +17,7 @@ use Rattle.stk_grammar.proofs.Operators.{bind_some, some_is, true_both}
 use Rattle.stk_grammar.proofs.Sound.{colon_is, left_paren_is, right_paren_is}
 use Rattle.stk_grammar.proofs.Stopped.{stopped_sound}
 use Rattle.stk_stmt_grammar.specs.Fits.{label_fits, labels_fit, part_fits, parts_fit, section_fits, sections_fit, start_fits, statement_fits, statements_fit}
-use Rattle.stk_stmt_grammar.specs.Reading.{SectionReader, StatementReader, begins_label, begins_local, behind_case, behind_default, behind_else, behind_first, behind_while, block_at, case_on, closed_at, closed_on, condition_at, condition_on, default_on, do_at, do_on, else_on, ended_at, ended_on, ends_section, for_at, for_on, if_at, kind_at, label_at, label_on, labels_at, labels_on, made_statement, part_at, part_on, parts_at, parts_on, plain_at, return_at, section_at, section_of, section_on, sections_at, sections_on, start_at, start_on, statement_at, statement_on, statements_at, statements_on, switch_at, switch_on, while_at, word_statement}
+use Rattle.stk_stmt_grammar.specs.Reading.{SectionReader, StatementReader, begins_label, begins_local, behind_case, behind_default, behind_else, behind_first, behind_while, block_at, closed_at, closed_on, condition_at, condition_on, default_on, do_at, do_on, else_on, ended_at, ended_on, ends_section, for_at, for_on, if_at, kind_at, label_at, label_on, labels_at, labels_on, made_statement, part_at, part_on, parts_at, parts_on, plain_at, return_at, section_at, section_of, section_on, sections_at, sections_on, start_at, start_on, statement_at, statement_on, statements_at, statements_on, switch_at, switch_on, while_at, word_statement}
 use Rattle.stk_stmt_grammar.specs.declared.tables.Kind.{Kind}
 use Rattle.stk_stmt_grammar.specs.declared.tables.Kind.TheVariants as kind
 use Rattle.stk_decl_grammar.specs.Reading.{declaration_at}
