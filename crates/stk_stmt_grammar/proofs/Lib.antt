@@ -1,5 +1,6 @@
 pub mod Complete
 pub mod Declarations
+pub mod Laws
 pub mod Marks
 pub mod Prints
 pub mod Sound
