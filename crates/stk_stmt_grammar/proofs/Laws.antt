@@ -1,11 +1,11 @@
 -- What the definition says, whoever reads: one unit, and what the reader's answers mean.
-use Rattle.std.proofs.Common.{◌≡◌, ℕ, ◌<◌, ◌≤◌, Bool, List, length, Option, Some, None, refl, sym, ap, ◌∙◌, arith}
+use Rattle.std.proofs.Common.{◌≡◌, Bool, List, Some, None, sym, ap, ◌∙◌}
 use Rattle.stk_base.specs.declared.span.Span.{Span}
 use Rattle.stk_tree.specs.declared.fixed.Lexeme.{Lexeme}
-use Rattle.stk_tree.specs.Syntax.{LabelTree, PartTree, SectionTree, StmtTree, UnitTree}
+use Rattle.stk_tree.specs.Syntax.{UnitTree}
 use Rattle.stk_grammar.proofs.Operators.{some_is}
 use Rattle.stk_stmt_grammar.specs.Bare.{bare_unit}
-use Rattle.stk_stmt_grammar.specs.Reading.{label_at, part_at, section_at, statement_at, unit_at, unit_within}
+use Rattle.stk_stmt_grammar.specs.Reading.{unit_at, unit_within}
 use Rattle.stk_stmt_grammar.specs.Units.{IsUnit, OneUnit}
 use Rattle.stk_stmt_grammar.proofs.Declarations.{DeclarationReads, DeclarationSound, FrontApart, FrontReads, FrontSound}
 use Rattle.stk_stmt_grammar.proofs.Units.{unit_reads, unit_sound}

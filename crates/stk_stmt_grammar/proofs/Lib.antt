@@ -1,3 +1,4 @@
+pub mod Apart
 pub mod Complete
 pub mod Declarations
 pub mod Laws
