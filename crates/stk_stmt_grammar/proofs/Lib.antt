@@ -1,8 +1,8 @@
 pub mod Apart
 pub mod Complete
 pub mod Declarations
+pub mod Found
 pub mod Laws
-pub mod Marks
 pub mod Prints
 pub mod Sound
 pub mod Starts

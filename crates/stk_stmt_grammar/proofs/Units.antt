@@ -23,7 +23,7 @@ use Rattle.stk_stmt_grammar.specs.Fits.{statement_fits, unit_fits}
 use Rattle.stk_stmt_grammar.specs.Reading.{block_at, declared_on, defined_on, function_of, is_end, is_semicolon, made_statement, parts_at, statement_at, unit_behind, unit_on, unit_within}
 use Rattle.stk_stmt_grammar.proofs.Complete.{statement_reads}
 use Rattle.stk_stmt_grammar.proofs.Declarations.{DeclarationReads, DeclarationSound, FrontApart, FrontReads, FrontSound, declaration_no_semicolon, front_no_semicolon}
-use Rattle.stk_stmt_grammar.proofs.Marks.{end_is, lone_is}
+use Rattle.stk_stmt_grammar.proofs.Found.{end_is, lone_is}
 use Rattle.stk_stmt_grammar.proofs.Prints.{tokens-append}
 use Rattle.stk_stmt_grammar.proofs.Sound.{statement_sound}
 

@@ -2,6 +2,11 @@
 //! to right, and the laws of both (C11 6.8, 6.9).
 #![tactic(auto)]
 
+mod marks;
 mod tables;
 
+pub use marks::{
+    begins_label, begins_static, behind_case, behind_default, behind_else, behind_first,
+    behind_while, ends_section, is_semicolon, kind_at,
+};
 pub use tables::{Kind, kind_mark};
