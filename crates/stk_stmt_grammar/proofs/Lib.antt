@@ -4,6 +4,7 @@ pub mod Declarations
 pub mod Found
 pub mod Laws
 pub mod Prints
+pub mod Shorter
 pub mod Sound
 pub mod Starts
 pub mod Steps

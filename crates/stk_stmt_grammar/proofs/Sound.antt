@@ -93,7 +93,7 @@ closed_is named room ts x e = closed_on_is named room (behind_right_paren ts) ts
 
 -- ---- labels
 
-abbrev IsLabel : (Span → Bool) → ℕ → List Lexeme → LabelTree × List Lexeme → Type 0
+abbrev pub IsLabel : (Span → Bool) → ℕ → List Lexeme → LabelTree × List Lexeme → Type 0
 IsLabel named = Reads prints_label label_placed (label_fits named) label_height
 
 label_on_is : (named : Span → Bool) (room : ℕ) (o : Option (List Lexeme)) (ts : List Lexeme) (x : LabelTree × List Lexeme) → behind_case ts ≡ o → label_on named room o ts ≡ Some x → IsLabel named room ts x
@@ -113,7 +113,7 @@ label_on_is named room None ts x is e =
     subst (IsLabel named room ts) (some_is (s.default_label, b.0) x b.2)
     (record { text = default_is ts a.0 a.1 ∙ ap (λ r. Token fixed.Default ∷ r) (colon_is a.0 b.0 b.1); placed = refl; fits = refl; low = omega arith })
 
-label_is : (named : Span → Bool) (room : ℕ) (ts : List Lexeme) (x : LabelTree × List Lexeme) → label_at named room ts ≡ Some x → IsLabel named room ts x
+pub label_is : (named : Span → Bool) (room : ℕ) (ts : List Lexeme) (x : LabelTree × List Lexeme) → label_at named room ts ≡ Some x → IsLabel named room ts x
 unfolding label_at
 label_is named room ts x e = label_on_is named room (behind_case ts) ts x refl e
 
@@ -185,7 +185,7 @@ sections_at_end section (suc f) ts rest x is e =
 module _ (local_sound : DeclarationSound) (named : Span → Bool) (inner : ℕ) (sub : StatementReader) (sound : IsSound named inner sub) where
   -- ---- blocks
 
-  abbrev IsPart : List Lexeme → PartTree × List Lexeme → Type 0
+  abbrev pub IsPart : List Lexeme → PartTree × List Lexeme → Type 0
   IsPart = Reads prints_part part_placed (part_fits named) part_height inner
 
   -- a part
@@ -199,7 +199,7 @@ module _ (local_sound : DeclarationSound) (named : Span → Bool) (inner : ℕ) 
       let p = sound ts a.0 a.1 in
       subst (IsPart ts) (some_is (s.run a.0.0, a.0.1) x a.2) (record { text = p.text; placed = p.placed; fits = p.fits; low = p.low })
 
-  part_is : (ts : List Lexeme) (x : PartTree × List Lexeme) → part_at named inner sub ts ≡ Some x → IsPart ts x
+  pub part_is : (ts : List Lexeme) (x : PartTree × List Lexeme) → part_at named inner sub ts ≡ Some x → IsPart ts x
   unfolding part_at
   part_is ts x e = part_on_is (begins_local named ts) ts x e
 
