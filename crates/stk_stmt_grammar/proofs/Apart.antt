@@ -10,8 +10,8 @@ use Rattle.stk_tree.specs.declared.fixed.Fixed.TheVariants as fixed
 use Rattle.stk_tree.specs.declared.fixed.Lexeme.{Lexeme}
 use Rattle.stk_tree.specs.declared.fixed.Lexeme.TheVariants.{Leaf, Fixed as Token}
 use Rattle.stk_tree.specs.declared.node.Node.{Node}
-use Rattle.stk_tree.specs.Height.{declarators_height, tail_height}
-use Rattle.stk_tree.specs.Placed.{base_form_placed, declarators_placed, file_declarators, is_bare, is_basic, tail_placed}
+use Rattle.stk_tree.specs.Height.{declaration_height, declarators_height, tail_height}
+use Rattle.stk_tree.specs.Placed.{base_form_placed, declarators_placed, file_declarators, file_placed, is_bare, is_basic, tail_placed}
 use Rattle.stk_tree.specs.Syntax.{BaseFormTree, DeclarationTree, DeclrTree, DeclrTrees, DimensionTrees, MaybeInitTree, TailTree}
 use Rattle.stk_tree.specs.Syntax as s
 use Rattle.stk_tree.specs.Tokens.{declaration_tokens}
@@ -21,11 +21,11 @@ use Rattle.stk_grammar.specs.Reading.{◌>>=◌, Found, base_at, behind_left_bra
 use Rattle.stk_grammar.proofs.Complete.{stars_read_all}
 use Rattle.stk_grammar.proofs.Operators.{both_true, if_some, some_is}
 use Rattle.stk_grammar.proofs.Prints.{prints_dimensions, prints_stars}
+use Rattle.stk_decl_grammar.specs.Declarations.{declaration_fits}
 use Rattle.stk_decl_grammar.specs.Reading.{front_at, front_behind, function_declarator_at, function_name_behind, function_tail, if_body, low_declarator, storage_at}
 use Rattle.stk_decl_grammar.proofs.Arrays.{name_read, named_declarator_no_words}
 use Rattle.stk_decl_grammar.proofs.Parameters.{parameter_tail_read, specifier_read}
 use Rattle.stk_decl_grammar.proofs.Prints.{declaration-append, prints_comma, prints_declarators, prints_enumerators, prints_initial, prints_members, prints_more_declarators, prints_specifier_form, prints_storage, prints_tail}
-use Rattle.stk_stmt_grammar.proofs.Declarations.{FrontApart}
 
 -- no body begins behind what was found
 abbrev NoBody : Found DeclrTree → Type 0
@@ -172,7 +172,7 @@ base_apart named room word n (s.named at) ds p q a b c low = bare_no_front named
 
 -- ---- declarations
 
-pub front_apart : FrontApart
+pub front_apart : (named : Span → Bool) (room : ℕ) (d : DeclarationTree) → file_placed d ≡ true → declaration_fits named d ≡ true → declaration_height d ≤ room → front_at named room (declaration_tokens d) ≡ None
 unfolding front_at
 front_apart named room (s.declaration word (s.base n f) ds) p q low =
     let a = both_true _ _ p in

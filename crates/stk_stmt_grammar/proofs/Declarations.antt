@@ -1,4 +1,4 @@
--- What is asked of the readers of declarations, and what declarations begin with.
+-- What declarations begin with.
 use Rattle.std.proofs.Common.{◌≡◌, ℕ, ◌≤◌, Bool, true, false, cond, ◌||◌, List, [], ◌∷◌, ◌++◌, Option, Some, None, refl, ap, ◌∙◌, append_assoc}
 use Rattle.stk_base.specs.declared.span.Span.{Span}
 use Rattle.stk_tree.specs.declared.declaration.Storage.{Storage}
@@ -19,27 +19,6 @@ use Rattle.stk_decl_grammar.specs.Bare.{bare_declaration}
 use Rattle.stk_decl_grammar.specs.Declarations.{DeclarationLeads, FrontLeads, declaration_fits, declaration_placed, front_placed, front_tokens, opens_body}
 use Rattle.stk_decl_grammar.specs.Reading.{declaration_at, front_at}
 use Rattle.stk_stmt_grammar.specs.Reading.{begins_local, begins_static, behind_else, is_semicolon}
-
--- what a declaration prints is read as that declaration
-abbrev pub DeclarationReads : Type 0
-DeclarationReads = (named : Span → Bool) (file : Bool) (room : ℕ) (d : DeclarationTree) (rest : List Lexeme) → declaration_placed file d ≡ true → declaration_fits named d ≡ true → declaration_height d ≤ room
-    → declaration_at named file room (declaration_tokens d ++ rest) ≡ Some (bare_declaration d, rest)
-
--- what is read is a declaration that prints what stood there
-abbrev pub DeclarationSound : Type 0
-DeclarationSound = (named : Span → Bool) (file : Bool) (room : ℕ) (ts : List Lexeme) (x : DeclarationTree × List Lexeme) → declaration_at named file room ts ≡ Some x → DeclarationLeads named file room ts x.0 x.1
-
--- the same of what stands before the body of a function
-abbrev pub FrontReads : Type 0
-FrontReads = (named : Span → Bool) (room : ℕ) (d : DeclarationTree) (rest : List Lexeme) → front_placed d ≡ true → declaration_fits named d ≡ true → declaration_height d ≤ room → opens_body rest ≡ true
-    → front_at named room (front_tokens d ++ rest) ≡ Some (bare_declaration d, rest)
-
-abbrev pub FrontSound : Type 0
-FrontSound = (named : Span → Bool) (room : ℕ) (ts : List Lexeme) (x : DeclarationTree × List Lexeme) → front_at named room ts ≡ Some x → FrontLeads named room ts x.0 x.1
-
--- what a declaration prints is no front of a function
-abbrev pub FrontApart : Type 0
-FrontApart = (named : Span → Bool) (room : ℕ) (d : DeclarationTree) → file_placed d ≡ true → declaration_fits named d ≡ true → declaration_height d ≤ room → front_at named room (declaration_tokens d) ≡ None
 
 -- ---- what a base begins with
 

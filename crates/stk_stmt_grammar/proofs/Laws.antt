@@ -7,26 +7,24 @@ use Rattle.stk_grammar.proofs.Operators.{some_is}
 use Rattle.stk_stmt_grammar.specs.Bare.{bare_unit}
 use Rattle.stk_stmt_grammar.specs.Reading.{unit_at, unit_within}
 use Rattle.stk_stmt_grammar.specs.Units.{IsUnit, OneUnit}
-use Rattle.stk_stmt_grammar.proofs.Declarations.{DeclarationReads, DeclarationSound, FrontApart, FrontReads, FrontSound}
 use Rattle.stk_stmt_grammar.proofs.Units.{unit_reads, unit_sound}
 
-module _ (reads : DeclarationReads) (sound : DeclarationSound) (front_reads : FrontReads) (front_sound : FrontSound) (apart : FrontApart) where
-  -- a unit, and what the reader finds
-  pub found_of_unit : (named : Span → Bool) (ts : List Lexeme) (u : UnitTree) → IsUnit named ts u → unit_at named ts ≡ Some (bare_unit u)
-  found_of_unit named ts u h = ap (unit_within named 400) h.tokens ∙ unit_reads reads front_reads apart u named 400 h.placed h.fits h.height
+-- a unit, and what the reader finds
+pub found_of_unit : (named : Span → Bool) (ts : List Lexeme) (u : UnitTree) → IsUnit named ts u → unit_at named ts ≡ Some (bare_unit u)
+found_of_unit named ts u h = ap (unit_within named 400) h.tokens ∙ unit_reads u named 400 h.placed h.fits h.height
 
-  pub unit_of_found : (named : Span → Bool) (ts : List Lexeme) (u : UnitTree) → unit_at named ts ≡ Some u → IsUnit named ts u
-  unit_of_found named ts u e =
-      let p = unit_sound sound front_sound named 400 ts u e in
-      record { tokens = p.text; placed = p.placed; fits = p.fits; height = p.low }
+pub unit_of_found : (named : Span → Bool) (ts : List Lexeme) (u : UnitTree) → unit_at named ts ≡ Some u → IsUnit named ts u
+unit_of_found named ts u e =
+    let p = unit_sound named 400 ts u e in
+    record { tokens = p.text; placed = p.placed; fits = p.fits; height = p.low }
 
-  -- no unit is these tokens where the reader finds none
-  pub none_of_none : (named : Span → Bool) (ts : List Lexeme) → unit_at named ts ≡ None → (u : UnitTree) → IsUnit named ts u → ⊥
-  none_of_none named ts e u h = let k = found_of_unit named ts u h in cc (sym e ∙ k)
+-- no unit is these tokens where the reader finds none
+pub none_of_none : (named : Span → Bool) (ts : List Lexeme) → unit_at named ts ≡ None → (u : UnitTree) → IsUnit named ts u → ⊥
+none_of_none named ts e u h = let k = found_of_unit named ts u h in cc (sym e ∙ k)
 
-  -- what the reader finds has no record of its nodes
-  pub found_bare : (named : Span → Bool) (ts : List Lexeme) (u : UnitTree) → unit_at named ts ≡ Some u → bare_unit u ≡ u
-  found_bare named ts u e = some_is (bare_unit u) u (sym (found_of_unit named ts u (unit_of_found named ts u e)) ∙ e)
+-- what the reader finds has no record of its nodes
+pub found_bare : (named : Span → Bool) (ts : List Lexeme) (u : UnitTree) → unit_at named ts ≡ Some u → bare_unit u ≡ u
+found_bare named ts u e = some_is (bare_unit u) u (sym (found_of_unit named ts u (unit_of_found named ts u e)) ∙ e)
 
-  pub one_unit : OneUnit
-  one_unit named ts x y h k = some_is (bare_unit x) (bare_unit y) (sym (found_of_unit named ts x h) ∙ found_of_unit named ts y k)
+pub one_unit : OneUnit
+one_unit named ts x y h k = some_is (bare_unit x) (bare_unit y) (sym (found_of_unit named ts x h) ∙ found_of_unit named ts y k)

@@ -7,7 +7,6 @@ use Rattle.stk_tree.specs.Syntax.{LabelTree, PartTree, SectionTree, StmtTree}
 use Rattle.stk_tree.specs.Syntax as s
 use Rattle.stk_grammar.proofs.Operators.{both_true}
 use Rattle.stk_stmt_grammar.specs.Reading.{label_at, part_at, section_at, statement_at}
-use Rattle.stk_stmt_grammar.proofs.Declarations.{DeclarationSound}
 use Rattle.stk_stmt_grammar.proofs.Prints.{label_longer, labelled_longer, part_longer, prints_longer, prints_section}
 use Rattle.stk_stmt_grammar.proofs.Sound.{label_is, part_is, section_at_sound, statement_sound}
 
@@ -17,12 +16,12 @@ label_shorter named room ts x rest e = omega (arith, ap length (label_is named r
 section_longer : (x : SectionTree) (r : List Lexeme) → section_placed x ≡ true → length r < length (prints_section x r)
 section_longer (s.section n ls body) r p = labelled_longer ls body r (both_true _ _ (both_true _ _ p).0).0
 
-module _ (sound : DeclarationSound) (named : Span → Bool) (room : ℕ) (ts : List Lexeme) where
+module _ (named : Span → Bool) (room : ℕ) (ts : List Lexeme) where
   pub statement_shorter : (x : StmtTree) (rest : List Lexeme) → statement_at named room ts ≡ Some (x, rest) → length rest < length ts
-  statement_shorter x rest e = omega (arith, ap length (statement_sound sound named room ts (x, rest) e).text, prints_longer x rest)
+  statement_shorter x rest e = omega (arith, ap length (statement_sound named room ts (x, rest) e).text, prints_longer x rest)
 
   pub part_shorter : (x : PartTree) (rest : List Lexeme) → part_at named room (statement_at named room) ts ≡ Some (x, rest) → length rest < length ts
-  part_shorter x rest e = omega (arith, ap length (part_is sound named room (statement_at named room) (statement_sound sound named room) ts (x, rest) e).text, part_longer x rest)
+  part_shorter x rest e = omega (arith, ap length (part_is named room (statement_at named room) (statement_sound named room) ts (x, rest) e).text, part_longer x rest)
 
   pub section_shorter : (x : SectionTree) (rest : List Lexeme) → section_at named room ts ≡ Some (x, rest) → length rest < length ts
-  section_shorter x rest e = let p = (section_at_sound sound named room ts (x, rest) e).read in omega (arith, ap length p.text, section_longer x rest p.placed)
+  section_shorter x rest e = let p = (section_at_sound named room ts (x, rest) e).read in omega (arith, ap length p.text, section_longer x rest p.placed)

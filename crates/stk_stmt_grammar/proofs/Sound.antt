@@ -21,7 +21,7 @@ use Rattle.stk_stmt_grammar.specs.Reading.{SectionReader, StatementReader, begin
 use Rattle.stk_stmt_grammar.specs.declared.tables.Kind.{Kind}
 use Rattle.stk_stmt_grammar.specs.declared.tables.Kind.TheVariants as kind
 use Rattle.stk_decl_grammar.specs.Reading.{declaration_at}
-use Rattle.stk_stmt_grammar.proofs.Declarations.{DeclarationSound}
+use Rattle.stk_decl_grammar.proofs.Declarations.{declaration_sound}
 use Rattle.stk_stmt_grammar.proofs.Found.{brace_of_end, case_is, default_is, else_is, kind_is, kind_token, left_brace_is, right_brace_is, semicolon_is, while_is}
 use Rattle.stk_stmt_grammar.proofs.Prints.{prints, prints_all, prints_condition, prints_label, prints_labels, prints_part, prints_parts, prints_section, prints_sections, prints_start}
 
@@ -182,7 +182,7 @@ sections_at_end section zero ts rest x is e = absurd cc
 sections_at_end section (suc f) ts rest x is e =
     ap (λ (y : SectionTrees × List Lexeme). y.0) (sym (some_is (s.no_sections, rest) x (sym (ap (λ o. sections_on (sections_at section f) section o ts) is) ∙ e)))
 
-module _ (local_sound : DeclarationSound) (named : Span → Bool) (inner : ℕ) (sub : StatementReader) (sound : IsSound named inner sub) where
+module _ (named : Span → Bool) (inner : ℕ) (sub : StatementReader) (sound : IsSound named inner sub) where
   -- ---- blocks
 
   abbrev pub IsPart : List Lexeme → PartTree × List Lexeme → Type 0
@@ -192,7 +192,7 @@ module _ (local_sound : DeclarationSound) (named : Span → Bool) (inner : ℕ) 
   part_on_is : (b : Bool) (ts : List Lexeme) (x : PartTree × List Lexeme) → part_on named inner sub b ts ≡ Some x → IsPart ts x
   part_on_is true ts x e =
       let a = bind_some (declaration_at named false inner ts) _ x e in
-      let p = local_sound named false inner ts a.0 a.1 in
+      let p = (declaration_sound named false inner ts a.0.0 a.0.1 a.1).0 in
       subst (IsPart ts) (some_is (s.local a.0.0, a.0.1) x a.2) (record { text = p.tokens; placed = p.placed; fits = p.fits; low = p.height })
   part_on_is false ts x e =
       let a = bind_some (sub ts) _ x e in
@@ -350,7 +350,7 @@ module _ (local_sound : DeclarationSound) (named : Span → Bool) (inner : ℕ) 
   start_on_is : (b : Bool) (ts : List Lexeme) (x : StartTree × List Lexeme) → start_on named inner b ts ≡ Some x → IsFirst ts x
   start_on_is true ts x e =
       let a = bind_some (declaration_at named false inner ts) _ x e in
-      let p = local_sound named false inner ts a.0 a.1 in
+      let p = (declaration_sound named false inner ts a.0.0 a.0.1 a.1).0 in
       subst (IsFirst ts) (some_is (s.start_declaration a.0.0, a.0.1) x a.2) (record { text = p.tokens; placed = p.placed; fits = p.fits; low = p.height })
   start_on_is false ts x e =
       let a = bind_some (ended_at named inner ts) _ x e in
@@ -469,28 +469,28 @@ module _ (named : Span → Bool) (inner : ℕ) (section : SectionReader) (sound 
 by_kind : (named : Span → Bool) (room : ℕ) (ts : List Lexeme) (k : Kind) (x : StmtTree × List Lexeme) → kind_at ts ≡ k → (k ≡ kind.Plain → ⊥) → Answers named room (Token (kind_token k) ∷ behind_first ts) x → Answers named room ts x
 by_kind named room ts k x is h a = subst (λ (r : List Lexeme). Answers named room r x) (sym (kind_is ts k is h)) a
 
-module _ (local_sound : DeclarationSound) (named : Span → Bool) (inner : ℕ) (sub : StatementReader) (section : SectionReader) (sound : IsSound named inner sub) (section_sound_in : IsSectionSound named inner section) where
+module _ (named : Span → Bool) (inner : ℕ) (sub : StatementReader) (section : SectionReader) (sound : IsSound named inner sub) (section_sound_in : IsSectionSound named inner section) where
   on_sound : (ts : List Lexeme) (k : Kind) (x : StmtTree × List Lexeme) → kind_at ts ≡ k → statement_on named inner sub section k ts ≡ Some x → Answers named (suc inner) ts x
-  on_sound ts kind.Block x is e = by_kind named (suc inner) ts kind.Block x is (λ h. cc) (block_sound local_sound named inner sub sound (behind_first ts) x e)
-  on_sound ts kind.If x is e = by_kind named (suc inner) ts kind.If x is (λ h. cc) (if_sound local_sound named inner sub sound (behind_first ts) x e)
+  on_sound ts kind.Block x is e = by_kind named (suc inner) ts kind.Block x is (λ h. cc) (block_sound named inner sub sound (behind_first ts) x e)
+  on_sound ts kind.If x is e = by_kind named (suc inner) ts kind.If x is (λ h. cc) (if_sound named inner sub sound (behind_first ts) x e)
   on_sound ts kind.Switch x is e = by_kind named (suc inner) ts kind.Switch x is (λ h. cc) (switch_sound named inner section section_sound_in (behind_first ts) x e)
-  on_sound ts kind.While x is e = by_kind named (suc inner) ts kind.While x is (λ h. cc) (while_sound local_sound named inner sub sound (behind_first ts) x e)
-  on_sound ts kind.Do x is e = by_kind named (suc inner) ts kind.Do x is (λ h. cc) (do_sound local_sound named inner sub sound (behind_first ts) x e)
-  on_sound ts kind.For x is e = by_kind named (suc inner) ts kind.For x is (λ h. cc) (for_sound local_sound named inner sub sound (behind_first ts) x e)
-  on_sound ts kind.Break x is e = by_kind named (suc inner) ts kind.Break x is (λ h. cc) (break_sound local_sound named inner sub sound (behind_first ts) x e)
-  on_sound ts kind.Continue x is e = by_kind named (suc inner) ts kind.Continue x is (λ h. cc) (continue_sound local_sound named inner sub sound (behind_first ts) x e)
-  on_sound ts kind.Return x is e = by_kind named (suc inner) ts kind.Return x is (λ h. cc) (return_sound local_sound named inner sub sound (behind_first ts) x e)
-  on_sound ts kind.Plain x is e = plain_sound local_sound named inner sub sound ts x e
+  on_sound ts kind.While x is e = by_kind named (suc inner) ts kind.While x is (λ h. cc) (while_sound named inner sub sound (behind_first ts) x e)
+  on_sound ts kind.Do x is e = by_kind named (suc inner) ts kind.Do x is (λ h. cc) (do_sound named inner sub sound (behind_first ts) x e)
+  on_sound ts kind.For x is e = by_kind named (suc inner) ts kind.For x is (λ h. cc) (for_sound named inner sub sound (behind_first ts) x e)
+  on_sound ts kind.Break x is e = by_kind named (suc inner) ts kind.Break x is (λ h. cc) (break_sound named inner sub sound (behind_first ts) x e)
+  on_sound ts kind.Continue x is e = by_kind named (suc inner) ts kind.Continue x is (λ h. cc) (continue_sound named inner sub sound (behind_first ts) x e)
+  on_sound ts kind.Return x is e = by_kind named (suc inner) ts kind.Return x is (λ h. cc) (return_sound named inner sub sound (behind_first ts) x e)
+  on_sound ts kind.Plain x is e = plain_sound named inner sub sound ts x e
 
-module _ (local_sound : DeclarationSound) (named : Span → Bool) where
+module _ (named : Span → Bool) where
   mutual
     unfolding statement_at
 
     pub statement_sound : (room : ℕ) → IsSound named room (statement_at named room)
     statement_sound zero ts x e = absurd cc
     statement_sound (suc inner) ts x e =
-        on_sound local_sound named inner (statement_at named inner) (section_at named inner) (statement_sound inner) (section_at_sound inner) ts (kind_at ts) x refl e
+        on_sound named inner (statement_at named inner) (section_at named inner) (statement_sound inner) (section_at_sound inner) ts (kind_at ts) x refl e
 
     pub section_at_sound : (room : ℕ) → IsSectionSound named room (section_at named room)
     section_at_sound zero ts x e = absurd cc
-    section_at_sound (suc inner) ts x e = section_sound local_sound named inner (statement_at named inner) (statement_sound inner) ts x e
+    section_at_sound (suc inner) ts x e = section_sound named inner (statement_at named inner) (statement_sound inner) ts x e

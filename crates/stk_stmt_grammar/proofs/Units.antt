@@ -22,7 +22,9 @@ use Rattle.stk_stmt_grammar.specs.Bare.{bare_statement, bare_unit}
 use Rattle.stk_stmt_grammar.specs.Fits.{statement_fits, unit_fits}
 use Rattle.stk_stmt_grammar.specs.Reading.{block_at, declared_on, defined_on, function_of, is_end, is_semicolon, made_statement, parts_at, statement_at, unit_behind, unit_on, unit_within}
 use Rattle.stk_stmt_grammar.proofs.Complete.{statement_reads}
-use Rattle.stk_stmt_grammar.proofs.Declarations.{DeclarationReads, DeclarationSound, FrontApart, FrontReads, FrontSound, declaration_no_semicolon, front_no_semicolon}
+use Rattle.stk_decl_grammar.proofs.Declarations.{declaration_reads, declaration_sound, front_reads, front_sound}
+use Rattle.stk_stmt_grammar.proofs.Apart.{front_apart}
+use Rattle.stk_stmt_grammar.proofs.Declarations.{declaration_no_semicolon, front_no_semicolon}
 use Rattle.stk_stmt_grammar.proofs.Found.{end_is, lone_is}
 use Rattle.stk_stmt_grammar.proofs.Prints.{tokens-append}
 use Rattle.stk_stmt_grammar.proofs.Sound.{statement_sound}
@@ -70,25 +72,24 @@ block_of_body named (suc inner) [] x h e = absurd cc
 block_of_body named (suc inner) (Token fixed.LeftBrace ∷ ts) x h e = block_of_found named inner ts x e
 block_of_body named (suc inner) (t ∷ ts) x h e = absurd cc
 
-module _ (reads : DeclarationReads) (front_reads : FrontReads) (apart : FrontApart) where
-  pub unit_reads : (u : UnitTree) (named : Span → Bool) (room : ℕ) → unit_placed u ≡ true → unit_fits named u ≡ true → unit_height u ≤ room → unit_within named room (unit_tokens u) ≡ Some (bare_unit u)
-  unit_reads (s.empty_unit n) named zero p q low = absurd (omega arith)
-  unit_reads (s.empty_unit n) named (suc inner) p q low = lone_unit named inner
-  unit_reads (s.declares n d) named zero p q low = absurd (omega arith)
-  unit_reads (s.declares n d) named (suc inner) p q low =
-      declared_unit named inner (bare_declaration d) (declaration_tokens d) (declaration_no_semicolon named d p q) (apart named inner d p q (omega arith))
-      (ap (declaration_at named true inner) (sym (append-nil (declaration_tokens d))) ∙ reads named true inner d [] p q (omega arith))
-  unit_reads (s.defines n (s.function word b d x)) named zero p q low = absurd (omega arith)
-  unit_reads (s.defines n (s.function word b d x)) named (suc inner) p q low =
-      let a = both_true _ _ p in
-      let c = both_true _ _ a.0 in
-      let k = both_true _ _ q in
-      let front : DeclarationTree = front_of word b d in
-      let fits : declaration_fits named front ≡ true = (let h = both_true _ _ k.0 in true_both _ _ h.0 (true_both _ _ h.1 refl)) in
-      let text = function_text word b d x in
-      defined_unit named inner _ _ _ (bare_statement x) (function_tokens (s.function word b d x)) (statement_tokens x) (ap is_semicolon text ∙ front_no_semicolon named front (statement_tokens x) c.0 fits)
-      (ap (front_at named inner) text ∙ front_reads named inner front (statement_tokens x) c.0 fits (omega arith) (block_opens x c.1))
-      (ap (statement_at named inner) (sym (append-nil (statement_tokens x)) ∙ tokens-append x []) ∙ statement_reads reads x named inner [] a.1 k.1 (omega arith) (λ _. refl))
+pub unit_reads : (u : UnitTree) (named : Span → Bool) (room : ℕ) → unit_placed u ≡ true → unit_fits named u ≡ true → unit_height u ≤ room → unit_within named room (unit_tokens u) ≡ Some (bare_unit u)
+unit_reads (s.empty_unit n) named zero p q low = absurd (omega arith)
+unit_reads (s.empty_unit n) named (suc inner) p q low = lone_unit named inner
+unit_reads (s.declares n d) named zero p q low = absurd (omega arith)
+unit_reads (s.declares n d) named (suc inner) p q low =
+    declared_unit named inner (bare_declaration d) (declaration_tokens d) (declaration_no_semicolon named d p q) (front_apart named inner d p q (omega arith))
+    (ap (declaration_at named true inner) (sym (append-nil (declaration_tokens d))) ∙ declaration_reads named true inner d [] p q (omega arith))
+unit_reads (s.defines n (s.function word b d x)) named zero p q low = absurd (omega arith)
+unit_reads (s.defines n (s.function word b d x)) named (suc inner) p q low =
+    let a = both_true _ _ p in
+    let c = both_true _ _ a.0 in
+    let k = both_true _ _ q in
+    let front : DeclarationTree = front_of word b d in
+    let fits : declaration_fits named front ≡ true = (let h = both_true _ _ k.0 in true_both _ _ h.0 (true_both _ _ h.1 refl)) in
+    let text = function_text word b d x in
+    defined_unit named inner _ _ _ (bare_statement x) (function_tokens (s.function word b d x)) (statement_tokens x) (ap is_semicolon text ∙ front_no_semicolon named front (statement_tokens x) c.0 fits)
+    (ap (front_at named inner) text ∙ front_reads named inner front (statement_tokens x) c.0 fits (omega arith) (block_opens x c.1))
+    (ap (statement_at named inner) (sym (append-nil (statement_tokens x)) ∙ tokens-append x []) ∙ statement_reads x named inner [] a.1 k.1 (omega arith) (λ _. refl))
 
 -- ---- what is read
 
@@ -113,32 +114,31 @@ function_sound named inner ts body (s.declaration word b (s.then_declarator d s.
     })
 function_sound named inner ts body (s.declaration word b other) x u h is block p q low e = absurd cc
 
-module _ (declaration_sound : DeclarationSound) (front_sound : FrontSound) where
-  unit_behind_sound : (named : Span → Bool) (inner : ℕ) (ts : List Lexeme) (o : Found DeclarationTree) (u : UnitTree) → front_at named inner ts ≡ o → unit_behind named inner o ts ≡ Some u → UnitAnswers named (suc inner) ts u
-  unit_behind_sound named inner ts None u is e =
-      let a = bind_some (declaration_at named true inner ts) declared_on u e in
-      let b = if_some (is_end a.0.1) (Some (s.declares no_node a.0.0)) u a.2 in
-      let p = declaration_sound named true inner ts a.0 a.1 in
-      subst (UnitAnswers named (suc inner) ts) (some_is (s.declares no_node a.0.0) u b.1) (record {
-        text = p.tokens ∙ ap (λ r. declaration_tokens a.0.0 ++ r) (end_is a.0.1 b.0) ∙ append-nil (declaration_tokens a.0.0);
-        placed = p.placed;
-        fits = p.fits;
-        low = omega (arith, p.height);
-      })
-  unit_behind_sound named inner ts (Some front) u is e =
-      let a = bind_some (statement_at named inner front.1) (defined_on front.0) u e in
-      let b = if_some (is_end a.0.1) (function_of front.0 a.0.0) u a.2 in
-      let h = front_sound named inner ts front is in
-      let p = statement_sound declaration_sound named inner front.1 a.0 a.1 in
-      function_sound named inner ts front.1 front.0 a.0.0 u h (p.text ∙ sym (tokens-append a.0.0 a.0.1) ∙ ap (λ r. statement_tokens a.0.0 ++ r) (end_is a.0.1 b.0) ∙ append-nil (statement_tokens a.0.0))
-      (block_of_body named inner front.1 a.0 h.body a.1) p.placed p.fits p.low b.1
+unit_behind_sound : (named : Span → Bool) (inner : ℕ) (ts : List Lexeme) (o : Found DeclarationTree) (u : UnitTree) → front_at named inner ts ≡ o → unit_behind named inner o ts ≡ Some u → UnitAnswers named (suc inner) ts u
+unit_behind_sound named inner ts None u is e =
+    let a = bind_some (declaration_at named true inner ts) declared_on u e in
+    let b = if_some (is_end a.0.1) (Some (s.declares no_node a.0.0)) u a.2 in
+    let p = (declaration_sound named true inner ts a.0.0 a.0.1 a.1).0 in
+    subst (UnitAnswers named (suc inner) ts) (some_is (s.declares no_node a.0.0) u b.1) (record {
+      text = p.tokens ∙ ap (λ r. declaration_tokens a.0.0 ++ r) (end_is a.0.1 b.0) ∙ append-nil (declaration_tokens a.0.0);
+      placed = p.placed;
+      fits = p.fits;
+      low = omega (arith, p.height);
+    })
+unit_behind_sound named inner ts (Some front) u is e =
+    let a = bind_some (statement_at named inner front.1) (defined_on front.0) u e in
+    let b = if_some (is_end a.0.1) (function_of front.0 a.0.0) u a.2 in
+    let h = (front_sound named inner ts front.0 front.1 is).0 in
+    let p = statement_sound named inner front.1 a.0 a.1 in
+    function_sound named inner ts front.1 front.0 a.0.0 u h (p.text ∙ sym (tokens-append a.0.0 a.0.1) ∙ ap (λ r. statement_tokens a.0.0 ++ r) (end_is a.0.1 b.0) ∙ append-nil (statement_tokens a.0.0))
+    (block_of_body named inner front.1 a.0 h.body a.1) p.placed p.fits p.low b.1
 
-  unit_on_sound : (named : Span → Bool) (inner : ℕ) (ts : List Lexeme) (b : Bool) (u : UnitTree) → is_semicolon ts ≡ b → unit_on named inner b ts ≡ Some u → UnitAnswers named (suc inner) ts u
-  unit_on_sound named inner ts true u is e =
-      subst (UnitAnswers named (suc inner) ts) (some_is (s.empty_unit no_node) u e) (record { text = lone_is ts is; placed = refl; fits = refl; low = omega arith })
-  unit_on_sound named inner ts false u is e = unit_behind_sound named inner ts (front_at named inner ts) u refl e
+unit_on_sound : (named : Span → Bool) (inner : ℕ) (ts : List Lexeme) (b : Bool) (u : UnitTree) → is_semicolon ts ≡ b → unit_on named inner b ts ≡ Some u → UnitAnswers named (suc inner) ts u
+unit_on_sound named inner ts true u is e =
+    subst (UnitAnswers named (suc inner) ts) (some_is (s.empty_unit no_node) u e) (record { text = lone_is ts is; placed = refl; fits = refl; low = omega arith })
+unit_on_sound named inner ts false u is e = unit_behind_sound named inner ts (front_at named inner ts) u refl e
 
-  pub unit_sound : (named : Span → Bool) (room : ℕ) (ts : List Lexeme) (u : UnitTree) → unit_within named room ts ≡ Some u → UnitAnswers named room ts u
-  unfolding unit_within
-  unit_sound named zero ts u e = absurd cc
-  unit_sound named (suc inner) ts u e = unit_on_sound named inner ts (is_semicolon ts) u refl e
+pub unit_sound : (named : Span → Bool) (room : ℕ) (ts : List Lexeme) (u : UnitTree) → unit_within named room ts ≡ Some u → UnitAnswers named room ts u
+unfolding unit_within
+unit_sound named zero ts u e = absurd cc
+unit_sound named (suc inner) ts u e = unit_on_sound named inner ts (is_semicolon ts) u refl e
