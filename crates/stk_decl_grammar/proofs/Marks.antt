@@ -120,6 +120,10 @@ pub basic_no_paren : (w : Fixed) (ts : List Lexeme) → is_basic w ≡ true → 
 basic_no_paren fixed.RightParen ts h = absurd cc
 basic_no_paren other ts h = refl
 
+pub basic_no_right_brace : (w : Fixed) (ts : List Lexeme) → is_basic w ≡ true → behind_right_brace (Token w ∷ ts) ≡ None
+basic_no_right_brace fixed.RightBrace ts h = absurd cc
+basic_no_right_brace other ts h = refl
+
 -- ---- expressions
 
 pub opens_no_left_brace : (ts : List Lexeme) → Opens ts → behind_left_brace ts ≡ None

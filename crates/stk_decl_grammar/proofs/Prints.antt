@@ -10,6 +10,7 @@ use Rattle.stk_tree.specs.declared.declaration.Storage.TheVariants.{Typedef, Ext
 use Rattle.stk_tree.specs.Syntax.{BaseTree, BaseFormTree, MemberTree, MemberTrees, EnumrTree, EnumrTrees, DeclrTree, DeclrTrees, TailTree, ParamTree, ParamTrees, InitTree, MaybeInitTree, ItemTree, ItemTrees, DesigTree, DesigTrees, MaybeExprTree, DeclarationTree}
 use Rattle.stk_tree.specs.Syntax as s
 use Rattle.stk_tree.specs.Tokens.{base_form_tokens, base_tokens, declaration_tokens, declarator_tokens, declarators_tokens, designator_tokens, designators_tokens, enumerator_tokens, enumerators_tokens, expression_tokens, initial_tokens, initialiser_tokens, item_tokens, items_tokens, last_comma, member_tokens, members_tokens, more_declarators, more_enumerators, more_items, more_parameters, more_tokens, optional_word, parameter_tokens, parameters_tokens, path_end, stars, storage_tokens, tail_tokens, value_tokens}
+use Rattle.stk_decl_grammar.specs.Declarations.{front_tokens}
 use Rattle.stk_grammar.proofs.Prints.{dimensions-append, infix_append, prints, prints_dimensions, prints_stars, prints_words, stars-append, tokens-append, words-append}
 
 abbrev pub prints_name : Option Span → List Lexeme → List Lexeme
@@ -128,6 +129,10 @@ abbrev mutual
 
 abbrev pub prints_declaration : DeclarationTree → List Lexeme → List Lexeme
 prints_declaration (s.declaration word b ds) r = prints_storage word (prints_specifier b (prints_declarators ds (Token fixed.Semicolon ∷ r)))
+
+-- what stands before a function's body
+abbrev pub prints_front : DeclarationTree → List Lexeme → List Lexeme
+prints_front (s.declaration word b ds) r = prints_storage word (prints_specifier b (prints_declarators ds r))
 
 -- ---- these are the tokens of the tree, and then the others
 
@@ -275,3 +280,8 @@ declaration-append (s.declaration word b ds) r =
     (join (storage_tokens word ++ base_tokens b) (declarators_tokens ds) (Token fixed.Semicolon ∷ r) _ _ (declarators-append ds (Token fixed.Semicolon ∷ r))
     (join (storage_tokens word) (base_tokens b) (prints_declarators ds (Token fixed.Semicolon ∷ r)) _ _ (specifier-append b (prints_declarators ds (Token fixed.Semicolon ∷ r)))
     (storage-append word (prints_specifier b (prints_declarators ds (Token fixed.Semicolon ∷ r))))))
+
+pub front-append : (d : DeclarationTree) (r : List Lexeme) → front_tokens d ++ r ≡ prints_front d r
+front-append (s.declaration word b ds) r =
+    join (storage_tokens word ++ base_tokens b) (declarators_tokens ds) r _ _ (declarators-append ds r)
+    (join (storage_tokens word) (base_tokens b) (prints_declarators ds r) _ _ (specifier-append b (prints_declarators ds r)) (storage-append word (prints_specifier b (prints_declarators ds r))))
