@@ -1,5 +1,5 @@
 -- What declarations begin with.
-use Rattle.std.proofs.Common.{◌≡◌, ℕ, ◌≤◌, Bool, true, false, cond, ◌||◌, List, [], ◌∷◌, ◌++◌, Option, Some, None, refl, ap, ◌∙◌, append_assoc}
+use Rattle.std.proofs.Common.{◌≡◌, Bool, true, false, cond, ◌||◌, List, [], ◌∷◌, ◌++◌, Option, Some, None, refl, ap, ◌∙◌, append_assoc}
 use Rattle.stk_base.specs.declared.span.Span.{Span}
 use Rattle.stk_tree.specs.declared.declaration.Storage.{Storage}
 use Rattle.stk_tree.specs.declared.declaration.Storage.TheVariants.{Typedef, Extern, Static}
@@ -7,7 +7,6 @@ use Rattle.stk_tree.specs.declared.node.Node.{Node}
 use Rattle.stk_tree.specs.declared.fixed.Fixed.TheVariants as fixed
 use Rattle.stk_tree.specs.declared.fixed.Lexeme.{Lexeme}
 use Rattle.stk_tree.specs.declared.fixed.Lexeme.TheVariants.{Fixed as Token}
-use Rattle.stk_tree.specs.Height.{declaration_height}
 use Rattle.stk_tree.specs.Placed.{base_form_placed, file_placed, is_basic, local_placed}
 use Rattle.stk_tree.specs.Syntax.{BaseFormTree, DeclarationTree}
 use Rattle.stk_tree.specs.Syntax as s
@@ -15,9 +14,7 @@ use Rattle.stk_tree.specs.Tokens.{base_form_tokens, declaration_tokens, declarat
 use Rattle.stk_grammar.specs.Fits.{base_form_fits}
 use Rattle.stk_grammar.specs.Reading.{begins_type, behind_right_brace, is_tag_word}
 use Rattle.stk_grammar.proofs.Operators.{both_true}
-use Rattle.stk_decl_grammar.specs.Bare.{bare_declaration}
-use Rattle.stk_decl_grammar.specs.Declarations.{DeclarationLeads, FrontLeads, declaration_fits, declaration_placed, front_placed, front_tokens, opens_body}
-use Rattle.stk_decl_grammar.specs.Reading.{declaration_at, front_at}
+use Rattle.stk_decl_grammar.specs.Declarations.{declaration_fits, front_placed, front_tokens}
 use Rattle.stk_stmt_grammar.specs.Reading.{begins_local, begins_static, behind_else, is_semicolon}
 
 -- ---- what a base begins with
