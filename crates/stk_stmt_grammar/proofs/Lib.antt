@@ -2,6 +2,8 @@ pub mod Apart
 pub mod Complete
 pub mod Declarations
 pub mod Found
+pub mod LaidBare
+pub mod LaidFits
 pub mod Laws
 pub mod Prints
 pub mod Shorter
