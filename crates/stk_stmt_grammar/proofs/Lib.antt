@@ -10,4 +10,5 @@ pub mod Shorter
 pub mod Sound
 pub mod Starts
 pub mod Steps
+pub mod Turns
 pub mod Units
