@@ -7,9 +7,9 @@ use Rattle.stk_tree.specs.declared.fixed.Fixed.{Fixed}
 use Rattle.stk_tree.specs.declared.fixed.Lexeme.{Lexeme}
 use Rattle.stk_tree.specs.declared.fixed.Lexeme.TheVariants.{Leaf, Fixed as Token}
 use Rattle.stk_tree.specs.Placed.{is_basic}
-use Rattle.stk_grammar.specs.Reading.{texts_at, words_at, words_on}
+use Rattle.stk_grammar.specs.Reading.{basic_at, texts_at, words_at, words_on}
 use Rattle.stk_grammar.proofs.Operators.{if_some, some_is}
-use Rattle.stk_expr.specs.Fronts.{basic_at, text_at}
+use Rattle.stk_expr.specs.Fronts.{text_at}
 
 -- a row whose first element is added to what was collected
 abbrev pub IsRow : {A : Type 0} → List A → List A × List Lexeme → List A × List Lexeme → Type 0

@@ -1,11 +1,9 @@
 -- What stands at the front of some tokens, and what was read before them.
-use Rattle.std.specs.Prelude.{cond, List, [], ◌∷◌, Some, None}
+use Rattle.std.specs.Prelude.{List, [], ◌∷◌, Some, None}
 use Rattle.stk_base.specs.declared.span.Span.{Span}
 use Rattle.stk_base.specs.declared.token.Class.TheVariants.{Text}
-use Rattle.stk_tree.specs.declared.fixed.Fixed.{Fixed}
 use Rattle.stk_tree.specs.declared.fixed.Lexeme.{Lexeme}
 use Rattle.stk_tree.specs.declared.fixed.Lexeme.TheVariants.{Leaf, Fixed as Token}
-use Rattle.stk_tree.specs.Placed.{is_basic}
 use Rattle.stk_tree.specs.View.{chained}
 use Rattle.stk_grammar.specs.Reading.{Found}
 

@@ -13,8 +13,8 @@ use std::alloc::{AllocError, AllocFailed, Global};
 use stk_base::{Class, List, Span};
 use stk_ctype::Names;
 use stk_grammar::{
-    Head, Suffix, basic_at, behind_left_paren, head_of, is_basic, is_tag_word, suffix_left, suffix_level,
-    suffix_of, word_at,
+    Head, Suffix, basic_at, behind_left_paren, head_of, is_basic, is_tag_word, suffix_left,
+    suffix_level, suffix_of, word_at,
 };
 use stk_tree::{BaseForm, Fixed, Lexeme};
 

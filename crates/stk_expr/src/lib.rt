@@ -7,8 +7,9 @@ mod parse;
 mod reader;
 mod reading;
 
+pub use front::{begins_type, is_named, words};
 pub use parse::Parse;
-pub use reading::expr;
+pub use reading::{Leading, expr, expression};
 
 #[cfg(test)]
 mod tests;

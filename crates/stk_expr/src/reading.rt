@@ -1,15 +1,18 @@
-ghost use Rattle.std.specs.Prelude.{◌≡◌, ◌≤◌, IfOk, length, ℕ};
+ghost use Rattle.std.specs.Prelude.{◌≡◌, ◌≤◌, IfOk, List, length, ℕ};
 ghost use Rattle.std.specs.Result.{IsErrOf};
+ghost use Rattle.stk_tree.specs.declared.fixed.Lexeme.{Lexeme};
+ghost use Rattle.stk_tree.specs.Height.{expression_height};
 ghost use Rattle.stk_tree.specs.Syntax.{ExprTree};
 ghost use Rattle.stk_tree.specs.View.{view_expression};
 ghost use Rattle.stk_grammar.specs.Bare.{bare_expression};
-ghost use Rattle.stk_grammar.specs.Expressions.{IsExpression};
+ghost use Rattle.stk_grammar.specs.Expressions.{IsExpression, Leads};
 ghost use Rattle.stk_expr.specs.Gives.{named};
 
 use crate::front::stops;
 use crate::parse::Parse;
-use crate::reader::expression;
+use crate::reader;
 use std::alloc::Global;
+use stk_base::Boxed;
 use stk_ctype::Names;
 use stk_tree::{Expr, Lexeme};
 
@@ -37,9 +40,50 @@ pub fn expr(
         → (t : ExprTree) (to : ℕ) → IsExpression (named bytes.now names.now) level lexemes.now at to t → ⊥ }
 {
     let (_, front) = lexemes.split_at(at);
-    let found = expression(alloc, bytes, names, 400, level as usize, front)?;
+    let found = reader::expression(alloc, bytes, names, 400, level as usize, front)?;
     if stops(level as usize, found.rest) {
         Ok((found.tree.into_inner(), lexemes.len() - found.rest.len()))
+    } else {
+        Err(Parse::NoTree)
+    }
+}
+
+/// An expression at the front of some tokens, its height, and the tokens behind it.
+#[derive(Drop)]
+pub struct Leading<'a> {
+    pub tree: Boxed<Expr>,
+    pub height: usize,
+    pub rest: &'a [Lexeme],
+}
+
+/// Reads the expression of the level `level` or a higher one that these tokens begin with, where a stop stands behind it
+/// (C11 6.5). This is the call for readers of what holds expressions; `room` is the height that is left.
+///
+/// The tree is well placed, fits the names, is at most `room` high and is followed by a stop, as with `expr`. `NoTree` comes
+/// exactly where the tokens begin with no such expression. The records of its nodes aren't set.
+pub fn expression<'a>(
+    alloc: Global,
+    bytes: &[u8],
+    names: &Names,
+    room: usize,
+    level: usize,
+    lexemes: &'a [Lexeme],
+) -> Result<Leading<'a>, Parse>
+    requires room { room ≤ 400 }
+    requires level { (1 ≤ level) × (level ≤ 17) }
+    ensures found { IfOk result (λ x. Leads (named bytes.now names.now) room level lexemes.now (view_expression x.tree) x.rest.now) }
+    ensures bare { IfOk result (λ x. bare_expression (view_expression x.tree) ≡ view_expression x.tree) }
+    ensures height { IfOk result (λ x. x.height ≡ expression_height (view_expression x.tree)) }
+    ensures none { IsErrOf result Parse.NoTree
+        → (t : ExprTree) (rest : List Lexeme) → Leads (named bytes.now names.now) room level lexemes.now t rest → ⊥ }
+{
+    let found = reader::expression(alloc, bytes, names, room, level, lexemes)?;
+    if stops(level, found.rest) {
+        Ok(Leading {
+            tree: found.tree,
+            height: found.height,
+            rest: found.rest,
+        })
     } else {
         Err(Parse::NoTree)
     }

@@ -65,3 +65,23 @@ none_by named room least ts wide h (Some (t, rest)) e = absurd (h t rest (stoppe
 -- where nothing stands so, nothing is read
 pub none_leads : (named : Span → Bool) (room least : ℕ) (ts : List Lexeme) → least ≤ 17 → ((t : ExprTree) (rest : List Lexeme) → Leads named room least ts t rest → ⊥) → stopped_at named room least ts ≡ None
 none_leads named room least ts wide h = none_by named room least ts wide h (stopped_at named room least ts) refl
+
+-- ---- what a reader of expressions says, once it was seen whether a stop follows
+
+pub stopped_some : (named : Span → Bool) (room least : ℕ) (ts : List Lexeme) (t : ExprTree) (rest : List Lexeme) → expression_at named room least ts ≡ Some (t, rest) → stops least rest ≡ true → stopped_at named room least ts ≡ Some (t, rest)
+unfolding stopped_at
+stopped_some named room least ts t rest e s =
+    ap (λ (o : Found ExprTree). o >>= if_stopped least) e ∙ ap (λ (b : Bool). cond b (Some (t, rest)) None) s
+
+pub stopped_without : (named : Span → Bool) (room least : ℕ) (ts : List Lexeme) → expression_at named room least ts ≡ None → stopped_at named room least ts ≡ None
+unfolding stopped_at
+stopped_without named room least ts e = ap (λ (o : Found ExprTree). o >>= if_stopped least) e
+
+pub stopped_by_more : (named : Span → Bool) (room least : ℕ) (ts : List Lexeme) (t : ExprTree) (rest : List Lexeme) → expression_at named room least ts ≡ Some (t, rest) → stops least rest ≡ false → stopped_at named room least ts ≡ None
+unfolding stopped_at
+stopped_by_more named room least ts t rest e s =
+    ap (λ (o : Found ExprTree). o >>= if_stopped least) e ∙ ap (λ (b : Bool). cond b (Some (t, rest)) None) s
+
+-- where nothing is read, nothing stands so
+pub nothing_leads : (named : Span → Bool) (room least : ℕ) (ts : List Lexeme) → stopped_at named room least ts ≡ None → (t : ExprTree) (rest : List Lexeme) → Leads named room least ts t rest → ⊥
+nothing_leads named room least ts e t rest h = let k = leads_read named room least ts t rest h in cc (sym e ∙ k)
