@@ -9,10 +9,10 @@ use Rattle.stk_tree.specs.declared.fixed.Lexeme.{Lexeme}
 use Rattle.stk_tree.specs.declared.fixed.Lexeme.TheVariants.{Leaf, Fixed as Token}
 use Rattle.stk_tree.specs.Syntax.{DeclrTree, DeclrTrees, DimensionTree, DimensionTrees, MaybeInitTree, TailTree}
 use Rattle.stk_tree.specs.Syntax as s
-use Rattle.stk_tree.specs.Height.{declarator_height, tail_height}
-use Rattle.stk_tree.specs.Placed.{declarator_placed, function_declarator, has_arrays, has_name, tail_placed}
+use Rattle.stk_tree.specs.Height.{declarator_height, maybe_initialiser_height, tail_height}
+use Rattle.stk_tree.specs.Placed.{declarator_placed, function_declarator, has_arrays, has_name, maybe_initialiser_placed, tail_placed}
 use Rattle.stk_grammar.specs.Bare.{no_node, bare_declarator, bare_dimensions, bare_maybe_initialiser, bare_tail}
-use Rattle.stk_grammar.specs.Fits.{declarator_fits, tail_fits}
+use Rattle.stk_grammar.specs.Fits.{declarator_fits, maybe_initialiser_fits, tail_fits}
 use Rattle.stk_grammar.specs.Reading.{◌>>=◌, Found, behind_left_bracket, behind_left_paren, dimensions_at, stars_at}
 use Rattle.stk_grammar.specs.Stopped.{stopped_at}
 use Rattle.stk_grammar.proofs.Complete.{stars_read_all}
@@ -64,9 +64,6 @@ tail_read (s.with_parameters ps more) named room false r h p q low paren bracket
 -- placed behind a name
 abbrev pub allowed_placed : Bool → TailTree → Bool
 allowed_placed file t = tail_allowed file t && tail_placed t
-
-allowed_of_parameters : (t : TailTree) → (parameter_tail t && tail_placed t) ≡ true → tail_placed t ≡ true
-allowed_of_parameters t h = (both_true _ _ h).1
 
 arrays_found : (named : Span → Bool) (room : ℕ) (file : Bool) (ts : List Lexeme) (x : TailTree × List Lexeme) → (dimensions_at (stopped_at named room) (suc (length ts)) ts >>= λ ds. let y : Found TailTree = Some (s.arrays ds.0, ds.1) in y) ≡ Some x
     → (ts ≡ prints_tail x.0 x.1) × (allowed_placed file x.0 ≡ true) × (tail_fits named x.0 ≡ true)
@@ -160,6 +157,20 @@ declares_named : (file : Bool) (n : Node) (count : ℕ) (at : Span) (t : TailTre
 declares_named true n count at t i a p = p
 declares_named false n count at t i a p = true_both _ _ (allowed_arrays n count (Some at) t i (both_true _ _ a).0) p
 
+-- the stars, the name, the tail and the initialiser that were found make a declarator
+declarator_stands : (named : Span → Bool) (inner : ℕ) (file : Bool) (ts : List Lexeme) (count : ℕ) (u : List Lexeme) (at : Span) (v : List Lexeme) (t : TailTree) (w : List Lexeme) (i : MaybeInitTree) (r : List Lexeme) (x : DeclrTree × List Lexeme)
+    → ts ≡ prints_stars count u → u ≡ Leaf Word at ∷ v → not (named at) ≡ true → v ≡ prints_tail t w → allowed_placed file t ≡ true → tail_fits named t ≡ true
+    → Stands prints_initial maybe_initialiser_placed (maybe_initialiser_fits named) maybe_initialiser_height inner w (i, r) → declarator_height (s.declarator no_node count (Some at) t i) ≤ suc inner
+    → ◌≡◌ {A = Found DeclrTree} (Some (s.declarator no_node count (Some at) t i, r)) (Some x) → Stands prints_declarator (declares file) (declarator_fits named) declarator_height (suc inner) ts x
+declarator_stands named inner file ts count u at v t w i r x stars name fit tail allowed fits k low e =
+    subst (Stands prints_declarator (declares file) (declarator_fits named) declarator_height (suc inner) ts) (some_is (s.declarator no_node count (Some at) t i, r) x e)
+    (record {
+      text = stars ∙ ap (prints_stars count) (name ∙ ap (λ r. Leaf Word at ∷ r) (tail ∙ ap (prints_tail t) k.text));
+      placed = declares_named file no_node count at t i allowed (true_both _ _ (both_true _ _ allowed).1 k.placed);
+      fits = true_both _ _ (true_both _ _ fit fits) k.fits;
+      low = low;
+    })
+
 pub declarator_found : (named : Span → Bool) (room : ℕ) (file : Bool) → FindsOnly prints_declarator (declares file) (declarator_fits named) declarator_height room (declarator_at named room file)
 unfolding declarator_at
 declarator_found named zero file ts x e = absurd cc
@@ -172,14 +183,7 @@ declarator_found named (suc inner) file ts x e =
     let p = name_found named y.1 a.0 a.1 in
     let q = tail_on_found named inner file (behind_left_paren a.0.1) a.0.1 b.0 refl b.1 in
     let k = initial_found named inner b.0.1 d.0 d.1 in
-    let tree : DeclrTree = s.declarator no_node y.0 (Some a.0.0) b.0.0 d.0.0 in
-    subst (Stands prints_declarator (declares file) (declarator_fits named) declarator_height (suc inner) ts) (some_is (tree, d.0.1) x c.1)
-    (record {
-      text = stars_is 0 ts ∙ ap (prints_stars y.0) (p.0 ∙ ap (λ r. Leaf Word a.0.0 ∷ r) (q.0 ∙ ap (prints_tail b.0.0) k.text));
-      placed = declares_named file no_node y.0 a.0.0 b.0.0 d.0.0 q.1 (true_both _ _ (both_true _ _ q.1).1 k.placed);
-      fits = true_both _ _ (true_both _ _ p.1 q.2) k.fits;
-      low = leb-true _ _ c.0;
-    })
+    declarator_stands named inner file ts y.0 y.1 a.0.0 a.0.1 b.0.0 b.0.1 d.0.0 d.0.1 x (stars_is 0 ts) p.0 p.1 q.0 q.1 q.2 k (leb-true _ _ c.0) c.1
 
 -- ---- the declarator of a function
 

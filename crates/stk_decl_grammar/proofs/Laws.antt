@@ -1,11 +1,10 @@
 -- What the definitions say, whoever reads: one declaration, one place, and what the reader's answers mean.
-use Rattle.std.proofs.Common.{◌≡◌, ℕ, ◌+◌, ◌-◌, ◌≤◌, max, Bool, true, false, List, [], ◌∷◌, ◌++◌, length, take, drop, slice_range, Option, Some, None, refl, sym, ap, ◌∙◌, arith}
+use Rattle.std.proofs.Common.{◌≡◌, ℕ, ◌+◌, ◌-◌, ◌≤◌, max, Bool, List, ◌++◌, length, take, drop, slice_range, Some, None, refl, sym, ap, ◌∙◌, arith}
 use Rattle.std.proofs.lemmas.List.{take-append-drop, length-append, length-drop, drop-drop}
 use Rattle.std.proofs.Math.Seq.{drop-append_seam, take-append_seam}
 use Rattle.stk_base.specs.declared.span.Span.{Span}
 use Rattle.stk_tree.specs.declared.fixed.Lexeme.{Lexeme}
 use Rattle.stk_tree.specs.Syntax.{DeclarationTree}
-use Rattle.stk_tree.specs.Height.{declaration_height}
 use Rattle.stk_tree.specs.Tokens.{declaration_tokens}
 use Rattle.stk_grammar.specs.Reading.{Found}
 use Rattle.stk_grammar.proofs.Operators.{some_is}

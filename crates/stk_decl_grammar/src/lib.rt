@@ -2,6 +2,10 @@
 //! and the laws of both (C11 6.7).
 #![tactic(auto)]
 
+mod fronts;
 mod one_way;
 
+pub use fronts::{
+    begins_designator, behind_more, behind_void, opens_body, optional_word_at, storage_at,
+};
 pub use one_way::{one_declaration, one_front};

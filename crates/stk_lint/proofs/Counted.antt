@@ -7,13 +7,13 @@ use Rattle.stk_tree.specs.Syntax.{StmtTree, PartTree, PartTrees, FunctionTree, U
 use Rattle.stk_tree.specs.Syntax as s
 use Rattle.stk_tree.specs.Tokens.{statement_tokens, part_tokens, parts_tokens, function_tokens, unit_tokens}
 use Rattle.stk_tree.specs.Layout.{laid_statement, laid_part, laid_parts, laid_function, unit_laid_out, node_at}
-use Rattle.stk_lexeme.specs.Lexemes.{lexemes_of}
+use Rattle.stk_lexeme.specs.Lexemes.{lexemes_of, spans_of}
 use Rattle.stk_meaning.specs.declared.finding.Finding.{Finding}
 use Rattle.stk_meaning.specs.declared.finding.Finding.TheVariants.{Clear, Unstable, Undecided}
 use Rattle.stk_meaning.specs.Parts.{statement_candidates, part_candidates, parts_candidates, candidates, arm}
 use Rattle.stk_small.specs.SmallForm.{IsSmallFunction, IsSmall}
 use Rattle.stk_lint.specs.declared.records.Counts.{Counts}
-use Rattle.stk_lint.specs.LawfulText.{Prints, spans_of, unstable_count, IsUnitText, accepted, judged, other_form}
+use Rattle.stk_lint.specs.LawfulText.{Prints, unstable_count, IsUnitText, accepted, judged, other_form}
 use Rattle.stk_lint.specs.Judged.{AreAtMost}
 use Rattle.stk_lint.proofs.Findings.{length_same}
 

@@ -11,9 +11,9 @@ use Rattle.stk_tree.specs.Syntax as s
 use Rattle.stk_tree.specs.Layout.{laid_expression, laid_declarator, laid_declarators, laid_declaration, laid_statement, laid_part, laid_parts, laid_function, node_at}
 use Rattle.stk_tree.specs.Layout.{unit_laid_out, node_at}
 use Rattle.stk_lex.specs.declared.token.Token.{Token}
-use Rattle.stk_lexeme.specs.Lexemes.{lexemes_of}
+use Rattle.stk_lexeme.specs.Lexemes.{lexemes_of, spans_of}
 use Rattle.stk_lint.specs.declared.records.Counts.{Counts}
-use Rattle.stk_lint.specs.LawfulText.{Prints, spans_of, IsEmpty, IsUnitText, accepted, judged, other_form, nothing_counted, one_skipped}
+use Rattle.stk_lint.specs.LawfulText.{Prints, IsEmpty, IsUnitText, accepted, judged, other_form, nothing_counted, one_skipped}
 use Rattle.stk_lint.specs.Records.{other_form_text}
 use Rattle.stk_lint.specs.Judged.{IsJudged, IsReadAs}
 use Rattle.stk_tree.specs.declared.node.Node.{Node}
@@ -137,7 +137,7 @@ module _ (bytes : List ℕ) where
 -- what is read as a function is one that the tokens print, and it is plain
 pub read_function : (bytes : List ℕ) (tokens : List Token) (n : Node) (f : FunctionTree) (u : UnitTree) → IsSmall bytes u → unit_tokens u ≡ lexemes_of bytes tokens → s.defines n f ≡ unit_laid_out (spans_of tokens) u → Prints bytes tokens f × IsPlain bytes f
 read_function bytes tokens n f (s.defines m g) small printed e =
-    let same : laid_function (spans_of tokens) 0 0 g ≡ f = cc in
+    let same : laid_function (node_at (spans_of tokens)) 0 0 g ≡ f = cc in
     (record { unit = s.defines m g; node = n; small = small; printed = printed; laid_out = sym e }, subst (IsPlain bytes) same (laid_plain (spans_of tokens) bytes 0 0 g (function_plain bytes g small)))
 read_function bytes tokens n f u small printed e = absurd small
 
