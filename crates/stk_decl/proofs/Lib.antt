@@ -1,2 +1,3 @@
 pub mod Low
 pub mod Rows
+pub mod Steps

@@ -1,21 +1,21 @@
 -- What the readers of initialisers read is no higher than the room that they have.
-use Rattle.std.proofs.Common.{◌≡◌, ℕ, zero, suc, ◌+◌, ◌≤◌, max, Bool, true, false, cond, List, [], ◌∷◌, length, Option, Some, None, refl, sym, ap, subst, ◌∙◌, arith}
+use Rattle.std.proofs.Common.{◌≡◌, ℕ, zero, suc, ◌≤◌, Bool, false, List, length, Option, Some, None, sym, subst, ◌∙◌, arith}
 use Rattle.std.proofs.lemmas.Bool.{leb-true}
 use Rattle.stk_base.specs.declared.span.Span.{Span}
 use Rattle.stk_tree.specs.declared.fixed.Lexeme.{Lexeme}
-use Rattle.stk_tree.specs.Height.{designators_height, initialiser_height, item_height, items_height, maybe_initialiser_height}
+use Rattle.stk_tree.specs.Height.{designators_height, initialiser_height, item_height, items_height}
 use Rattle.stk_tree.specs.Syntax.{DesigTrees, InitTree, ItemTree, ItemTrees, MaybeInitTree}
 use Rattle.stk_tree.specs.Syntax as s
-use Rattle.stk_grammar.specs.Reading.{◌>>=◌, Found, behind_assign, behind_left_brace, behind_right_brace}
+use Rattle.stk_grammar.specs.Reading.{◌>>=◌, Found, behind_left_brace, behind_right_brace}
 use Rattle.stk_grammar.specs.Stopped.{stopped_at}
 use Rattle.stk_grammar.proofs.Operators.{bind_some, if_some, some_is}
 use Rattle.stk_grammar.proofs.Stopped.{stopped_sound}
-use Rattle.stk_decl_grammar.specs.Reading.{Reader, behind_path, designator_at, designators_at, initial_at, initialiser_at, initialiser_on, item_at, items_at, items_from, low_path, more_items_at, optional_initialiser, path_at}
+use Rattle.stk_decl_grammar.specs.Reading.{Reader, behind_path, designator_at, designators_at, initialiser_at, initialiser_on, item_at, items_at, items_from, low_path, more_items_at, path_at}
 use Rattle.stk_decl.specs.declared.turns.Turn.{Turn}
 use Rattle.stk_decl.specs.declared.turns.Turn.TheVariants.{End, More}
-use Rattle.stk_decl.specs.Rows.{first_of, paired}
+use Rattle.stk_decl.specs.Rows.{paired}
 use Rattle.stk_decl.specs.Turns.{brace_turn}
-use Rattle.stk_decl.proofs.Rows.{IsRow, items_row, turned}
+use Rattle.stk_decl.proofs.Rows.{items_row, turned}
 
 -- what is read at the front of any tokens is no higher than n
 abbrev pub ReadsLow : {X : Type 0} → (X → ℕ) → ℕ → Reader X → Type 0

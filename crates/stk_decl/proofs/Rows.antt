@@ -73,7 +73,7 @@ pub row_more : {X T : Type 0} (add : X → T → T) (last : Bool → T) (one : R
 row_more {X = X} add last one turn row is end i xs ts next rest x total within t by so_far =
     sym (in_front-after add xs x (row (end - (i + 1)) rest))
     ∙ ap (in_front add xs) (sym (at_turn add last one turn row is end i ts (Some (More, next)) within t
-        ∙ ap (λ (o : Found X). o >>= λ x. row (end - (i + 1)) x.1 >>= λ xs. Some (add x.0 xs.0, xs.1)) by))
+    ∙ ap (λ (o : Found X). o >>= λ x. row (end - (i + 1)) x.1 >>= λ xs. Some (add x.0 xs.0, xs.1)) by))
     ∙ so_far
 
 -- an element that can't be read
@@ -83,7 +83,7 @@ pub row_fails : {X T : Type 0} (add : X → T → T) (last : Bool → T) (one : 
 row_fails add last one turn row is parse.NoMemory end i xs ts next total within t h so_far = tt
 row_fails {X = X} add last one turn row is parse.NoTree end i xs ts next total within t h so_far =
     sym so_far ∙ ap (in_front add xs) (at_turn add last one turn row is end i ts (Some (More, next)) within t
-        ∙ ap (λ (o : Found X). o >>= λ x. row (end - (i + 1)) x.1 >>= λ xs. Some (add x.0 xs.0, xs.1)) h)
+    ∙ ap (λ (o : Found X). o >>= λ x. row (end - (i + 1)) x.1 >>= λ xs. Some (add x.0 xs.0, xs.1)) h)
 
 -- tokens at which the row neither goes on nor ends
 pub row_stops : {X T : Type 0} (add : X → T → T) (last : Bool → T) (one : Reader X) (turn : List Lexeme → Found Turn) (row : ℕ → Reader T) → IsRow add last one turn row

@@ -1,5 +1,5 @@
 -- Rows with a first element, and whether a mark of its own stands before the end.
-use Rattle.std.specs.Prelude.{ℕ, suc, Bool, List, length, Some}
+use Rattle.std.specs.Prelude.{ℕ, suc, Bool, length, Some}
 use Rattle.stk_grammar.specs.Reading.{◌>>=◌}
 use Rattle.stk_decl_grammar.specs.Reading.{Reader}
 

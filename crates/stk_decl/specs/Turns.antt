@@ -1,5 +1,5 @@
 -- How a row of elements goes on, told by the tokens behind an element.
-use Rattle.std.specs.Prelude.{Bool, true, false, List, Option, Some, None}
+use Rattle.std.specs.Prelude.{true, false, List, Option, Some, None}
 use Rattle.stk_tree.specs.declared.fixed.Lexeme.{Lexeme}
 use Rattle.stk_grammar.specs.Reading.{Found, behind_comma, behind_right_brace, behind_right_paren, behind_semicolon}
 use Rattle.stk_decl_grammar.specs.Reading.{more_ends}

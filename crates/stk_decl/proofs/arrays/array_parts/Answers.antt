@@ -1,4 +1,4 @@
-use Rattle.std.proofs.Common.{suc, ◌+◌, length, map, refl, sym, ap, arith}
+use Rattle.std.proofs.Common.{◌+◌, length, map, refl, arith}
 use Rattle.std.proofs.lemmas.Result.{err_from_is_err_and}
 use Rattle.stk_tree.specs.View.{view_dimension}
 use Rattle.stk_grammar.specs.Reading.{dimensions_at}

@@ -6,6 +6,7 @@ use Rattle.stk_decl_grammar.specs.Reading.{full_base_at, member_at, more_members
 use Rattle.stk_expr.specs.Gives.{named}
 use Rattle.stk_expr.proofs.Rows.{map_push}
 use Rattle.stk_decl.proofs.Rows.{first_begins, member_end, member_more, members_first, members_row, pushed_first, row_ends, row_fails, row_more, row_spent}
+use Rattle.stk_decl.proofs.Steps.{reserved_base}
 use Rattle.stk_decl.proofs.bases.+base.Goals as goal
 
 pub members-loop-turn-init : goal.members-loop-turn-init
@@ -29,3 +30,7 @@ members-loop-turn-preserved t c =
 pub members-returns : goal.members-returns
 members-returns t c =
     row_spent _ _ _ _ _ (members_row (member_at (named c.args.bytes.now c.args.names.now) c.args.room (full_base_at (named c.args.bytes.now c.args.names.now) c.args.room))) (length c.in_ok-first.rest.now + 1) c.loop-turn._turn (map view_member c.loop-turn.list.items) c.loop-turn.rest.now _ c.loop-turn-test.false c.loop-turn.invariant
+
+pub full_base-returns-in-Fixed : goal.full_base-returns-in-Fixed
+full_base-returns-in-Fixed t c =
+    rw (reserved_base (named c.args.bytes.now c.args.names.now) c.args.room c.args.lexemes.now c.in-Some.lexeme.now c.in-Fixed.word c.in-Some.rest.now c.if-room-eq0.false c.in-Some.ensures.cases.0 c.in-Fixed.is) c.reserved_base.ensures

@@ -1,4 +1,4 @@
-use Rattle.std.proofs.Common.{◌≡◌, ◌-◌, ◌+◌, ◌≤◌, suc, length, map}
+use Rattle.std.proofs.Common.{◌≡◌, ◌-◌, suc, length, map}
 use Rattle.stk_tree.specs.Height.{designators_height}
 use Rattle.stk_tree.specs.Syntax as s
 use Rattle.stk_tree.specs.View.{designators, view_designator}

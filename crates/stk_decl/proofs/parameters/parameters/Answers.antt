@@ -1,4 +1,4 @@
-use Rattle.std.proofs.Common.{◌+◌, length, map, refl, sym, ◌∙◌, arith}
+use Rattle.std.proofs.Common.{◌+◌, length, map, refl, sym, arith}
 use Rattle.std.proofs.lemmas.Result.{err_from_is_err_and}
 use Rattle.stk_tree.specs.Syntax as s
 use Rattle.stk_tree.specs.View.{view_parameter}
