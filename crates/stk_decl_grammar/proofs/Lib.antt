@@ -1,0 +1,13 @@
+pub mod Arrays
+pub mod Bases
+pub mod Declarations
+pub mod Declarators
+pub mod Enumerators
+pub mod Heights
+pub mod Initialisers
+pub mod Laws
+pub mod Lists
+pub mod Marks
+pub mod Parameters
+pub mod Prints
+pub mod Stands

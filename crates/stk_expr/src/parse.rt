@@ -27,3 +27,11 @@ impl<T: Drop> From<AllocFailed<T>> for Parse {
         Parse::NoMemory
     }
 }
+
+impl From<stk_base::NoMemory> for Parse {
+    ghost from_gives = { λ _ e. e ≡ NoMemory };
+
+    fn from(_: stk_base::NoMemory) -> Self {
+        Parse::NoMemory
+    }
+}

@@ -2,8 +2,10 @@ ghost use Rattle.std.specs.Prelude.{◌≡◌, ◌≤◌, IfOk, List, length, �
 ghost use Rattle.std.specs.Result.{IsErrOf};
 ghost use Rattle.stk_tree.specs.declared.fixed.Lexeme.{Lexeme};
 ghost use Rattle.stk_tree.specs.Height.{expression_height};
+ghost use Rattle.stk_tree.specs.Layout.{laid_expression, unnumbered_at};
 ghost use Rattle.stk_tree.specs.Syntax.{ExprTree};
 ghost use Rattle.stk_tree.specs.View.{view_expression};
+ghost use Rattle.stk_lexeme.specs.Lexemes.{lexemes_of, spans_of};
 ghost use Rattle.stk_grammar.specs.Bare.{bare_expression};
 ghost use Rattle.stk_grammar.specs.Expressions.{IsExpression, Leads};
 ghost use Rattle.stk_expr.specs.Gives.{named};
@@ -14,17 +16,14 @@ use crate::reader;
 use std::alloc::Global;
 use stk_base::Boxed;
 use stk_ctype::Names;
+use stk_layout::place_expression;
+use stk_lex::Token;
+use stk_lexeme::{lexemes_of, spans_of};
 use stk_tree::{Expr, Lexeme};
 
-/// Reads the expression of the level `level` or a higher one that begins at the place `at`, and says at which place it ends
-/// (C11 6.5).
-///
-/// `lexemes` are the tokens of `bytes`, and the words that `names` has as typedef names stand for types. The answered tree is
-/// well placed, fits the names, is at most 400 high and prints exactly the tokens from `at` up to the answered place, where a
-/// stop stands: the end of the tokens, one of `)` `]` `}` `;` `:`, or, from level 2 on, `,`. `NoTree` comes exactly where no tree
-/// and no place are so. The records of its nodes aren't set: all of them have the number 0 and the empty span at 0, and the
-/// tree is laid out with the unit that it stands in.
-pub fn expr(
+/// Reads the expression of the level `level` or a higher one that begins at the place `at` among lexemes, and says at which
+/// place it ends. The records of its nodes aren't set.
+fn expression_at(
     alloc: Global,
     bytes: &[u8],
     lexemes: &[Lexeme],
@@ -46,6 +45,37 @@ pub fn expr(
     } else {
         Err(Parse::NoTree)
     }
+}
+
+/// Reads the expression of the level `level` or a higher one that begins at the place `at` among the tokens of a text, and says
+/// at which place it ends (C11 6.5). Levels go from 1, the comma's, to 17.
+///
+/// `tokens` are those of `bytes`, at most 16,777,216, and the words that `names` has as typedef names stand for types. The answered
+/// tree is well placed, fits the names, is at most 400 high and prints exactly the tokens from `at` up to the answered place,
+/// where a stop stands: the end of the tokens, one of `)` `]` `}` `;` `:`, or, from level 2 on, `,`. `NoTree` comes exactly where no
+/// tree and no place are so. Each node has the number 0 and the span of the tokens that it prints. It takes time and memory for all of
+/// the tokens.
+pub fn expr(
+    alloc: Global,
+    bytes: &[u8],
+    tokens: &[Token],
+    names: &Names,
+    at: usize,
+    level: u8,
+) -> Result<(Expr, usize), Parse>
+    requires level { (1 ≤ level) × (level ≤ 17) }
+    requires within { at ≤ length tokens.now }
+    requires few { length tokens.now ≤ 16777216 }
+    ensures found { IfOk result (λ x. IsExpression (named bytes.now names.now) level (lexemes_of bytes.now tokens.now) at x.1 (view_expression x.0)) }
+    ensures places { IfOk result (λ x. view_expression x.0 ≡ laid_expression (unnumbered_at (spans_of tokens.now)) 0 at (bare_expression (view_expression x.0))) }
+    ensures none { IsErrOf result Parse.NoTree
+        → (t : ExprTree) (to : ℕ) → IsExpression (named bytes.now names.now) level (lexemes_of bytes.now tokens.now) at to t → ⊥ }
+{
+    let lexemes = lexemes_of(alloc, bytes, tokens)?;
+    let spans = spans_of(alloc, tokens)?;
+    let (mut tree, end) = expression_at(alloc, bytes, lexemes.as_slice(), names, at, level)?;
+    place_expression(&mut tree, at as u32, spans.as_slice());
+    Ok((tree, end))
 }
 
 /// An expression at the front of some tokens, its height, and the tokens behind it.

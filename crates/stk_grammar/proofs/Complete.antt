@@ -95,7 +95,7 @@ part named (suc k) least t ts rest c low e = read_of_comes named k least t ts re
 -- ---- how trees begin
 
 -- some head begins here
-abbrev Opens : List Lexeme → Type 0
+abbrev pub Opens : List Lexeme → Type 0
 Opens ts = (h : Head × List Lexeme) × (first_head ts ≡ Some h)
 
 text_opens : (ps : List Span) (r : List Lexeme) → is_filled ps ≡ true → Opens (prints_texts ps r)
@@ -103,7 +103,7 @@ text_opens [] r h = absurd cc
 text_opens (p ∷ ps) r h = ((head.Text p, prints_texts ps r), refl)
 
 mutual
-  opens : (named : Span → Bool) (t : ExprTree) (r : List Lexeme) → IsWell named t → Opens (prints t r)
+  pub opens : (named : Span → Bool) (t : ExprTree) (r : List Lexeme) → IsWell named t → Opens (prints t r)
   opens named (s.expression n f) r w = form_opens named f r w
 
   form_opens : (named : Span → Bool) (f : ExprFormTree) (r : List Lexeme) → IsWellForm named f → Opens (prints_form f r)
@@ -133,7 +133,7 @@ no_right_paren [] h = refl
 no_right_paren (Token fixed.RightParen ∷ ts) h = let e = h.1 in absurd cc
 no_right_paren (t ∷ ts) h = refl
 
-no_right_bracket : (ts : List Lexeme) → Opens ts → behind_right_bracket ts ≡ None
+pub no_right_bracket : (ts : List Lexeme) → Opens ts → behind_right_bracket ts ≡ None
 no_right_bracket [] h = refl
 no_right_bracket (Token fixed.RightBracket ∷ ts) h = let e = h.1 in absurd cc
 no_right_bracket (t ∷ ts) h = refl
@@ -244,7 +244,7 @@ words_on_true : (b : Bool) (f : Fixed) (ts : List Lexeme) (x : List Fixed × Lis
 words_on_true true f ts x e = refl
 words_on_true false f ts x e = absurd cc
 
-words_read : (ws : List Fixed) (r : List Lexeme) → words_at r ≡ ([], r) → all_basic ws ≡ true → words_at (prints_words ws r) ≡ (ws, r)
+pub words_read : (ws : List Fixed) (r : List Lexeme) → words_at r ≡ ([], r) → all_basic ws ≡ true → words_at (prints_words ws r) ≡ (ws, r)
 unfolding words_at
 words_read [] r stays h = stays
 words_read (w ∷ ws) r stays h =
@@ -257,7 +257,7 @@ unfolding stars_at
 stars_read zero n r h = h n ∙ ap (λ m. (m, r)) (let e : n ≡ n + 0 = omega arith in e)
 stars_read (suc k) n r h = stars_read k (suc n) r h ∙ ap (λ m. (m, r)) (let e : suc n + k ≡ n + suc k = omega arith in e)
 
-stars_read_all : (k : ℕ) (r : List Lexeme) → ((m : ℕ) → stars_at m r ≡ (m, r)) → stars_at 0 (prints_stars k r) ≡ (k, r)
+pub stars_read_all : (k : ℕ) (r : List Lexeme) → ((m : ℕ) → stars_at m r ≡ (m, r)) → stars_at 0 (prints_stars k r) ≡ (k, r)
 stars_read_all k r h = stars_read k 0 r h ∙ ap (λ m. (m, r)) (let e : 0 + k ≡ k = omega arith in e)
 
 -- behind the `*` stands a `[` or the `)`
@@ -279,7 +279,7 @@ unfolding words_at
 stars_no_word zero ds r = dimensions_no_word ds r
 stars_no_word (suc k) ds r = refl
 
-cond_true : {A : Type 0} (b : Bool) (x y : A) → b ≡ true → cond b x y ≡ x
+pub cond_true : {A : Type 0} (b : Bool) (x y : A) → b ≡ true → cond b x y ≡ x
 cond_true true x y e = refl
 cond_true false x y e = absurd cc
 
@@ -287,7 +287,7 @@ words_base_read : (w : Fixed) (ws : List Fixed) (r : List Lexeme) → words_at r
     → cond (is_basic w) (words_base w (words_at (prints_words ws r))) (tag_base w (prints_words ws r)) ≡ Some (s.words (w ∷ ws), r)
 words_base_read w ws r stays h k = cond_true (is_basic w) _ _ h ∙ ap (words_base w) (words_read ws r stays k)
 
-base_read : (named : Span → Bool) (b : BaseFormTree) (r : List Lexeme) → IsWellBase named b → words_at r ≡ ([], r) → base_at named (prints_base b r) ≡ Some (bare_base_form b, r)
+pub base_read : (named : Span → Bool) (b : BaseFormTree) (r : List Lexeme) → IsWellBase named b → words_at r ≡ ([], r) → base_at named (prints_base b r) ≡ Some (bare_base_form b, r)
 base_read named (s.words []) r h stays = absurd cc
 base_read named (s.words (w ∷ ws)) r h stays = let c = both_true _ _ h in words_base_read w ws r stays c.0 c.1
 base_read named (s.struct_ref tag) r h stays = refl
@@ -299,7 +299,7 @@ base_read named (s.named at) r h stays = ap (λ b. cond b (Some (s.named at, r))
 word_begins_type : (named : Span → Bool) (w : Fixed) (r : List Lexeme) → is_basic w ≡ true → begins_type named (Token w ∷ r) ≡ true
 word_begins_type named w r h = cond_true (is_basic w) true _ h
 
-base_begins_type : (named : Span → Bool) (b : BaseFormTree) (r : List Lexeme) → IsWellBase named b → begins_type named (prints_base b r) ≡ true
+pub base_begins_type : (named : Span → Bool) (b : BaseFormTree) (r : List Lexeme) → IsWellBase named b → begins_type named (prints_base b r) ≡ true
 base_begins_type named (s.words []) r h = absurd cc
 base_begins_type named (s.words (w ∷ ws)) r h = let c = both_true _ _ h in word_begins_type named w (prints_words ws r) c.0
 base_begins_type named (s.struct_ref tag) r h = refl
@@ -374,12 +374,12 @@ all_first : (sub : Sub) (e : ExprTree) (es : ExprTrees) (ts next rest : List Lex
 unfolding arguments
 all_first sub e es ts next rest none by later = rw (none, by, later) refl
 
-dimension_open_next : (sub : Sub) (f : ℕ) (xs : DimensionTrees) (ts rest : List Lexeme) → dimensions_at sub f ts ≡ Some (xs, rest)
+pub dimension_open_next : (sub : Sub) (f : ℕ) (xs : DimensionTrees) (ts rest : List Lexeme) → dimensions_at sub f ts ≡ Some (xs, rest)
     → dimensions_at sub (suc f) (Token fixed.LeftBracket ∷ Token fixed.RightBracket ∷ ts) ≡ Some (s.then_dimension s.open_dimension xs, rest)
 unfolding dimensions_at
 dimension_open_next sub f xs ts rest later = rw later refl
 
-dimension_sized_next : (sub : Sub) (f : ℕ) (e : ExprTree) (xs : DimensionTrees) (inside ts rest : List Lexeme) → behind_right_bracket inside ≡ None → sub 3 inside ≡ Some (e, Token fixed.RightBracket ∷ ts)
+pub dimension_sized_next : (sub : Sub) (f : ℕ) (e : ExprTree) (xs : DimensionTrees) (inside ts rest : List Lexeme) → behind_right_bracket inside ≡ None → sub 3 inside ≡ Some (e, Token fixed.RightBracket ∷ ts)
     → dimensions_at sub f ts ≡ Some (xs, rest) → dimensions_at sub (suc f) (Token fixed.LeftBracket ∷ inside) ≡ Some (s.then_dimension (s.sized e) xs, rest)
 unfolding dimensions_at
 dimension_sized_next sub f e xs inside ts rest none by later = rw (none, by, later) refl

@@ -1,7 +1,9 @@
 pub mod Complete
+pub mod LaidBare
+pub mod LaidFits
 pub mod Laws
 pub mod Operators
 pub mod Prints
 pub mod Sound
-pub mod Well
 pub mod Stopped
+pub mod Well

@@ -83,11 +83,11 @@ texts-append : (ps : List Span) (r : List Lexeme) → texts ps ++ r ≡ prints_t
 texts-append [] r = refl
 texts-append (p ∷ ps) r = ap (λ x. Leaf Text p ∷ x) (texts-append ps r)
 
-words-append : (ws : List Fixed) (r : List Lexeme) → reserved ws ++ r ≡ prints_words ws r
+pub words-append : (ws : List Fixed) (r : List Lexeme) → reserved ws ++ r ≡ prints_words ws r
 words-append [] r = refl
 words-append (w ∷ ws) r = ap (λ x. Token w ∷ x) (words-append ws r)
 
-stars-append : (n : ℕ) (r : List Lexeme) → stars n ++ r ≡ prints_stars n r
+pub stars-append : (n : ℕ) (r : List Lexeme) → stars n ++ r ≡ prints_stars n r
 stars-append zero r = refl
 stars-append (suc n) r = ap (λ x. Token fixed.Star ∷ x) (stars-append n r)
 
@@ -100,7 +100,7 @@ base-append (s.enum_def tag es comma) r = refl
 base-append (s.named at) r = refl
 
 -- an operand, a mark and what stands behind it
-infix_append : (a : List Lexeme) (u : Lexeme) (b r w : List Lexeme) → b ++ r ≡ w → (a ++ u ∷ b) ++ r ≡ a ++ u ∷ w
+pub infix_append : (a : List Lexeme) (u : Lexeme) (b r w : List Lexeme) → b ++ r ≡ w → (a ++ u ∷ b) ++ r ≡ a ++ u ∷ w
 infix_append a u b r w e = append_assoc a (u ∷ b) r ∙ ap (λ x. a ++ u ∷ x) e
 
 mutual
@@ -115,11 +115,11 @@ mutual
   more-append s.no_expressions r = refl
   more-append (s.then_expression x xs) r = ap (λ y. Token fixed.Comma ∷ y) (append_assoc (expression_tokens x) (more_expressions xs) r ∙ ap (λ y. expression_tokens x ++ y) (more-append xs r) ∙ tokens-append x (prints_more xs r))
 
-  dimension-append : (d : DimensionTree) (r : List Lexeme) → dimension_tokens d ++ r ≡ prints_dimension d r
+  pub dimension-append : (d : DimensionTree) (r : List Lexeme) → dimension_tokens d ++ r ≡ prints_dimension d r
   dimension-append s.open_dimension r = refl
   dimension-append (s.sized e) r = ap (λ x. Token fixed.LeftBracket ∷ x) (append_assoc (expression_tokens e) (Token fixed.RightBracket ∷ []) r ∙ tokens-append e (Token fixed.RightBracket ∷ r))
 
-  dimensions-append : (ds : DimensionTrees) (r : List Lexeme) → dimensions_tokens ds ++ r ≡ prints_dimensions ds r
+  pub dimensions-append : (ds : DimensionTrees) (r : List Lexeme) → dimensions_tokens ds ++ r ≡ prints_dimensions ds r
   dimensions-append s.no_dimensions r = refl
   dimensions-append (s.then_dimension x xs) r = append_assoc (dimension_tokens x) (dimensions_tokens xs) r ∙ ap (λ y. dimension_tokens x ++ y) (dimensions-append xs r) ∙ dimension-append x (prints_dimensions xs r)
 

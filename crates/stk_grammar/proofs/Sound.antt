@@ -81,14 +81,14 @@ texts_is (t ∷ ts) = refl
 
 -- ---- types
 
-abbrev AreWords : List Lexeme → List Fixed × List Lexeme → Type 0
+abbrev pub AreWords : List Lexeme → List Fixed × List Lexeme → Type 0
 AreWords ts x = (ts ≡ prints_words x.0 x.1) × (all_basic x.0 ≡ true)
 
 words_on_is : (b : Bool) (f : Fixed) (ts : List Lexeme) (more : List Fixed × List Lexeme) → is_basic f ≡ b → AreWords ts more → AreWords (Token f ∷ ts) (words_on b f ts more)
 words_on_is true f ts more e h = (ap (λ x. Token f ∷ x) h.0, true_both _ _ e h.1)
 words_on_is false f ts more e h = (refl, refl)
 
-words_are : (ts : List Lexeme) → AreWords ts (words_at ts)
+pub words_are : (ts : List Lexeme) → AreWords ts (words_at ts)
 unfolding words_at
 words_are [] = (refl, refl)
 words_are (Leaf class at ∷ ts) = (refl, refl)
@@ -113,7 +113,7 @@ token_base_is named f ts x true is e =
     subst (IsBaseAt named (Token f ∷ ts)) (some_is (s.words (f ∷ (words_at ts).0), (words_at ts).1) x e) (ap (λ r. Token f ∷ r) w.0, true_both _ _ is w.1)
 token_base_is named f ts x false is e = tag_base_is named f ts x e
 
-base_is : (named : Span → Bool) (ts : List Lexeme) (x : BaseFormTree × List Lexeme) → base_at named ts ≡ Some x → IsBaseAt named ts x
+pub base_is : (named : Span → Bool) (ts : List Lexeme) (x : BaseFormTree × List Lexeme) → base_at named ts ≡ Some x → IsBaseAt named ts x
 base_is named [] x e = absurd cc
 base_is named (Leaf Word at ∷ ts) x e =
     let a = if_some (named at) _ x e in
@@ -126,7 +126,7 @@ more_stars zero ts = refl
 more_stars (suc n) ts = ap (λ r. Token fixed.Star ∷ r) (more_stars n ts)
 
 -- the stars that were counted before, and those that stand there
-stars_is : (n : ℕ) (ts : List Lexeme) → prints_stars n ts ≡ prints_stars (stars_at n ts).0 (stars_at n ts).1
+pub stars_is : (n : ℕ) (ts : List Lexeme) → prints_stars n ts ≡ prints_stars (stars_at n ts).0 (stars_at n ts).1
 unfolding stars_at
 stars_is n [] = refl
 stars_is n (Token fixed.Star ∷ ts) = more_stars n ts ∙ stars_is (suc n) ts
@@ -146,7 +146,7 @@ module _ (named : Span → Bool) (inner : ℕ) (sub : Sub) (sound : IsSound name
       subst (IsDimensionAt ts) (some_is (s.sized a.0.0, b.0) x b.2)
       (ap (λ r. Token fixed.LeftBracket ∷ r) (p.text ∙ ap (prints a.0.0) (right_bracket_is a.0.1 b.0 b.1)), (p.at, p.well))
 
-  abbrev AreDimensionsAt : List Lexeme → DimensionTrees × List Lexeme → Type 0
+  abbrev pub AreDimensionsAt : List Lexeme → DimensionTrees × List Lexeme → Type 0
   AreDimensionsAt ts x = (ts ≡ prints_dimensions x.0 x.1) × AreWellDimensions named x.0
 
   dimensions_on_sound : (go_on : List Lexeme → Found DimensionTrees) (o : Option (List Lexeme)) (ts : List Lexeme) (x : DimensionTrees × List Lexeme)
@@ -161,7 +161,7 @@ module _ (named : Span → Bool) (inner : ℕ) (sub : Sub) (sound : IsSound name
       subst (AreDimensionsAt ts) (some_is (s.then_dimension a.0.0 b.0.0, b.0.1) x b.2)
       (left_bracket_is ts inside is ∙ p.0 ∙ ap (prints_dimension a.0.0) q.0, (p.1, q.1))
 
-  dimensions_sound : (f : ℕ) (ts : List Lexeme) (x : DimensionTrees × List Lexeme) → dimensions_at sub f ts ≡ Some x → AreDimensionsAt ts x
+  pub dimensions_sound : (f : ℕ) (ts : List Lexeme) (x : DimensionTrees × List Lexeme) → dimensions_at sub f ts ≡ Some x → AreDimensionsAt ts x
   unfolding dimensions_at
   dimensions_sound zero ts x e = absurd cc
   dimensions_sound (suc f) ts x e = dimensions_on_sound (dimensions_at sub f) (behind_left_bracket ts) ts x (λ us y d. dimensions_sound f us y d) refl e

@@ -61,15 +61,15 @@ abbrev mutual
 
 -- ---- from the definitions, and to them
 
-not_true : (b : Bool) → not b ≡ true → b ≡ false
+pub not_true : (b : Bool) → not b ≡ true → b ≡ false
 not_true true e = absurd cc
 not_true false e = refl
 
-true_not : (b : Bool) → b ≡ false → not b ≡ true
+pub true_not : (b : Bool) → b ≡ false → not b ≡ true
 true_not true e = absurd cc
 true_not false e = refl
 
-base_well : (named : Span → Bool) (n : Node) (b : BaseFormTree) → is_bare (s.base n b) ≡ true → base_form_placed b ≡ true → base_form_fits named b ≡ true → IsWellBase named b
+pub base_well : (named : Span → Bool) (n : Node) (b : BaseFormTree) → is_bare (s.base n b) ≡ true → base_form_placed b ≡ true → base_form_fits named b ≡ true → IsWellBase named b
 base_well named n (s.words ws) bare p f = p
 base_well named n (s.struct_ref tag) bare p f = tt
 base_well named n (s.struct_def tag ms) bare p f = absurd cc
@@ -93,7 +93,7 @@ mutual
   dimension_well named s.open_dimension p q = tt
   dimension_well named (s.sized e) p q = well_of named 3 e p q
 
-  dimensions_well : (named : Span → Bool) (ds : DimensionTrees) → dimensions_placed ds ≡ true → dimensions_fits named ds ≡ true → AreWellDimensions named ds
+  pub dimensions_well : (named : Span → Bool) (ds : DimensionTrees) → dimensions_placed ds ≡ true → dimensions_fits named ds ≡ true → AreWellDimensions named ds
   dimensions_well named s.no_dimensions p q = tt
   dimensions_well named (s.then_dimension x xs) p q =
       let a = both_true _ _ p in
@@ -164,7 +164,7 @@ Passes p q = (p ≡ true) × (q ≡ true)
 both_pass : (p q p' q' : Bool) → Passes p q → Passes p' q' → Passes (p && p') (q && q')
 both_pass p q p' q' a b = (true_both p p' a.0 b.0, true_both q q' a.1 b.1)
 
-base_passes : (named : Span → Bool) (n : Node) (b : BaseFormTree) → IsWellBase named b → (is_bare (s.base n b) ≡ true) × (base_form_placed b ≡ true) × (base_form_fits named b ≡ true)
+pub base_passes : (named : Span → Bool) (n : Node) (b : BaseFormTree) → IsWellBase named b → (is_bare (s.base n b) ≡ true) × (base_form_placed b ≡ true) × (base_form_fits named b ≡ true)
 base_passes named n (s.words ws) w = (refl, w, refl)
 base_passes named n (s.struct_ref tag) w = (refl, refl, refl)
 base_passes named n (s.struct_def tag ms) w = absurd w
@@ -184,7 +184,7 @@ mutual
   dimension_passes named s.open_dimension w = (refl, refl)
   dimension_passes named (s.sized e) w = passes_of named 3 e w.0 w.1
 
-  dimensions_pass : (named : Span → Bool) (ds : DimensionTrees) → AreWellDimensions named ds → Passes (dimensions_placed ds) (dimensions_fits named ds)
+  pub dimensions_pass : (named : Span → Bool) (ds : DimensionTrees) → AreWellDimensions named ds → Passes (dimensions_placed ds) (dimensions_fits named ds)
   dimensions_pass named s.no_dimensions w = (refl, refl)
   dimensions_pass named (s.then_dimension x xs) w = both_pass _ _ _ _ (dimension_passes named x w.0) (dimensions_pass named xs w.1)
 

@@ -8,7 +8,7 @@ use Rattle.stk_tree.specs.declared.expression.BinaryOp.TheVariants.{Div, Lt, Gt,
 use Rattle.stk_tree.specs.Syntax.{ExprTree, ExprFormTree, DeclrTree, DeclrTrees, DeclarationTree, StmtTree, PartTree, PartTrees, FunctionTree, UnitTree}
 use Rattle.stk_tree.specs.Syntax as s
 use Rattle.stk_tree.specs.Nodes.{expression_nodes, expression_form_nodes, declarator_nodes, declarators_nodes, base_nodes, declaration_nodes, tail_nodes, statement_nodes, part_nodes, parts_nodes}
-use Rattle.stk_tree.specs.Layout.{laid_expression, laid_expression_form, laid_declarator, laid_declarators, laid_declaration, laid_statement, laid_part, laid_parts, laid_function, unit_laid_out, expression_width, declarator_width, tail_width, base_width, part_width}
+use Rattle.stk_tree.specs.Layout.{laid_expression, laid_expression_form, laid_declarator, laid_declarators, laid_declaration, laid_statement, laid_part, laid_parts, laid_function, unit_laid_out, expression_width, declarator_width, tail_width, base_width, part_width, node_at}
 use Rattle.stk_tree.specs.Tokens.{storage_tokens}
 use Rattle.stk_meaning.specs.declared.candidate.Candidate.{Candidate}
 use Rattle.stk_meaning.specs.declared.condition.UbKind.TheVariants as kinds
@@ -52,77 +52,77 @@ next_in Returned low high x r h = nothing
 
 module _ (spans : List Span) (bytes : List ℕ) where
   -- the node of a statement is the last of its nodes
-  last_node : (x : StmtTree) (n t : ℕ) → statement_node (laid_statement spans n t x) + 1 ≡ n + statement_nodes x
+  last_node : (x : StmtTree) (n t : ℕ) → statement_node (laid_statement (node_at spans) n t x) + 1 ≡ n + statement_nodes x
   last_node (s.statement k f) n t = omega arith
 
-  first_node : (x : StmtTree) (n t : ℕ) → n ≤ statement_node (laid_statement spans n t x)
+  first_node : (x : StmtTree) (n t : ℕ) → n ≤ statement_node (laid_statement (node_at spans) n t x)
   first_node (s.statement k f) n t = omega arith
 
   mutual
-    value_in : (e : ExprTree) (n t : ℕ) (r : List Register) → LiesIn n (n + expression_nodes e) (value_of bytes (laid_expression spans n t e) r).entries
+    value_in : (e : ExprTree) (n t : ℕ) (r : List Register) → LiesIn n (n + expression_nodes e) (value_of bytes (laid_expression (node_at spans) n t e) r).entries
     value_in (s.expression k f) n t r = wider (form_in f n t r) (omega arith) (omega arith)
 
-    form_in : (f : ExprFormTree) (n t : ℕ) (r : List Register) → LiesIn n (n + expression_form_nodes f + 1) (form_value bytes (n + expression_form_nodes f) (laid_expression_form spans n t f) r).entries
+    form_in : (f : ExprFormTree) (n t : ℕ) (r : List Register) → LiesIn n (n + expression_form_nodes f + 1) (form_value bytes (n + expression_form_nodes f) (laid_expression_form (node_at spans) n t f) r).entries
     form_in (s.binary op a b) n t r =
-        let first = value_of bytes (laid_expression spans n t a) r in
-        let second = value_of bytes (laid_expression spans (n + expression_nodes a) (t + expression_width a + 1) b) first.registers in
+        let first = value_of bytes (laid_expression (node_at spans) n t a) r in
+        let second = value_of bytes (laid_expression (node_at spans) (n + expression_nodes a) (t + expression_width a + 1) b) first.registers in
         let own = operator_in op (n + (expression_nodes a + expression_nodes b)) first.value second.value second.registers in
         let later = value_in b (n + expression_nodes a) (t + expression_width a + 1) first.registers in
         let behind = joined {low = n + expression_nodes a} {high = n + (expression_nodes a + expression_nodes b) + 1} later own (omega arith) (omega arith) (omega arith) (omega arith) (omega arith) in
         joined (value_in a n t r) behind (omega arith) (omega arith) (omega arith) (omega arith) (omega arith)
     form_in f n t r = nothing
 
-  object_in : (d : DeclrTree) (n t : ℕ) (r : List Register) → LiesIn n (n + declarator_nodes d) (declarator_run bytes (laid_declarator spans n t d) r).entries
+  object_in : (d : DeclrTree) (n t : ℕ) (r : List Register) → LiesIn n (n + declarator_nodes d) (declarator_run bytes (laid_declarator (node_at spans) n t d) r).entries
   object_in (s.declarator k stars (Some at) tail (s.some_initialiser (s.plain e))) n t r =
       alone (value_in e (n + tail_nodes tail) (t + stars + 1 + tail_width tail + 1) r) (omega arith) (omega arith)
   object_in (s.declarator k stars at tail init) n t r = nothing
 
-  objects_in : (ds : DeclrTrees) (n t : ℕ) (r : List Register) → LiesIn n (n + declarators_nodes ds) (declarators_run bytes (laid_declarators spans n t ds) r).entries
+  objects_in : (ds : DeclrTrees) (n t : ℕ) (r : List Register) → LiesIn n (n + declarators_nodes ds) (declarators_run bytes (laid_declarators (node_at spans) n t ds) r).entries
   objects_in s.no_declarators n t r = nothing
   objects_in (s.then_declarator d ds) n t r =
-      let first = declarator_run bytes (laid_declarator spans n t d) r in
+      let first = declarator_run bytes (laid_declarator (node_at spans) n t d) r in
       joined (object_in d n t r) (objects_in ds (n + declarator_nodes d) (t + declarator_width d + 1) first.registers) (omega arith) (omega arith) (omega arith) (omega arith) (omega arith)
 
-  local_in : (d : DeclarationTree) (n t : ℕ) (r : List Register) → LiesIn n (n + declaration_nodes d) (local_run bytes (laid_declaration spans n t d) r).entries
+  local_in : (d : DeclarationTree) (n t : ℕ) (r : List Register) → LiesIn n (n + declaration_nodes d) (local_run bytes (laid_declaration (node_at spans) n t d) r).entries
   local_in (s.declaration storage b ds) n t r = wider (objects_in ds (n + base_nodes b) (t + length (storage_tokens storage) + base_width b) r) (omega arith) (omega arith)
 
   -- a statement makes entries at the nodes before its own
-  run_in : (x : StmtTree) (n t : ℕ) (r : List Register) → LiesIn n (statement_node (laid_statement spans n t x)) (statement_run bytes (laid_statement spans n t x) r).entries
+  run_in : (x : StmtTree) (n t : ℕ) (r : List Register) → LiesIn n (statement_node (laid_statement (node_at spans) n t x)) (statement_run bytes (laid_statement (node_at spans) n t x) r).entries
   run_in (s.statement k (s.if_statement e x s.no_statement)) n t r =
       let m : ℕ = n + expression_nodes e in
       let u : ℕ = t + expression_width e + 3 in
-      let tested = value_of bytes (laid_expression spans n (t + 2) e) r in
+      let tested = value_of bytes (laid_expression (node_at spans) n (t + 2) e) r in
       let inner = run_in x m u tested.registers in
-      let low : m ≤ statement_node (laid_statement spans m u x) = first_node x m u in
-      let last : statement_node (laid_statement spans m u x) + 1 ≡ m + statement_nodes x = last_node x m u in
-      let taken = branch_in (truth tested.value) m (statement_node (laid_statement spans m u x)) (statement_run bytes (laid_statement spans m u x) tested.registers) tested.registers low inner in
+      let low : m ≤ statement_node (laid_statement (node_at spans) m u x) = first_node x m u in
+      let last : statement_node (laid_statement (node_at spans) m u x) + 1 ≡ m + statement_nodes x = last_node x m u in
+      let taken = branch_in (truth tested.value) m (statement_node (laid_statement (node_at spans) m u x)) (statement_run bytes (laid_statement (node_at spans) m u x) tested.registers) tested.registers low inner in
       joined (value_in e n (t + 2) r) taken (omega arith) (omega arith) (omega arith) (omega arith) (omega arith)
   run_in (s.statement k (s.return_statement (s.some_expression e))) n t r = alone (value_in e n (t + 1) r) (omega arith) (omega arith)
   run_in (s.statement k f) n t r = nothing
 
-  part_in : (p : PartTree) (n t : ℕ) (r : List Register) → LiesIn n (n + part_nodes p) (part_run bytes (laid_part spans n t p) r).entries
+  part_in : (p : PartTree) (n t : ℕ) (r : List Register) → LiesIn n (n + part_nodes p) (part_run bytes (laid_part (node_at spans) n t p) r).entries
   part_in (s.local d) n t r = local_in d n t r
   part_in (s.run x) n t r =
-      let last : statement_node (laid_statement spans n t x) + 1 ≡ n + statement_nodes x = last_node x n t in
+      let last : statement_node (laid_statement (node_at spans) n t x) + 1 ≡ n + statement_nodes x = last_node x n t in
       wider (run_in x n t r) (omega arith) (omega arith)
 
-  parts_in : (ps : PartTrees) (n t : ℕ) (r : List Register) → LiesIn n (n + parts_nodes ps) (parts_run bytes (laid_parts spans n t ps) r).entries
+  parts_in : (ps : PartTrees) (n t : ℕ) (r : List Register) → LiesIn n (n + parts_nodes ps) (parts_run bytes (laid_parts (node_at spans) n t ps) r).entries
   parts_in s.no_parts n t r = nothing
   parts_in (s.then_part p ps) n t r =
-      let first = part_run bytes (laid_part spans n t p) r in
+      let first = part_run bytes (laid_part (node_at spans) n t p) r in
       let m : ℕ = n + part_nodes p in
       let u : ℕ = t + part_width p in
       let rest = parts_in ps m u first.registers in
-      let behind = next_in first.value m (m + parts_nodes ps) (parts_run bytes (laid_parts spans m u ps) first.registers) first.registers rest in
+      let behind = next_in first.value m (m + parts_nodes ps) (parts_run bytes (laid_parts (node_at spans) m u ps) first.registers) first.registers rest in
       joined (part_in p n t r) behind (omega arith) (omega arith) (omega arith) (omega arith) (omega arith)
 
-  path_distinct : (f : FunctionTree) (inputs : List ℤ) → Distinct (path bytes (laid_function spans 0 0 f) inputs)
+  path_distinct : (f : FunctionTree) (inputs : List ℤ) → Distinct (path bytes (laid_function (node_at spans) 0 0 f) inputs)
   path_distinct (s.function storage b d (s.statement k (s.block ps))) inputs = (parts_in ps _ _ _).distinct
   path_distinct f inputs = tt
 
   unit_distinct : (u : UnitTree) (n : Node) (f : FunctionTree) (inputs : List ℤ) → unit_laid_out spans u ≡ s.defines n f → Distinct (path bytes f inputs)
   unit_distinct (s.defines k g) n f inputs e =
-      let same : laid_function spans 0 0 g ≡ f = cc in
+      let same : laid_function (node_at spans) 0 0 g ≡ f = cc in
       subst (λ (x : FunctionTree). Distinct (path bytes x inputs)) same (path_distinct g inputs)
   unit_distinct u n f inputs e = absurd cc
 

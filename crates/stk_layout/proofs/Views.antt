@@ -1,10 +1,10 @@
 -- The view of a statement's form, variant by variant.
-use Rattle.std.proofs.Common.{◌≡◌, refl, ap, sym, ◌∙◌, Option, Some, List, map}
+use Rattle.std.proofs.Common.{◌≡◌, ap, sym, ◌∙◌, Option, Some, List, map}
 use Rattle.stk_tree.specs.declared.expression.Expr.{Expr}
 use Rattle.stk_tree.specs.declared.statement.Start.{Start}
 use Rattle.stk_tree.specs.declared.statement.Section.{Section}
 use Rattle.stk_tree.specs.declared.statement.Stmt.{Stmt}
-use Rattle.stk_tree.specs.declared.statement.StmtForm.{StmtForm, StmtForm-F, fold-roll-StmtForm}
+use Rattle.stk_tree.specs.declared.statement.StmtForm.{StmtForm-F, fold-roll-StmtForm}
 use Rattle.stk_tree.specs.declared.statement.StmtForm.TheVariants as form
 use Rattle.stk_tree.specs.Syntax.{PartTree, StmtFormTree, SectionTree, StmtTree}
 use Rattle.stk_tree.specs.Syntax.{if_statement, some_statement, switch_statement, while_statement, do_statement, for_statement, return_statement}

@@ -1,5 +1,5 @@
 -- How many tokens a statement prints, as a sum over its parts.
-use Rattle.std.proofs.Common.{◌≡◌, ℕ, ◌+◌, length, arith}
+use Rattle.std.proofs.Common.{◌≡◌, ◌+◌, length, arith}
 use Rattle.std.proofs.lemmas.Grind.{common_steps}
 use Rattle.stk_tree.specs.Syntax.{ExprTree, MaybeExprTree, StartTree, StmtTree, SectionTrees}
 use Rattle.stk_tree.specs.Syntax.{if_statement, some_statement, switch_statement, while_statement, do_statement, for_statement, return_statement}

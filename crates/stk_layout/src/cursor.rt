@@ -1,6 +1,7 @@
 //! The place in a unit that a layout has come to.
 ghost use Rattle.std.specs.Prelude.{◌≡◌, ◌+◌, ◌-◌, ◌<◌, ◌≤◌, ◌^◌, length, map};
-ghost use Rattle.stk_tree.specs.Layout.{covered, node_at, span_at};
+ghost use Rattle.stk_layout.specs.Setter.{setter};
+ghost use Rattle.stk_tree.specs.Layout.{covered, span_at};
 ghost use Rattle.stk_tree.specs.Tokens.{last_comma, more_tokens, optional_word, path_end, storage_tokens};
 ghost use Rattle.stk_tree.specs.View.{designators, view_designator};
 
@@ -12,6 +13,14 @@ use stk_tree::{Desig, Node, Storage};
 pub struct Cursor {
     pub number: u32,
     pub token: u32,
+}
+
+/// What the records of nodes are made from: the spans of the tokens that are printed, in order, and whether the nodes get their numbers
+/// or 0.
+#[derive(Clone, Copy)]
+pub struct Records<'a> {
+    pub spans: &'a [Span],
+    pub numbered: bool,
 }
 
 impl Cursor {
@@ -59,16 +68,16 @@ fn span_between(spans: &[Span], from: u32, to: u32) -> Span
 
 /// Sets the node of a tree whose first token stands at the cursor `at` and whose children end at the cursor `end`, and
 /// gives the cursor after the tree.
-pub fn close(node: &mut Node, at: Cursor, end: Cursor, spans: &[Span]) -> Cursor
+pub fn close(node: &mut Node, at: Cursor, end: Cursor, records: Records<'_>) -> Cursor
     requires tokens { at.token ≤ end.token }
     requires numbers { end.number + 1 < 2 ^ 32 }
-    ensures node { node.new ≡ node_at spans.now end.number at.token (end.token - at.token) }
+    ensures node { node.new ≡ setter records.entry end.number at.token (end.token - at.token) }
     ensures number { result.number ≡ end.number + 1 }
     ensures token { result.token ≡ end.token }
 {
     *node = Node {
-        number: end.number,
-        span: span_between(spans, at.token, end.token),
+        number: if records.numbered { end.number } else { 0 },
+        span: span_between(records.spans, at.token, end.token),
     };
     Cursor {
         number: end.number + 1,

@@ -6,5 +6,7 @@ mod lay_declarations;
 mod lay_expressions;
 mod lay_statements;
 mod lay_units;
+mod place_parts;
 
 pub use lay_units::lay_out;
+pub use place_parts::{place_declaration, place_expression};

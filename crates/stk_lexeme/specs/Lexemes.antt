@@ -29,3 +29,7 @@ lexeme_of bytes t = lexeme_at t.class t.span (fixed_of (text_of bytes t.span))
 -- the lexemes that tokens are
 abbrev pub lexemes_of : List ℕ → List Token → List Lexeme
 lexemes_of bytes tokens = map (lexeme_of bytes) tokens
+
+-- the spans of tokens
+abbrev pub spans_of : List Token → List Span
+spans_of tokens = map (λ t. t.span) tokens

@@ -1,9 +1,10 @@
-//! The lexeme that a token is.
+//! The lexemes that tokens are, and their spans.
 
-ghost use Rattle.std.specs.Prelude.{◌≡◌};
-ghost use Rattle.stk_lexeme.specs.Lexemes.{fixed_of, lexeme_of};
+ghost use Rattle.std.specs.Prelude.{◌≡◌, IfOk};
+ghost use Rattle.stk_lexeme.specs.Lexemes.{fixed_of, lexeme_of, lexemes_of, spans_of};
 
-use stk_base::Class;
+use std::alloc::Global;
+use stk_base::{Class, NoMemory, Span};
 use stk_lex::Token;
 use stk_tree::{Fixed, Lexeme};
 
@@ -19,8 +20,33 @@ fn word_or_mark(text: &[u8]) -> Option<Fixed>
 pub fn lexeme_of(bytes: &[u8], token: Token) -> Lexeme
     ensures { result ≡ lexeme_of bytes.now token }
 {
-    match (token.class, word_or_mark(token.span.text(bytes))) {
-        (Class::Word | Class::Mark, Some(fixed)) => Lexeme::Fixed(fixed),
-        (class, _) => Lexeme::Leaf(class, token.span),
+    match token.class {
+        Class::Word | Class::Mark => match word_or_mark(token.span.text(bytes)) {
+            Some(fixed) => Lexeme::Fixed(fixed),
+            None => Lexeme::Leaf(token.class, token.span),
+        },
+        class => Lexeme::Leaf(class, token.span),
     }
+}
+
+/// The lexemes that the tokens of a text are, in order.
+pub fn lexemes_of(alloc: Global, bytes: &[u8], tokens: &[Token]) -> Result<Vec<Lexeme>, NoMemory>
+    ensures { IfOk result (λ lexemes. lexemes.items ≡ lexemes_of bytes.now tokens.now) }
+{
+    let mut lexemes = Vec::new(alloc);
+    for token in tokens {
+        lexemes.push(lexeme_of(bytes, *token))?;
+    }
+    Ok(lexemes)
+}
+
+/// The spans of tokens, in order.
+pub fn spans_of(alloc: Global, tokens: &[Token]) -> Result<Vec<Span>, NoMemory>
+    ensures { IfOk result (λ spans. spans.items ≡ spans_of tokens.now) }
+{
+    let mut spans = Vec::new(alloc);
+    for token in tokens {
+        spans.push(token.span)?;
+    }
+    Ok(spans)
 }

@@ -3,4 +3,4 @@
 
 mod lexeme;
 
-pub use lexeme::lexeme_of;
+pub use lexeme::{lexeme_of, lexemes_of, spans_of};

@@ -6,14 +6,14 @@ use Rattle.stk_tree.specs.declared.node.Node.{Node}
 use Rattle.stk_tree.specs.Syntax.{StmtTree, PartTree, PartTrees, FunctionTree, UnitTree}
 use Rattle.stk_tree.specs.Syntax as s
 use Rattle.stk_tree.specs.Tokens.{statement_tokens, part_tokens, parts_tokens, function_tokens, unit_tokens}
-use Rattle.stk_tree.specs.Layout.{laid_statement, laid_part, laid_parts, laid_function, unit_laid_out}
-use Rattle.stk_lexeme.specs.Lexemes.{lexemes_of}
+use Rattle.stk_tree.specs.Layout.{laid_statement, laid_part, laid_parts, laid_function, unit_laid_out, node_at}
+use Rattle.stk_lexeme.specs.Lexemes.{lexemes_of, spans_of}
 use Rattle.stk_meaning.specs.declared.finding.Finding.{Finding}
 use Rattle.stk_meaning.specs.declared.finding.Finding.TheVariants.{Clear, Unstable, Undecided}
 use Rattle.stk_meaning.specs.Parts.{statement_candidates, part_candidates, parts_candidates, candidates, arm}
 use Rattle.stk_small.specs.SmallForm.{IsSmallFunction, IsSmall}
 use Rattle.stk_lint.specs.declared.records.Counts.{Counts}
-use Rattle.stk_lint.specs.LawfulText.{Prints, spans_of, unstable_count, IsUnitText, accepted, judged, other_form}
+use Rattle.stk_lint.specs.LawfulText.{Prints, unstable_count, IsUnitText, accepted, judged, other_form}
 use Rattle.stk_lint.specs.Judged.{AreAtMost}
 use Rattle.stk_lint.proofs.Findings.{length_same}
 
@@ -40,7 +40,7 @@ at_most : (a b c : ℕ) → a ≡ b → b ≤ c → a ≤ c
 at_most a b c e h = omega (arith, e, h)
 
 module _ (spans : List Span) where
-  laid_run : (x : StmtTree) (n t : ℕ) → length (statement_candidates (laid_statement spans n t x)) ≡ length (statement_candidates x)
+  laid_run : (x : StmtTree) (n t : ℕ) → length (statement_candidates (laid_statement (node_at spans) n t x)) ≡ length (statement_candidates x)
   laid_run (s.statement k (s.if_statement e x s.no_statement)) n t = length-append _ _ ∙ ap (λ (k : ℕ). k + 1) (laid_run x _ _) ∙ sym (length-append (statement_candidates x) (arm x ∷ []))
   laid_run (s.statement k (s.if_statement e x (s.some_statement y))) n t = refl
   laid_run (s.statement k (s.block ps)) n t = refl
@@ -53,22 +53,22 @@ module _ (spans : List Span) where
   laid_run (s.statement k s.continue_statement) n t = refl
   laid_run (s.statement k (s.return_statement e)) n t = refl
 
-  laid_one : (x : PartTree) (n t : ℕ) → length (part_candidates (laid_part spans n t x)) ≡ length (part_candidates x)
+  laid_one : (x : PartTree) (n t : ℕ) → length (part_candidates (laid_part (node_at spans) n t x)) ≡ length (part_candidates x)
   laid_one (s.local d) n t = refl
   laid_one (s.run x) n t = laid_run x n t
 
-  laid_all : (xs : PartTrees) (n t : ℕ) → length (parts_candidates (laid_parts spans n t xs)) ≡ length (parts_candidates xs)
+  laid_all : (xs : PartTrees) (n t : ℕ) → length (parts_candidates (laid_parts (node_at spans) n t xs)) ≡ length (parts_candidates xs)
   laid_all s.no_parts n t = refl
   laid_all (s.then_part x xs) n t = length-append _ _ ∙ sum_same _ _ _ _ (laid_one x _ _) (laid_all xs _ _) ∙ sym (length-append (part_candidates x) (parts_candidates xs))
 
-few_function : (bytes : List ℕ) (spans : List Span) (g : FunctionTree) → IsSmallFunction bytes g → length (candidates (laid_function spans 0 0 g)) ≤ length (function_tokens g)
+few_function : (bytes : List ℕ) (spans : List Span) (g : FunctionTree) → IsSmallFunction bytes g → length (candidates (laid_function (node_at spans) 0 0 g)) ≤ length (function_tokens g)
 few_function bytes spans (s.function None b (s.declarator n zero (Some at) (s.with_parameters (s.then_parameter p ps) false) s.no_initialiser) (s.statement m (s.block parts))) small =
-    at_most _ _ _ (laid_all spans parts _ _) (simp length-append (omega (arith, few_parts parts)))
+    at_most _ _ _ (laid_all (node_at spans) parts _ _) (simp length-append (omega (arith, few_parts parts)))
 few_function bytes spans g small = absurd small
 
 few_of_unit : (bytes : List ℕ) (spans : List Span) (u : UnitTree) (n : Node) (f : FunctionTree) → IsSmall bytes u → unit_laid_out spans u ≡ s.defines n f → length (candidates f) ≤ length (unit_tokens u)
 few_of_unit bytes spans (s.defines m g) n f small e =
-    let same : laid_function spans 0 0 g ≡ f = cc in
+    let same : laid_function (node_at spans) 0 0 g ≡ f = cc in
     rw same at (few_function bytes spans g small)
 few_of_unit bytes spans u n f small e = absurd small
 

@@ -8,12 +8,12 @@ use Rattle.stk_tree.specs.declared.expression.BinaryOp.{BinaryOp}
 use Rattle.stk_tree.specs.declared.expression.BinaryOp.TheVariants.{Add, Mul, Div, Lt, Gt, Le, Ge, Eq, Ne}
 use Rattle.stk_tree.specs.Syntax.{ExprTree, DeclrTree, DeclrTrees, DeclarationTree, StmtTree, PartTree, PartTrees, FunctionTree, UnitTree}
 use Rattle.stk_tree.specs.Syntax as s
-use Rattle.stk_tree.specs.Layout.{laid_expression, laid_declarator, laid_declarators, laid_declaration, laid_statement, laid_part, laid_parts, laid_function}
-use Rattle.stk_tree.specs.Layout.{unit_laid_out}
+use Rattle.stk_tree.specs.Layout.{laid_expression, laid_declarator, laid_declarators, laid_declaration, laid_statement, laid_part, laid_parts, laid_function, node_at}
+use Rattle.stk_tree.specs.Layout.{unit_laid_out, node_at}
 use Rattle.stk_lex.specs.declared.token.Token.{Token}
-use Rattle.stk_lexeme.specs.Lexemes.{lexemes_of}
+use Rattle.stk_lexeme.specs.Lexemes.{lexemes_of, spans_of}
 use Rattle.stk_lint.specs.declared.records.Counts.{Counts}
-use Rattle.stk_lint.specs.LawfulText.{Prints, spans_of, IsEmpty, IsUnitText, accepted, judged, other_form, nothing_counted, one_skipped}
+use Rattle.stk_lint.specs.LawfulText.{Prints, IsEmpty, IsUnitText, accepted, judged, other_form, nothing_counted, one_skipped}
 use Rattle.stk_lint.specs.Records.{other_form_text}
 use Rattle.stk_lint.specs.Judged.{IsJudged, IsReadAs}
 use Rattle.stk_tree.specs.declared.node.Node.{Node}
@@ -23,42 +23,42 @@ use Rattle.stk_meaning.specs.Values.{compares, is_arithmetic}
 use Rattle.stk_meaning.specs.Forms.{IsPlainTerm, IsPlainTest, IsPlainDeclarator, ArePlainDeclarators, IsPlainLocal, IsPlainStatement, IsPlainPart, ArePlainParts, IsPlain}
 
 module _ (spans : List Span) (bytes : List ℕ) where
-  laid_term : (e : ExprTree) (n t : ℕ) → IsPlainTerm bytes e → IsPlainTerm bytes (laid_expression spans n t e)
+  laid_term : (e : ExprTree) (n t : ℕ) → IsPlainTerm bytes e → IsPlainTerm bytes (laid_expression (node_at spans) n t e)
   laid_term (s.expression k (s.name at)) n t p = p
   laid_term (s.expression k (s.number at)) n t p = p
   laid_term (s.expression k (s.binary op a b)) n t p = (p.0, laid_term a _ _ p.1, laid_term b _ _ p.2)
   laid_term (s.expression k f) n t p = absurd p
 
-  laid_test : (e : ExprTree) (n t : ℕ) → IsPlainTest bytes e → IsPlainTest bytes (laid_expression spans n t e)
+  laid_test : (e : ExprTree) (n t : ℕ) → IsPlainTest bytes e → IsPlainTest bytes (laid_expression (node_at spans) n t e)
   laid_test (s.expression k (s.binary op a b)) n t p = (p.0, laid_term a _ _ p.1, laid_term b _ _ p.2)
   laid_test (s.expression k f) n t p = absurd p
 
-  laid_object : (d : DeclrTree) (n t : ℕ) → IsPlainDeclarator bytes d → IsPlainDeclarator bytes (laid_declarator spans n t d)
+  laid_object : (d : DeclrTree) (n t : ℕ) → IsPlainDeclarator bytes d → IsPlainDeclarator bytes (laid_declarator (node_at spans) n t d)
   laid_object (s.declarator k stars (Some at) tail (s.some_initialiser (s.plain e))) n t p = laid_term e _ _ p
   laid_object (s.declarator k stars at tail init) n t p = absurd p
 
-  laid_objects : (ds : DeclrTrees) (n t : ℕ) → ArePlainDeclarators bytes ds → ArePlainDeclarators bytes (laid_declarators spans n t ds)
+  laid_objects : (ds : DeclrTrees) (n t : ℕ) → ArePlainDeclarators bytes ds → ArePlainDeclarators bytes (laid_declarators (node_at spans) n t ds)
   laid_objects s.no_declarators n t p = tt
   laid_objects (s.then_declarator d ds) n t p = (laid_object d _ _ p.0, laid_objects ds _ _ p.1)
 
-  laid_local : (d : DeclarationTree) (n t : ℕ) → IsPlainLocal bytes d → IsPlainLocal bytes (laid_declaration spans n t d)
+  laid_local : (d : DeclarationTree) (n t : ℕ) → IsPlainLocal bytes d → IsPlainLocal bytes (laid_declaration (node_at spans) n t d)
   laid_local (s.declaration storage b ds) n t p = laid_objects ds _ _ p
 
-  laid_run : (x : StmtTree) (n t : ℕ) → IsPlainStatement bytes x → IsPlainStatement bytes (laid_statement spans n t x)
+  laid_run : (x : StmtTree) (n t : ℕ) → IsPlainStatement bytes x → IsPlainStatement bytes (laid_statement (node_at spans) n t x)
   laid_run (s.statement k (s.if_statement e x s.no_statement)) n t p = (laid_test e _ _ p.0, laid_run x _ _ p.1)
   laid_run (s.statement k (s.return_statement (s.some_expression e))) n t p = laid_term e _ _ p
   laid_run (s.statement k f) n t p = absurd p
 
-  laid_one : (x : PartTree) (n t : ℕ) → IsPlainPart bytes x → IsPlainPart bytes (laid_part spans n t x)
+  laid_one : (x : PartTree) (n t : ℕ) → IsPlainPart bytes x → IsPlainPart bytes (laid_part (node_at spans) n t x)
   laid_one (s.local d) n t p = laid_local d _ _ p
   laid_one (s.run x) n t p = laid_run x _ _ p
 
-  laid_all : (xs : PartTrees) (n t : ℕ) → ArePlainParts bytes xs → ArePlainParts bytes (laid_parts spans n t xs)
+  laid_all : (xs : PartTrees) (n t : ℕ) → ArePlainParts bytes xs → ArePlainParts bytes (laid_parts (node_at spans) n t xs)
   laid_all s.no_parts n t p = tt
   laid_all (s.then_part x xs) n t p = (laid_one x _ _ p.0, laid_all xs _ _ p.1)
 
   -- a plain function is plain once its nodes are laid out
-  pub laid_plain : (n t : ℕ) (f : FunctionTree) → IsPlain bytes f → IsPlain bytes (laid_function spans n t f)
+  pub laid_plain : (n t : ℕ) (f : FunctionTree) → IsPlain bytes f → IsPlain bytes (laid_function (node_at spans) n t f)
   laid_plain n t (s.function storage b (s.declarator k stars at (s.with_parameters ps more) init) (s.statement m (s.block parts))) p = laid_all parts _ _ p
   laid_plain n t f p = absurd p
 
@@ -137,7 +137,7 @@ module _ (bytes : List ℕ) where
 -- what is read as a function is one that the tokens print, and it is plain
 pub read_function : (bytes : List ℕ) (tokens : List Token) (n : Node) (f : FunctionTree) (u : UnitTree) → IsSmall bytes u → unit_tokens u ≡ lexemes_of bytes tokens → s.defines n f ≡ unit_laid_out (spans_of tokens) u → Prints bytes tokens f × IsPlain bytes f
 read_function bytes tokens n f (s.defines m g) small printed e =
-    let same : laid_function (spans_of tokens) 0 0 g ≡ f = cc in
+    let same : laid_function (node_at (spans_of tokens)) 0 0 g ≡ f = cc in
     (record { unit = s.defines m g; node = n; small = small; printed = printed; laid_out = sym e }, subst (IsPlain bytes) same (laid_plain (spans_of tokens) bytes 0 0 g (function_plain bytes g small)))
 read_function bytes tokens n f u small printed e = absurd small
 

@@ -14,7 +14,7 @@ use Rattle.stk_tree.specs.declared.fixed.Fixed.TheVariants as fixed
 use Rattle.stk_tree.specs.Syntax.{UnitTree, FunctionTree}
 use Rattle.stk_tree.specs.Syntax as s
 use Rattle.stk_tree.specs.Layout.{unit_laid_out, laid_function}
-use Rattle.stk_lexeme.specs.Lexemes.{lexeme_of, lexemes_of}
+use Rattle.stk_lexeme.specs.Lexemes.{lexeme_of, lexemes_of, spans_of}
 use Rattle.stk_meaning.specs.Parts.{candidates}
 use Rattle.stk_small.specs.declared.small.Outline.{Outline}
 use Rattle.stk_small.specs.SmallReading.{terminal_of}
@@ -24,7 +24,7 @@ use Rattle.stk_small.specs.SmallTree.{unit_tree}
 use Rattle.stk_small.proofs.SmallReads.{found_tree, no_tree}
 use Rattle.stk_lint.specs.declared.records.Counts.{Counts}
 use Rattle.stk_lint.specs.Records.{findings_text, other_form_text}
-use Rattle.stk_lint.specs.LawfulText.{Prints, IsEmpty, IsUnitText, accepted, judged, other_form, spans_of, nothing_counted, counts_sum, tokens_of_piece, AreUnitTexts, no_unit, then_unit}
+use Rattle.stk_lint.specs.LawfulText.{Prints, IsEmpty, IsUnitText, accepted, judged, other_form, nothing_counted, counts_sum, tokens_of_piece, AreUnitTexts, no_unit, then_unit}
 use Rattle.stk_lint.proofs.Exists.{findings_of}
 
 -- ---- a text of each unit

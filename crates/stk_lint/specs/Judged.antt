@@ -1,7 +1,7 @@
 -- What is written of the findings of a function, and of units one after the other.
 use Rattle.std.specs.Prelude.{◌≡◌, ℕ, ◌≤◌, List, ◌++◌, Option}
 use Rattle.stk_lex.specs.declared.token.Token.{Token}
-use Rattle.stk_lexeme.specs.Lexemes.{lexemes_of}
+use Rattle.stk_lexeme.specs.Lexemes.{lexemes_of, spans_of}
 use Rattle.stk_units.specs.declared.cutting.Piece.{Piece}
 use Rattle.stk_base.specs.Streams.{Appended, AppendedFront}
 use Rattle.stk_tree.specs.Syntax.{FunctionTree, UnitTree}
@@ -13,7 +13,7 @@ use Rattle.stk_meaning.specs.Parts.{candidates}
 use Rattle.stk_small.specs.SmallForm.{IsSmall}
 use Rattle.stk_lint.specs.declared.records.Counts.{Counts}
 use Rattle.stk_lint.specs.Records.{findings_text}
-use Rattle.stk_lint.specs.LawfulText.{AreLawful, unstable_count, one_judged, spans_of, IsUnitText, AreUnitTexts}
+use Rattle.stk_lint.specs.LawfulText.{AreLawful, unstable_count, one_judged, IsUnitText, AreUnitTexts}
 
 -- the records of lawful findings for these candidates were added to a text; so many of them are reports
 pub record AddsFindings (bytes : List ℕ) (f : FunctionTree) (list : List Candidate) (old new : List ℕ) (unstable : ℕ) : Type 0 where

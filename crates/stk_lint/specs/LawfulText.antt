@@ -13,7 +13,7 @@ use Rattle.stk_tree.specs.declared.node.Node.{Node}
 use Rattle.stk_tree.specs.Syntax.{UnitTree, FunctionTree, defines, empty_unit}
 use Rattle.stk_tree.specs.Tokens.{unit_tokens}
 use Rattle.stk_tree.specs.Layout.{unit_laid_out}
-use Rattle.stk_lexeme.specs.Lexemes.{lexemes_of}
+use Rattle.stk_lexeme.specs.Lexemes.{lexemes_of, spans_of}
 use Rattle.stk_meaning.specs.declared.candidate.Candidate.{Candidate}
 use Rattle.stk_meaning.specs.declared.finding.Finding.{Finding}
 use Rattle.stk_meaning.specs.declared.finding.Finding.TheVariants.{Clear, Unstable, Undecided}
@@ -66,10 +66,6 @@ counts_sum a b = record {
 }
 
 -- ---- units
-
--- the spans of tokens
-abbrev pub spans_of : List Token → List Span
-spans_of tokens = map (λ t. t.span) tokens
 
 -- These tokens are printed by a tree of the small form, which is this function once its nodes are numbered and placed.
 pub record Prints (bytes : List ℕ) (tokens : List Token) (f : FunctionTree) : Type 0 where

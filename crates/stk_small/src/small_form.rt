@@ -15,21 +15,11 @@ use crate::checking::outline_fits;
 use crate::reading::{Refusal, outline_of, terminals_of};
 use crate::small::Outline;
 use std::alloc::Global;
-use stk_base::{NoMemory, Span};
+use stk_base::NoMemory;
 use stk_layout::lay_out;
 use stk_lex::Token;
+use stk_lexeme::spans_of;
 use stk_tree::Unit;
-
-/// Where tokens stand.
-fn spans_of(alloc: Global, tokens: &[Token]) -> Result<Vec<Span>, NoMemory>
-    ensures { IfOk result (λ spans. spans.items ≡ map (λ t. t.span) tokens.now) }
-{
-    let mut spans = Vec::new(alloc);
-    for token in tokens {
-        spans.push(token.span)?;
-    }
-    Ok(spans)
-}
 
 /// The outline of tokens that are one function of the small form.
 #[tactic(auto, unfolding(crate::specs::SmallTexts::fitting_outline))]

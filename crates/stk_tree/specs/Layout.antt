@@ -24,6 +24,10 @@ covered spans t (suc k) = record { from = (span_at spans t).from; to = (span_at 
 abbrev pub node_at : List Span → ℕ → ℕ → ℕ → Node
 node_at spans n t count = record { number = n; span = covered spans t count }
 
+-- such a node of a part of a unit, which has no number yet: it has the number 0
+abbrev pub unnumbered_at : List Span → ℕ → ℕ → ℕ → Node
+unnumbered_at spans n t count = record { number = 0; span = covered spans t count }
+
 -- how many tokens of an operator stand before its operand
 abbrev pub before_operand : StepOp → ℕ
 before_operand IncBefore = 1
@@ -104,11 +108,11 @@ section_width x = length (section_tokens x)
 abbrev pub function_width : FunctionTree → ℕ
 function_width x = length (function_tokens x)
 
--- In each definition below n is the number of the first free node, and t the first token of the tree.
-module _ (spans : List Span) where
+-- In each definition below n is the number of the first free node, and t the first token of the tree. `set` makes the record of a node from its number, its first token and how many tokens it covers.
+module _ (set : ℕ → ℕ → ℕ → Node) where
   abbrev mutual
     pub laid_base : ℕ → ℕ → BaseTree → BaseTree
-    laid_base n t (s.base node f) = s.base (node_at spans (n + base_form_nodes f) t (length (base_form_tokens f))) (laid_base_form n t f)
+    laid_base n t (s.base node f) = s.base (set (n + base_form_nodes f) t (length (base_form_tokens f))) (laid_base_form n t f)
 
     pub laid_base_form : ℕ → ℕ → BaseFormTree → BaseFormTree
     laid_base_form n t (s.words ws) = s.words ws
@@ -134,7 +138,7 @@ module _ (spans : List Span) where
 
     pub laid_declarator : ℕ → ℕ → DeclrTree → DeclrTree
     laid_declarator n t (s.declarator node count at x i) =
-        s.declarator (node_at spans (n + tail_nodes x + maybe_initialiser_nodes i) t (count + length (optional_word at) + tail_width x + initial_width i)) count at
+        s.declarator (set (n + tail_nodes x + maybe_initialiser_nodes i) t (count + length (optional_word at) + tail_width x + initial_width i)) count at
         (laid_tail n (t + count + length (optional_word at)) x)
         (laid_maybe_initialiser (n + tail_nodes x) (t + count + length (optional_word at) + tail_width x + 1) i)
 
@@ -158,7 +162,7 @@ module _ (spans : List Span) where
 
     pub laid_parameter : ℕ → ℕ → ParamTree → ParamTree
     laid_parameter n t (s.parameter node b d) =
-        s.parameter (node_at spans (n + base_nodes b + declarator_nodes d) t (base_width b + declarator_width d))
+        s.parameter (set (n + base_nodes b + declarator_nodes d) t (base_width b + declarator_width d))
         (laid_base n t b) (laid_declarator (n + base_nodes b) (t + base_width b) d)
 
     pub laid_parameters : ℕ → ℕ → ParamTrees → ParamTrees
@@ -167,7 +171,7 @@ module _ (spans : List Span) where
 
     pub laid_type_name : ℕ → ℕ → TypeNameTree → TypeNameTree
     laid_type_name n t (s.type_name node b count ds) =
-        s.type_name (node_at spans (n + base_nodes b + dimensions_nodes ds) t (base_width b + count + dimensions_width ds))
+        s.type_name (set (n + base_nodes b + dimensions_nodes ds) t (base_width b + count + dimensions_width ds))
         (laid_base n t b) count (laid_dimensions (n + base_nodes b) (t + base_width b + count) ds)
 
     pub laid_initialiser : ℕ → ℕ → InitTree → InitTree
@@ -194,7 +198,7 @@ module _ (spans : List Span) where
     laid_designators n t (s.then_designator x xs) = s.then_designator (laid_designator n t x) (laid_designators (n + designator_nodes x) (t + designator_width x) xs)
 
     pub laid_expression : ℕ → ℕ → ExprTree → ExprTree
-    laid_expression n t (s.expression node f) = s.expression (node_at spans (n + expression_form_nodes f) t (length (expression_form_tokens f))) (laid_expression_form n t f)
+    laid_expression n t (s.expression node f) = s.expression (set (n + expression_form_nodes f) t (length (expression_form_tokens f))) (laid_expression_form n t f)
 
     pub laid_expressions : ℕ → ℕ → ExprTrees → ExprTrees
     laid_expressions n t s.no_expressions = s.no_expressions
@@ -245,7 +249,7 @@ module _ (spans : List Span) where
 
   abbrev mutual
     pub laid_statement : ℕ → ℕ → StmtTree → StmtTree
-    laid_statement n t (s.statement node f) = s.statement (node_at spans (n + statement_form_nodes f) t (length (statement_form_tokens f))) (laid_statement_form n t f)
+    laid_statement n t (s.statement node f) = s.statement (set (n + statement_form_nodes f) t (length (statement_form_tokens f))) (laid_statement_form n t f)
 
     pub laid_statements : ℕ → ℕ → StmtTrees → StmtTrees
     laid_statements n t s.no_statements = s.no_statements
@@ -284,7 +288,7 @@ module _ (spans : List Span) where
 
     pub laid_section : ℕ → ℕ → SectionTree → SectionTree
     laid_section n t (s.section node labels body) =
-        s.section (node_at spans (n + labels_nodes labels + statements_nodes body) t (labels_width labels + statements_width body))
+        s.section (set (n + labels_nodes labels + statements_nodes body) t (labels_width labels + statements_width body))
         (laid_labels n t labels) (laid_statements (n + labels_nodes labels) (t + labels_width labels) body)
 
     pub laid_sections : ℕ → ℕ → SectionTrees → SectionTrees
@@ -297,8 +301,8 @@ module _ (spans : List Span) where
       (laid_declarator (n + base_nodes b) (t + length (storage_tokens word) + base_width b) d)
       (laid_statement (n + base_nodes b + declarator_nodes d) (t + length (storage_tokens word) + base_width b + declarator_width d) body)
 
-  -- a unit from the node 0 and the token 0 on
-  abbrev pub unit_laid_out : UnitTree → UnitTree
-  unit_laid_out (s.empty_unit node) = s.empty_unit (node_at spans 0 0 1)
-  unit_laid_out (s.declares node d) = s.declares (node_at spans (declaration_nodes d) 0 (declaration_width d)) (laid_declaration 0 0 d)
-  unit_laid_out (s.defines node f) = s.defines (node_at spans (function_nodes f) 0 (function_width f)) (laid_function 0 0 f)
+-- a unit from the node 0 and the token 0 on
+abbrev pub unit_laid_out : List Span → UnitTree → UnitTree
+unit_laid_out spans (s.empty_unit node) = s.empty_unit (node_at spans 0 0 1)
+unit_laid_out spans (s.declares node d) = s.declares (node_at spans (declaration_nodes d) 0 (declaration_width d)) (laid_declaration (node_at spans) 0 0 d)
+unit_laid_out spans (s.defines node f) = s.defines (node_at spans (function_nodes f) 0 (function_width f)) (laid_function (node_at spans) 0 0 f)

@@ -1,34 +1,30 @@
-use Rattle.std.proofs.Common.{drop, sym, ◌∙◌, arith}
-use Rattle.std.proofs.lemmas.Result.{err_from_is_err_and}
-use Rattle.std.proofs.lemmas.List.{length-drop}
+use Rattle.std.proofs.Common.{◌≡◌, length, sym, ◌∙◌, arith, map}
+use Rattle.std.proofs.lemmas.List.{length-map}
+use Rattle.stk_tree.specs.Layout.{laid_expression, unnumbered_at}
 use Rattle.stk_tree.specs.View.{view_expression}
-use Rattle.stk_grammar.proofs.Laws.{Ends-stops, expression_of_found, found_bare, none_of_more, none_of_none}
+use Rattle.stk_layout.proofs.Few.{expression_tokens-few}
+use Rattle.stk_lexeme.specs.Lexemes.{lexeme_of, lexemes_of, spans_of}
+use Rattle.stk_grammar.specs.Expressions.{IsExpression}
 use Rattle.stk_expr.specs.Gives.{named}
-use Rattle.stk_expr.proofs.Rows.{none_of_fails, rest_within}
+use Rattle.stk_expr.proofs.Placing.{laid_bare, laid_is, width_of}
 use Rattle.stk_expr.proofs.reading.expr.Goals as goal
 
-pub returns-in_err-found-clause-none : goal.returns-in_err-found-clause-none
-returns-in_err-found-clause-none c =
-    let p = err_from_is_err_and c.from_residual.result c.from_residual.ensures.1 in
-    let e = c.in_err-found.field-0.0 in
-    λ is. none_of_none (named c.args.bytes.now c.args.names.now) c.args.level c.args.lexemes.now c.args.at (none_of_fails e _ (sym p.2 ∙ cc (p.1, is)) (rw c.split_at.ensures.back at c.in_err-found.ensures.value))
+pub place_expression-requires-clause-numbers : goal.place_expression-requires-clause-numbers
+place_expression-requires-clause-numbers c =
+    let t = view_expression c.in_ok-tree.tree in
+    let found : IsExpression (named c.args.bytes.now c.args.names.now) c.args.level (lexemes_of c.args.bytes.now c.args.tokens.now) c.args.at c.in_ok-tree.end t = rw (sym c.in_ok-lexemes.ensures, sym c.as_slice.ensures.value) c.in_ok-tree.ensures.found in
+    let wide = width_of (named c.args.bytes.now c.args.names.now) c.args.level (lexemes_of c.args.bytes.now c.args.tokens.now) c.args.at c.in_ok-tree.end t found in
+    omega (arith, expression_tokens-few t, wide, length-map c.args.tokens.now (lexeme_of c.args.bytes.now), c.requires.few)
 
-pub overflow_sub-result : goal.overflow_sub-result
-overflow_sub-result c =
-    let n = c.in_ok-found in
-    omega (arith, rest_within (named c.args.bytes.now c.args.names.now) 400 c.args.level (drop c.args.at c.args.lexemes.now) (view_expression n.found.tree) n.found.rest.now c.requires.level.1 (rw c.split_at.ensures.back at n.ensures.value), length-drop c.args.at c.args.lexemes.now)
+pub returns-clause-found : goal.returns-clause-found
+returns-clause-found c =
+    let t = view_expression c.in_ok-tree.tree in
+    let found : IsExpression (named c.args.bytes.now c.args.names.now) c.args.level (lexemes_of c.args.bytes.now c.args.tokens.now) c.args.at c.in_ok-tree.end t = rw (sym c.in_ok-lexemes.ensures, sym c.as_slice.ensures.value) c.in_ok-tree.ensures.found in
+    rw c.place_expression.ensures (laid_is (unnumbered_at c.as_slice-2.result.now) (named c.args.bytes.now c.args.names.now) c.args.level (lexemes_of c.args.bytes.now c.args.tokens.now) c.args.at c.in_ok-tree.end t 0 c.args.at found)
 
-pub returns-then-stops-clause-found : goal.returns-then-stops-clause-found
-returns-then-stops-clause-found c =
-    let n = c.in_ok-found in
-    rw c.into_inner.ensures (expression_of_found (named c.args.bytes.now c.args.names.now) c.args.level c.args.lexemes.now c.args.at (view_expression n.found.tree) n.found.rest.now c.requires.within c.requires.level.1 (rw c.split_at.ensures.back at n.ensures.value) (sym c.stops.ensures ∙ c.if-stops.true))
-
-pub returns-then-stops-clause-bare : goal.returns-then-stops-clause-bare
-returns-then-stops-clause-bare c =
-    let n = c.in_ok-found in
-    rw c.into_inner.ensures (found_bare (named c.args.bytes.now c.args.names.now) 400 c.args.level _ (view_expression n.found.tree) n.found.rest.now c.requires.level.1 n.ensures.value (Ends-stops c.args.level n.found.rest.now (sym c.stops.ensures ∙ c.if-stops.true)))
-
-pub returns-else-stops-clause-none : goal.returns-else-stops-clause-none
-returns-else-stops-clause-none c =
-    let n = c.in_ok-found in
-    λ _. none_of_more (named c.args.bytes.now c.args.names.now) c.args.level c.args.lexemes.now c.args.at (view_expression n.found.tree) n.found.rest.now (rw c.split_at.ensures.back at n.ensures.value) (sym c.stops.ensures ∙ c.if-stops.false)
+pub returns-clause-places : goal.returns-clause-places
+returns-clause-places c =
+    let t = view_expression c.in_ok-tree.tree in
+    let u = view_expression c.place_expression.new.x in
+    let e : u ≡ laid_expression (unnumbered_at (spans_of c.args.tokens.now)) 0 c.args.at t = rw (sym c.in_ok-spans.ensures, sym c.as_slice-2.ensures.value) c.place_expression.ensures in
+    laid_bare (unnumbered_at (spans_of c.args.tokens.now)) t u 0 c.args.at c.in_ok-tree.ensures.bare e

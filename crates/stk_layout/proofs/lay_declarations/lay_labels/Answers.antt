@@ -1,4 +1,4 @@
-use Rattle.std.proofs.Common.{rules, arith, ◌≡◌}
+use Rattle.std.proofs.Common.{arith}
 use Rattle.std.proofs.lemmas.Grind.{common_steps}
 use Rattle.stk_layout.proofs.Chains.{chained_set}
 use Rattle.stk_layout.proofs.lay_declarations.lay_labels.Goals as goal

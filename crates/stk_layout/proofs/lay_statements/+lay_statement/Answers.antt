@@ -1,4 +1,4 @@
-use Rattle.std.proofs.Common.{rules, arith, ◌≡◌}
+use Rattle.std.proofs.Common.{rules, arith}
 use Rattle.std.proofs.lemmas.Grind.{common_steps}
 use Rattle.stk_layout.proofs.Chains.{chained_set}
 use Rattle.stk_layout.proofs.Views.{view_else, view_switch, view_while, view_do, view_for, view_return}

@@ -1,0 +1,11 @@
+pub mod Apart
+pub mod Complete
+pub mod Declarations
+pub mod Found
+pub mod Laws
+pub mod Prints
+pub mod Shorter
+pub mod Sound
+pub mod Starts
+pub mod Steps
+pub mod Units

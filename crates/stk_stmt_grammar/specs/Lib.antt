@@ -1,0 +1,4 @@
+pub mod Bare
+pub mod Fits
+pub mod Reading
+pub mod Units
