@@ -1,0 +1,172 @@
+//! Declarators (C11 6.7.6), and declarators with a comma between each two.
+
+ghost use Rattle.std.specs.Prelude.{◌≡◌, ◌+◌, ◌≤◌, IfOk, length, map};
+ghost use Rattle.stk_tree.specs.Height.{tail_height};
+ghost use Rattle.stk_tree.specs.View.{declarators, view_declarator, view_tail};
+ghost use Rattle.stk_decl_grammar.specs.Reading.{declarator_at, declarators_at, declared_tail_at, function_declarator_at};
+ghost use Rattle.stk_expr.specs.Gives.{Gives, named};
+ghost use Rattle.stk_decl.specs.Places.{declarator_in};
+
+use crate::arrays::{array_declarator, array_parts};
+use crate::build;
+use crate::front::name_at;
+use crate::initialisers::initial;
+use crate::parameters::{FoundTail, parameter_tail};
+use crate::turns::{Turn, declarator_turn};
+use std::alloc::Global;
+use stk_base::List;
+use stk_ctype::Names;
+use stk_expr::Parse;
+use stk_grammar::{behind_left_paren, stars_at};
+use stk_tree::{Declr, Lexeme};
+
+/// Where declarators stand.
+#[derive(Clone, Copy, Debug, PartialEq, Eq)]
+pub enum Place {
+    /// In a member of a `struct`.
+    Member,
+    /// In a block or a `for`.
+    Local,
+    /// At file scope.
+    File,
+}
+
+/// What follows the name of a declarator: parameters only at file scope.
+fn declared_tail<'a>(
+    alloc: Global,
+    bytes: &[u8],
+    names: &Names,
+    room: usize,
+    file: bool,
+    lexemes: &'a [Lexeme],
+) -> Result<FoundTail<'a>, Parse>
+    requires { room ≤ 400 }
+    ensures value { Gives (λ x. (view_tail x.tail, x.rest.now)) result (declared_tail_at (named bytes.now names.now) room file lexemes.now) }
+    ensures height { IfOk result (λ x. (x.height ≡ tail_height (view_tail x.tail)) × (x.height ≤ room + length lexemes.now)) }
+{
+    if let Some(inside) = behind_left_paren(lexemes) {
+        if !file {
+            return Err(Parse::NoTree);
+        }
+        return parameter_tail(alloc, bytes, names, room, inside);
+    }
+    let found = array_parts(alloc, bytes, names, room, lexemes)?;
+    Ok(FoundTail {
+        tail: build::arrays(found.list),
+        height: found.height,
+        rest: found.rest,
+    })
+}
+
+/// A declarator with its initialiser, of at most the height `room`.
+#[tactic(auto, unfolding(stk_decl_grammar::specs::Reading::declarator_at))]
+fn declarator<'a>(
+    alloc: Global,
+    bytes: &[u8],
+    names: &Names,
+    room: usize,
+    file: bool,
+    lexemes: &'a [Lexeme],
+) -> Result<(Declr, &'a [Lexeme]), Parse>
+    requires { room ≤ 400 }
+    ensures { Gives (λ x. (view_declarator x.0, x.1.now)) result (declarator_at (named bytes.now names.now) room file lexemes.now) }
+{
+    if room == 0 {
+        return Err(Parse::NoTree);
+    }
+    let inner = room - 1;
+    let (stars, rest) = stars_at(lexemes);
+    let Some((name, rest)) = name_at(bytes, names, rest) else {
+        return Err(Parse::NoTree);
+    };
+    let found = declared_tail(alloc, bytes, names, inner, file, rest)?;
+    let (init, rest) = initial(alloc, bytes, names, inner, found.rest)?;
+    if found.height + stars > inner {
+        return Err(Parse::NoTree);
+    }
+    let declr = build::declarator(stars as u32, Some(name), found.tail, init);
+    Ok((declr, rest))
+}
+
+/// The declarator of a function, of at most the height `room`: a name with parameters.
+#[tactic(auto, unfolding(stk_decl_grammar::specs::Reading::function_declarator_at))]
+pub fn function_declarator<'a>(
+    alloc: Global,
+    bytes: &[u8],
+    names: &Names,
+    room: usize,
+    lexemes: &'a [Lexeme],
+) -> Result<(Declr, &'a [Lexeme]), Parse>
+    requires { room ≤ 400 }
+    ensures { Gives (λ x. (view_declarator x.0, x.1.now)) result (function_declarator_at (named bytes.now names.now) room lexemes.now) }
+{
+    if room == 0 {
+        return Err(Parse::NoTree);
+    }
+    let inner = room - 1;
+    let (stars, rest) = stars_at(lexemes);
+    let Some((name, rest)) = name_at(bytes, names, rest) else {
+        return Err(Parse::NoTree);
+    };
+    let Some(inside) = behind_left_paren(rest) else {
+        return Err(Parse::NoTree);
+    };
+    let found = parameter_tail(alloc, bytes, names, inner, inside)?;
+    if found.height + stars > inner {
+        return Err(Parse::NoTree);
+    }
+    let declr = build::bare_declarator(stars as u32, Some(name), found.tail);
+    Ok((declr, found.rest))
+}
+
+/// A declarator as one stands at a place.
+fn declarator_in<'a>(
+    alloc: Global,
+    bytes: &[u8],
+    names: &Names,
+    place: Place,
+    room: usize,
+    lexemes: &'a [Lexeme],
+) -> Result<(Declr, &'a [Lexeme]), Parse>
+    requires { room ≤ 400 }
+    ensures { Gives (λ x. (view_declarator x.0, x.1.now)) result (declarator_in place (named bytes.now names.now) room lexemes.now) }
+{
+    match place {
+        Place::Member => {
+            let found = array_declarator(alloc, bytes, names, room, false, lexemes)?;
+            Ok((found.declr, found.rest))
+        }
+        Place::Local => declarator(alloc, bytes, names, room, false, lexemes),
+        Place::File => declarator(alloc, bytes, names, room, true, lexemes),
+    }
+}
+
+/// One declarator or more, and the `;`. Each turn takes a token, so there are no more turns than tokens.
+#[tactic(auto, unfolding(stk_decl_grammar::specs::Reading::declarators_at))]
+pub fn declarators<'a>(
+    alloc: Global,
+    bytes: &[u8],
+    names: &Names,
+    place: Place,
+    room: usize,
+    lexemes: &'a [Lexeme],
+) -> Result<(List<Declr>, &'a [Lexeme]), Parse>
+    requires { room ≤ 400 }
+    ensures { Gives (λ x. (declarators (map view_declarator x.0), x.1.now)) result (declarators_at (declarator_in place (named bytes.now names.now) room) lexemes.now) }
+{
+    let (first, mut rest) = declarator_in(alloc, bytes, names, place, room, lexemes)?;
+    let mut list = Vec::new(alloc);
+    list.push(first)?;
+    for _turn in 0..rest.len() + 1 {
+        let Some((turn, next)) = declarator_turn(rest) else {
+            return Err(Parse::NoTree);
+        };
+        if let Turn::End(_) = turn {
+            return Ok((List::from_vec(list), next));
+        }
+        let (found, behind) = declarator_in(alloc, bytes, names, place, room, next)?;
+        list.push(found)?;
+        rest = behind;
+    }
+    Err(Parse::NoTree)
+}

@@ -1,0 +1,232 @@
+//! Initialisers (C11 6.7.9).
+
+ghost use Rattle.std.specs.Prelude.{◌≡◌, ◌+◌, ◌≤◌, ◌<◌, suc, IfOk, length, map, option_map};
+ghost use Rattle.stk_tree.specs.Height.{designator_height, designators_height, maybe_initialiser_height};
+ghost use Rattle.stk_tree.specs.View.{designators, items, view_designator, view_initialiser, view_item};
+ghost use Rattle.stk_decl_grammar.specs.Reading.{behind_path, designator_at, designators_at, initial_at, initialiser_at, item_at, items_at, path_at};
+ghost use Rattle.stk_expr.specs.Gives.{Gives, named};
+ghost use Rattle.stk_decl.specs.Given.{given_initialiser};
+
+use crate::arrays::higher;
+use crate::build;
+use crate::expressions::stopped;
+use crate::turns::{Turn, begins_designator, brace_turn};
+use std::alloc::Global;
+use stk_base::List;
+use stk_ctype::Names;
+use stk_expr::Parse;
+use stk_grammar::{
+    behind_assign, behind_dot, behind_left_brace, behind_left_bracket, behind_right_brace,
+    behind_right_bracket, word_at,
+};
+use stk_tree::{Desig, Init, Item, Lexeme};
+
+/// A designator that was read, its height, and the tokens behind it.
+#[derive(Drop)]
+struct FoundDesignator<'a> {
+    part: Desig,
+    height: usize,
+    rest: &'a [Lexeme],
+}
+
+/// Designators that were read, how high they are, and the tokens behind them.
+#[derive(Drop)]
+struct FoundDesignators<'a> {
+    list: List<Desig>,
+    height: usize,
+    rest: &'a [Lexeme],
+}
+
+/// A designator.
+#[tactic(auto, unfolding(stk_decl_grammar::specs::Reading::designator_at))]
+fn designator<'a>(
+    alloc: Global,
+    bytes: &[u8],
+    names: &Names,
+    room: usize,
+    lexemes: &'a [Lexeme],
+) -> Result<FoundDesignator<'a>, Parse>
+    requires { room ≤ 400 }
+    ensures value { Gives (λ x. (view_designator x.part, x.rest.now)) result (designator_at (named bytes.now names.now) room lexemes.now) }
+    ensures height { IfOk result (λ x. (x.height ≡ designator_height (view_designator x.part)) × (x.height ≤ room)) }
+{
+    if let Some(inside) = behind_dot(lexemes) {
+        let Some((member, rest)) = word_at(inside) else {
+            return Err(Parse::NoTree);
+        };
+        return Ok(FoundDesignator {
+            part: build::dot(member),
+            height: 0,
+            rest,
+        });
+    }
+    let Some(inside) = behind_left_bracket(lexemes) else {
+        return Err(Parse::NoTree);
+    };
+    let found = stopped(alloc, bytes, names, room, 3, inside)?;
+    let Some(rest) = behind_right_bracket(found.rest) else {
+        return Err(Parse::NoTree);
+    };
+    Ok(FoundDesignator {
+        part: build::at(found.tree),
+        height: found.height,
+        rest,
+    })
+}
+
+/// Designators in a row. Each turn takes a token, so there are no more turns than tokens.
+fn designators<'a>(
+    alloc: Global,
+    bytes: &[u8],
+    names: &Names,
+    room: usize,
+    lexemes: &'a [Lexeme],
+) -> Result<FoundDesignators<'a>, Parse>
+    requires { room ≤ 400 }
+    ensures value { Gives (λ x. (designators (map view_designator x.list), x.rest.now)) result (designators_at (designator_at (named bytes.now names.now) room) (suc (length lexemes.now)) lexemes.now) }
+    ensures height { IfOk result (λ x. x.height ≡ designators_height (designators (map view_designator x.list))) }
+{
+    let mut list = Vec::new(alloc);
+    let mut height = 0;
+    let mut rest = lexemes;
+    for turn in 0..lexemes.len() + 1 {
+        if !begins_designator(rest) {
+            return Ok(FoundDesignators {
+                list: List::from_vec(list),
+                height,
+                rest,
+            });
+        }
+        let found = designator(alloc, bytes, names, room, rest)?;
+        list.push(found.part)?;
+        height = higher(height, found.height + turn + 1);
+        rest = found.rest;
+    }
+    Err(Parse::NoTree)
+}
+
+/// The tokens behind the `=` that follows designators; all of them where there are no designators.
+fn behind_path<'a>(path: &List<Desig>, lexemes: &'a [Lexeme]) -> Option<&'a [Lexeme]>
+    ensures { option_map (λ x. x.now) result ≡ behind_path (designators (map view_designator path.now)) lexemes.now }
+{
+    match path.as_slice() {
+        [] => Some(lexemes),
+        [_, _rest @ ..] => behind_assign(lexemes),
+    }
+}
+
+/// The designators of an item, with their `=`, of at most the height `room`.
+#[tactic(auto, unfolding(stk_decl_grammar::specs::Reading::path_at))]
+fn path<'a>(
+    alloc: Global,
+    bytes: &[u8],
+    names: &Names,
+    room: usize,
+    lexemes: &'a [Lexeme],
+) -> Result<(List<Desig>, &'a [Lexeme]), Parse>
+    requires { room ≤ 400 }
+    ensures { Gives (λ x. (designators (map view_designator x.0), x.1.now)) result (path_at (named bytes.now names.now) room lexemes.now) }
+{
+    let found = designators(alloc, bytes, names, room, lexemes)?;
+    if found.height > room {
+        return Err(Parse::NoTree);
+    }
+    let Some(rest) = behind_path(&found.list, found.rest) else {
+        return Err(Parse::NoTree);
+    };
+    Ok((found.list, rest))
+}
+
+/// An item of an initialiser's braces.
+#[cycle(initialiser)]
+fn item<'a>(
+    alloc: Global,
+    bytes: &[u8],
+    names: &Names,
+    room: usize,
+    lexemes: &'a [Lexeme],
+) -> Result<(Item, &'a [Lexeme]), Parse>
+    requires { room < 400 }
+    ensures { Gives (λ x. (view_item x.0, x.1.now)) result (item_at (path_at (named bytes.now names.now) room) (initialiser_at (named bytes.now names.now) room) lexemes.now) }
+{
+    let (path, rest) = path(alloc, bytes, names, room, lexemes)?;
+    let (init, rest) = initialiser(alloc, bytes, names, room, rest)?;
+    Ok((build::item(path, init), rest))
+}
+
+/// Items, whether a comma stands behind the last one, and the `}`. Each turn takes a token, so there are no more turns
+/// than tokens.
+#[cycle(initialiser)]
+#[tactic(auto, unfolding(stk_decl_grammar::specs::Reading::items_at))]
+fn items<'a>(
+    alloc: Global,
+    bytes: &[u8],
+    names: &Names,
+    room: usize,
+    lexemes: &'a [Lexeme],
+) -> Result<(List<Item>, bool, &'a [Lexeme]), Parse>
+    requires { room < 400 }
+    ensures { Gives (λ x. ((items (map view_item x.0), x.1), x.2.now)) result (items_at (item_at (path_at (named bytes.now names.now) room) (initialiser_at (named bytes.now names.now) room)) lexemes.now) }
+{
+    if let Some(rest) = behind_right_brace(lexemes) {
+        return Ok((List::empty(alloc), false, rest));
+    }
+    let (first, mut rest) = item(alloc, bytes, names, room, lexemes)?;
+    let mut list = Vec::new(alloc);
+    list.push(first)?;
+    for _turn in 0..rest.len() + 1 {
+        let Some((turn, next)) = brace_turn(rest) else {
+            return Err(Parse::NoTree);
+        };
+        if let Turn::End(comma) = turn {
+            return Ok((List::from_vec(list), comma, next));
+        }
+        let (found, behind) = item(alloc, bytes, names, room, next)?;
+        list.push(found)?;
+        rest = behind;
+    }
+    Err(Parse::NoTree)
+}
+
+/// An initialiser, of at most the height `room`.
+#[cycle(initialiser)]
+#[tactic(auto, unfolding(stk_decl_grammar::specs::Reading::initialiser_at))]
+pub fn initialiser<'a>(
+    alloc: Global,
+    bytes: &[u8],
+    names: &Names,
+    room: usize,
+    lexemes: &'a [Lexeme],
+) -> Result<(Init, &'a [Lexeme]), Parse>
+    requires { room ≤ 400 }
+    ensures { Gives (λ x. (view_initialiser x.0, x.1.now)) result (initialiser_at (named bytes.now names.now) room lexemes.now) }
+{
+    if room == 0 {
+        return Err(Parse::NoTree);
+    }
+    if let Some(inside) = behind_left_brace(lexemes) {
+        let (list, comma, rest) = items(alloc, bytes, names, room - 1, inside)?;
+        return Ok((build::braces(list, comma), rest));
+    }
+    let found = stopped(alloc, bytes, names, room, 2, lexemes)?;
+    Ok((build::plain(found.tree), found.rest))
+}
+
+/// The initialiser that may follow a declarator, with its `=`.
+pub fn initial<'a>(
+    alloc: Global,
+    bytes: &[u8],
+    names: &Names,
+    room: usize,
+    lexemes: &'a [Lexeme],
+) -> Result<(Option<Init>, &'a [Lexeme]), Parse>
+    requires { room ≤ 400 }
+    ensures value { Gives (λ x. (given_initialiser x.0, x.1.now)) result (initial_at (named bytes.now names.now) room lexemes.now) }
+    ensures low { IfOk result (λ x. maybe_initialiser_height (given_initialiser x.0) ≤ room) }
+{
+    let Some(next) = behind_assign(lexemes) else {
+        return Ok((None, lexemes));
+    };
+    let (init, rest) = initialiser(alloc, bytes, names, room, next)?;
+    Ok((Some(init), rest))
+}

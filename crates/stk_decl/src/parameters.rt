@@ -1,0 +1,143 @@
+//! The parameters of functions (C11 6.7.6.3).
+
+ghost use Rattle.std.specs.Prelude.{◌≡◌, ◌≤◌, IfOk, map};
+ghost use Rattle.stk_tree.specs.Height.{parameter_height, parameters_height, tail_height};
+ghost use Rattle.stk_tree.specs.Syntax as s;
+ghost use Rattle.stk_tree.specs.View.{parameters, view_parameter, view_tail};
+ghost use Rattle.stk_decl_grammar.specs.Reading.{more_parameters_at, parameter_at, parameter_tail_at};
+ghost use Rattle.stk_expr.specs.Gives.{Gives, named};
+ghost use Rattle.stk_decl.specs.Rows.{first_of, paired};
+
+use crate::arrays::{array_declarator, higher};
+use crate::build;
+use crate::front::{base, behind_void};
+use crate::turns::{Turn, parameter_turn};
+use std::alloc::Global;
+use stk_base::List;
+use stk_ctype::Names;
+use stk_expr::Parse;
+use stk_grammar::behind_right_paren;
+use stk_tree::{Lexeme, Param, Tail};
+
+/// A parameter that was read, its height, and the tokens behind it.
+#[derive(Drop)]
+struct FoundParameter<'a> {
+    param: Param,
+    height: usize,
+    rest: &'a [Lexeme],
+}
+
+/// Parameters that were read, whether `, ...` stands behind them, their greatest height, and the tokens behind them.
+#[derive(Drop)]
+struct FoundParameters<'a> {
+    list: List<Param>,
+    more: bool,
+    height: usize,
+    rest: &'a [Lexeme],
+}
+
+/// What follows a declarator's name, how high it is, and the tokens behind it.
+#[derive(Drop)]
+pub struct FoundTail<'a> {
+    pub tail: Tail,
+    pub height: usize,
+    pub rest: &'a [Lexeme],
+}
+
+/// A parameter, of at most the height `room`.
+#[tactic(auto, unfolding(stk_decl_grammar::specs::Reading::parameter_at))]
+fn parameter<'a>(
+    alloc: Global,
+    bytes: &[u8],
+    names: &Names,
+    room: usize,
+    lexemes: &'a [Lexeme],
+) -> Result<FoundParameter<'a>, Parse>
+    requires { room ≤ 400 }
+    ensures value { Gives (λ x. (view_parameter x.param, x.rest.now)) result (parameter_at (named bytes.now names.now) room lexemes.now) }
+    ensures height { IfOk result (λ x. (x.height ≡ parameter_height (view_parameter x.param)) × (x.height ≤ room)) }
+{
+    if room == 0 {
+        return Err(Parse::NoTree);
+    }
+    let (form, rest) = base(alloc, bytes, names, lexemes)?;
+    let found = array_declarator(alloc, bytes, names, room - 1, true, rest)?;
+    Ok(FoundParameter {
+        param: build::parameter(form, found.declr),
+        height: found.height + 1,
+        rest: found.rest,
+    })
+}
+
+/// One parameter or more, whether `, ...` follows, and the `)`. Each turn takes a token, so there are no more turns than
+/// tokens.
+fn parameters<'a>(
+    alloc: Global,
+    bytes: &[u8],
+    names: &Names,
+    room: usize,
+    lexemes: &'a [Lexeme],
+) -> Result<FoundParameters<'a>, Parse>
+    requires { room ≤ 400 }
+    ensures value { Gives (λ x. ((parameters (map view_parameter x.list), x.more), x.rest.now)) result (first_of (paired s.then_parameter) (parameter_at (named bytes.now names.now) room) (more_parameters_at (parameter_at (named bytes.now names.now) room)) lexemes.now) }
+    ensures height { IfOk result (λ x. (x.height ≡ parameters_height (parameters (map view_parameter x.list))) × (x.height ≤ room)) }
+{
+    let first = parameter(alloc, bytes, names, room, lexemes)?;
+    let mut height = first.height;
+    let mut rest = first.rest;
+    let mut list = Vec::new(alloc);
+    list.push(first.param)?;
+    for _turn in 0..rest.len() + 1 {
+        let Some((turn, next)) = parameter_turn(rest) else {
+            return Err(Parse::NoTree);
+        };
+        if let Turn::End(more) = turn {
+            return Ok(FoundParameters {
+                list: List::from_vec(list),
+                more,
+                height,
+                rest: next,
+            });
+        }
+        let found = parameter(alloc, bytes, names, room, next)?;
+        list.push(found.param)?;
+        height = higher(height, found.height);
+        rest = found.rest;
+    }
+    Err(Parse::NoTree)
+}
+
+/// What stands behind the `(` that follows a declarator's name.
+#[tactic(auto, unfolding(stk_decl_grammar::specs::Reading::parameter_tail_at))]
+pub fn parameter_tail<'a>(
+    alloc: Global,
+    bytes: &[u8],
+    names: &Names,
+    room: usize,
+    lexemes: &'a [Lexeme],
+) -> Result<FoundTail<'a>, Parse>
+    requires { room ≤ 400 }
+    ensures value { Gives (λ x. (view_tail x.tail, x.rest.now)) result (parameter_tail_at (parameter_at (named bytes.now names.now) room) lexemes.now) }
+    ensures height { IfOk result (λ x. (x.height ≡ tail_height (view_tail x.tail)) × (x.height ≤ room)) }
+{
+    if let Some(rest) = behind_right_paren(lexemes) {
+        return Ok(FoundTail {
+            tail: build::unspecified(),
+            height: 0,
+            rest,
+        });
+    }
+    if let Some(rest) = behind_void(lexemes) {
+        return Ok(FoundTail {
+            tail: build::no_parameters(),
+            height: 0,
+            rest,
+        });
+    }
+    let found = parameters(alloc, bytes, names, room, lexemes)?;
+    Ok(FoundTail {
+        tail: build::with_parameters(found.list, found.more),
+        height: found.height,
+        rest: found.rest,
+    })
+}
