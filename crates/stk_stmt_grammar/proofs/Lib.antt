@@ -12,3 +12,4 @@ pub mod Starts
 pub mod Steps
 pub mod Turns
 pub mod Units
+pub mod LaidUnits
