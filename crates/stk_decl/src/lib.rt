@@ -14,3 +14,6 @@ mod reading;
 mod turns;
 
 pub use reading::{LeadingDeclaration, decl, declaration_within, front, front_within};
+
+#[cfg(test)]
+mod tests;
