@@ -1,3 +1,4 @@
+pub mod Leading
 pub mod Low
 pub mod Rows
 pub mod Steps

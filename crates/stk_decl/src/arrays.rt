@@ -10,7 +10,7 @@ ghost use Rattle.stk_expr.specs.Gives.{Gives, named};
 
 use crate::build;
 use crate::expressions::stopped;
-use crate::front::declared_name_at;
+use crate::fronts::declared_name_at;
 use std::alloc::Global;
 use stk_base::List;
 use stk_ctype::Names;

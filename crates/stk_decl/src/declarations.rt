@@ -9,12 +9,13 @@ ghost use Rattle.stk_expr.specs.Gives.{Gives, named};
 use crate::bases::full_base;
 use crate::build;
 use crate::declarators::{Place, declarators, function_declarator};
-use crate::front::{base, storage_at};
+use crate::fronts::base;
 use std::alloc::Global;
 use stk_base::List;
 use stk_ctype::Names;
+use stk_decl_grammar::{opens_body, storage_at};
 use stk_expr::Parse;
-use stk_grammar::{behind_left_brace, behind_semicolon};
+use stk_grammar::behind_semicolon;
 use stk_tree::{Declaration, Declr, Lexeme, Storage};
 
 /// The declarators of a declaration at file scope, where there may be none, and the `;`.
@@ -133,7 +134,7 @@ pub fn function_front<'a>(
     ensures { Gives (λ x. (view_declaration x.0, x.1.now)) result (front_at (named bytes.now names.now) room lexemes.now) }
 {
     let (head, rest) = head(alloc, bytes, names, room, lexemes)?;
-    if behind_left_brace(rest).is_none() {
+    if !opens_body(rest) {
         return Err(Parse::NoTree);
     }
     Ok((head, rest))

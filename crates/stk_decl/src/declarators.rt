@@ -9,7 +9,7 @@ ghost use Rattle.stk_decl.specs.Places.{declarator_in};
 
 use crate::arrays::{array_declarator, array_parts};
 use crate::build;
-use crate::front::name_at;
+use crate::fronts::name_at;
 use crate::initialisers::initial;
 use crate::parameters::{FoundTail, parameter_tail};
 use crate::turns::{Turn, declarator_turn};

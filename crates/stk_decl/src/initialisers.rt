@@ -10,10 +10,11 @@ ghost use Rattle.stk_decl.specs.Given.{given_initialiser};
 use crate::arrays::higher;
 use crate::build;
 use crate::expressions::stopped;
-use crate::turns::{Turn, begins_designator, brace_turn};
+use crate::turns::{Turn, brace_turn};
 use std::alloc::Global;
 use stk_base::List;
 use stk_ctype::Names;
+use stk_decl_grammar::begins_designator;
 use stk_expr::Parse;
 use stk_grammar::{
     behind_assign, behind_dot, behind_left_brace, behind_left_bracket, behind_right_brace,

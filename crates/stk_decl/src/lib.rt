@@ -7,7 +7,13 @@ mod build;
 mod declarations;
 mod declarators;
 mod expressions;
-mod front;
+mod fronts;
 mod initialisers;
 mod parameters;
+mod reading;
 mod turns;
+
+pub use reading::{LeadingDeclaration, decl, declaration_within, front, front_within};
+
+#[cfg(test)]
+mod tests;

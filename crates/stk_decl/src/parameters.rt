@@ -10,11 +10,12 @@ ghost use Rattle.stk_decl.specs.Rows.{first_of, paired};
 
 use crate::arrays::{array_declarator, higher};
 use crate::build;
-use crate::front::{base, behind_void};
+use crate::fronts::base;
 use crate::turns::{Turn, parameter_turn};
 use std::alloc::Global;
 use stk_base::List;
 use stk_ctype::Names;
+use stk_decl_grammar::behind_void;
 use stk_expr::Parse;
 use stk_grammar::behind_right_paren;
 use stk_tree::{Lexeme, Param, Tail};

@@ -1,13 +1,11 @@
 //! How a row of elements goes on.
 
 ghost use Rattle.std.specs.Prelude.{◌≡◌, option_map};
-ghost use Rattle.stk_decl_grammar.specs.Reading.{begins_designator, more_ends};
 ghost use Rattle.stk_decl.specs.Turns.{brace_turn, declarator_turn, parameter_turn};
 
-use stk_grammar::{
-    behind_comma, behind_ellipsis, behind_right_brace, behind_right_paren, behind_semicolon,
-};
-use stk_tree::{Fixed, Lexeme};
+use stk_decl_grammar::behind_more;
+use stk_grammar::{behind_comma, behind_right_brace, behind_right_paren, behind_semicolon};
+use stk_tree::Lexeme;
 
 /// How a row goes on at some tokens.
 #[derive(Clone, Copy, Debug, PartialEq, Eq)]
@@ -30,13 +28,6 @@ pub fn brace_turn(lexemes: &[Lexeme]) -> Option<(Turn, &[Lexeme])>
         None => Some((Turn::More, next)),
         Some(rest) => Some((Turn::End(true), rest)),
     }
-}
-
-/// The tokens behind `...` and `)`.
-fn behind_more(lexemes: &[Lexeme]) -> Option<&[Lexeme]>
-    ensures { option_map (λ x. x.now) result ≡ more_ends lexemes.now }
-{
-    behind_right_paren(behind_ellipsis(lexemes)?)
 }
 
 /// Behind a parameter.
@@ -62,14 +53,4 @@ pub fn declarator_turn(lexemes: &[Lexeme]) -> Option<(Turn, &[Lexeme])>
         return Some((Turn::End(false), rest));
     };
     Some((Turn::More, next))
-}
-
-/// Whether a designator begins here.
-pub fn begins_designator(lexemes: &[Lexeme]) -> bool
-    ensures { result ≡ begins_designator lexemes.now }
-{
-    matches!(
-        lexemes.first(),
-        Some(Lexeme::Fixed(Fixed::Dot | Fixed::LeftBracket))
-    )
 }

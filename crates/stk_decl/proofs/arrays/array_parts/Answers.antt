@@ -1,4 +1,4 @@
-use Rattle.std.proofs.Common.{◌+◌, length, map, refl, arith}
+use Rattle.std.proofs.Common.{suc, ◌+◌, length, map, refl, arith}
 use Rattle.std.proofs.lemmas.Result.{err_from_is_err_and}
 use Rattle.stk_tree.specs.View.{view_dimension}
 use Rattle.stk_grammar.specs.Reading.{dimensions_at}
@@ -22,7 +22,7 @@ loop-turn-init c =
 pub returns-in_default-clause-value : goal.returns-in_default-clause-value
 returns-in_default-clause-value c =
     let i = c.loop-turn.invariant in
-    rw c.from_vec.ensures (row_ends _ _ _ _ _ (dimensions_row (stopped_at (named c.args.bytes.now c.args.names.now) c.args.room)) (length c.args.lexemes.now + 1) c.loop-turn.turn (map view_dimension c.loop-turn.list.items) c.loop-turn.rest.now _ _ _ c.loop-turn-test.true (dimension_end c.loop-turn.rest.now c.in_default.ensures) i.same)
+    rw c.from_vec.ensures (row_ends _ _ _ _ _ (dimensions_row (stopped_at (named c.args.bytes.now c.args.names.now) c.args.room)) (length c.args.lexemes.now + 1) c.loop-turn.turn (map view_dimension c.loop-turn.list.items) c.loop-turn.rest.now _ _ (dimensions_at (stopped_at (named c.args.bytes.now c.args.names.now) c.args.room) (suc (length c.args.lexemes.now)) c.args.lexemes.now) c.loop-turn-test.true (dimension_end c.loop-turn.rest.now c.in_default.ensures) i.same)
 
 pub returns-in_default-clause-height : goal.returns-in_default-clause-height
 returns-in_default-clause-height c =
@@ -33,13 +33,13 @@ pub returns-in_err-found-clause-value : goal.returns-in_err-found-clause-value
 returns-in_err-found-clause-value c =
     let i = c.loop-turn.invariant in
     let p = err_from_is_err_and c.from_residual.result c.from_residual.ensures.1 in
-    rw (p.1, p.2) (row_fails _ _ _ _ _ (dimensions_row (stopped_at (named c.args.bytes.now c.args.names.now) c.args.room)) c.in_err-found.field-0.0 (length c.args.lexemes.now + 1) c.loop-turn.turn (map view_dimension c.loop-turn.list.items) c.loop-turn.rest.now c.in-Some.inside.now _ c.loop-turn-test.true (dimension_more c.loop-turn.rest.now c.in-Some.inside.now c.in-Some.ensures) c.in_err-found.ensures.value i.same)
+    rw (p.1, p.2) (row_fails _ _ _ _ _ (dimensions_row (stopped_at (named c.args.bytes.now c.args.names.now) c.args.room)) c.in_err-found.field-0.0 (length c.args.lexemes.now + 1) c.loop-turn.turn (map view_dimension c.loop-turn.list.items) c.loop-turn.rest.now c.in-Some.inside.now (dimensions_at (stopped_at (named c.args.bytes.now c.args.names.now) c.args.room) (suc (length c.args.lexemes.now)) c.args.lexemes.now) c.loop-turn-test.true (dimension_more c.loop-turn.rest.now c.in-Some.inside.now c.in-Some.ensures) c.in_err-found.ensures.value i.same)
 
 pub loop-turn-preserved : goal.loop-turn-preserved
 loop-turn-preserved c =
     let i = c.loop-turn.invariant in
     let n = c.in_ok-found in
-    let k = row_more _ _ _ _ _ (dimensions_row (stopped_at (named c.args.bytes.now c.args.names.now) c.args.room)) (length c.args.lexemes.now + 1) c.loop-turn.turn (map view_dimension c.loop-turn.list.items) c.loop-turn.rest.now c.in-Some.inside.now n.found.rest.now (view_dimension n.found.part) _ c.loop-turn-test.true (dimension_more c.loop-turn.rest.now c.in-Some.inside.now c.in-Some.ensures) n.ensures.value i.same in
+    let k = row_more _ _ _ _ _ (dimensions_row (stopped_at (named c.args.bytes.now c.args.names.now) c.args.room)) (length c.args.lexemes.now + 1) c.loop-turn.turn (map view_dimension c.loop-turn.list.items) c.loop-turn.rest.now c.in-Some.inside.now n.found.rest.now (view_dimension n.found.part) (dimensions_at (stopped_at (named c.args.bytes.now c.args.names.now) c.args.room) (suc (length c.args.lexemes.now)) c.args.lexemes.now) c.loop-turn-test.true (dimension_more c.loop-turn.rest.now c.in-Some.inside.now c.in-Some.ensures) n.ensures.value i.same in
     let e = map_push view_dimension c.loop-turn.list.items c.push.new.self.items n.found.part n.found.part c.in_ok-push.ensures.items refl in
     let size = pushed_size c.loop-turn.list.items c.push.new.self.items n.found.part c.in_ok-push.ensures.items in
     let high = parts_height-items view_dimension c.loop-turn.list.items (view_dimension n.found.part) in
@@ -53,4 +53,4 @@ loop-turn-preserved c =
 pub returns-clause-value : goal.returns-clause-value
 returns-clause-value c =
     let i = c.loop-turn.invariant in
-    row_spent _ _ _ _ _ (dimensions_row (stopped_at (named c.args.bytes.now c.args.names.now) c.args.room)) (length c.args.lexemes.now + 1) c.loop-turn.turn (map view_dimension c.loop-turn.list.items) c.loop-turn.rest.now _ c.loop-turn-test.false i.same
+    row_spent _ _ _ _ _ (dimensions_row (stopped_at (named c.args.bytes.now c.args.names.now) c.args.room)) (length c.args.lexemes.now + 1) c.loop-turn.turn (map view_dimension c.loop-turn.list.items) c.loop-turn.rest.now (dimensions_at (stopped_at (named c.args.bytes.now c.args.names.now) c.args.room) (suc (length c.args.lexemes.now)) c.args.lexemes.now) c.loop-turn-test.false i.same

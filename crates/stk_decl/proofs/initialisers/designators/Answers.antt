@@ -1,4 +1,4 @@
-use Rattle.std.proofs.Common.{◌+◌, length, map, refl, sym, ◌∙◌, arith}
+use Rattle.std.proofs.Common.{suc, ◌+◌, length, map, refl, sym, ◌∙◌, arith}
 use Rattle.std.proofs.lemmas.Result.{err_from_is_err_and}
 use Rattle.stk_tree.specs.View.{view_designator}
 use Rattle.stk_tree.specs.Syntax as s
@@ -20,7 +20,7 @@ loop-turn-init c =
 pub returns-then-not-begins_designator-clause-value : goal.returns-then-not-begins_designator-clause-value
 returns-then-not-begins_designator-clause-value c =
     let i = c.loop-turn.invariant in
-    rw c.from_vec.ensures (row_ends _ _ _ _ _ (designators_row (designator_at (named c.args.bytes.now c.args.names.now) c.args.room)) (length c.args.lexemes.now + 1) c.loop-turn.turn (map view_designator c.loop-turn.list.items) c.loop-turn.rest.now _ _ _ c.loop-turn-test.true (designator_end c.loop-turn.rest.now (sym c.begins_designator.ensures ∙ c.if-not-begins_designator.true)) i.same)
+    rw c.from_vec.ensures (row_ends _ _ _ _ _ (designators_row (designator_at (named c.args.bytes.now c.args.names.now) c.args.room)) (length c.args.lexemes.now + 1) c.loop-turn.turn (map view_designator c.loop-turn.list.items) c.loop-turn.rest.now _ _ (designators_at (designator_at (named c.args.bytes.now c.args.names.now) c.args.room) (suc (length c.args.lexemes.now)) c.args.lexemes.now) c.loop-turn-test.true (designator_end c.loop-turn.rest.now (sym c.begins_designator.ensures ∙ c.if-not-begins_designator.true)) i.same)
 
 pub returns-then-not-begins_designator-clause-height : goal.returns-then-not-begins_designator-clause-height
 returns-then-not-begins_designator-clause-height c = rw c.from_vec.ensures c.loop-turn.invariant.height
@@ -29,13 +29,13 @@ pub returns-in_err-found-clause-value : goal.returns-in_err-found-clause-value
 returns-in_err-found-clause-value c =
     let i = c.loop-turn.invariant in
     let p = err_from_is_err_and c.from_residual.result c.from_residual.ensures.1 in
-    rw (p.1, p.2) (row_fails _ _ _ _ _ (designators_row (designator_at (named c.args.bytes.now c.args.names.now) c.args.room)) c.in_err-found.field-0.0 (length c.args.lexemes.now + 1) c.loop-turn.turn (map view_designator c.loop-turn.list.items) c.loop-turn.rest.now c.loop-turn.rest.now _ c.loop-turn-test.true (designator_more c.loop-turn.rest.now (sym c.begins_designator.ensures ∙ c.if-not-begins_designator.false)) c.in_err-found.ensures.value i.same)
+    rw (p.1, p.2) (row_fails _ _ _ _ _ (designators_row (designator_at (named c.args.bytes.now c.args.names.now) c.args.room)) c.in_err-found.field-0.0 (length c.args.lexemes.now + 1) c.loop-turn.turn (map view_designator c.loop-turn.list.items) c.loop-turn.rest.now c.loop-turn.rest.now (designators_at (designator_at (named c.args.bytes.now c.args.names.now) c.args.room) (suc (length c.args.lexemes.now)) c.args.lexemes.now) c.loop-turn-test.true (designator_more c.loop-turn.rest.now (sym c.begins_designator.ensures ∙ c.if-not-begins_designator.false)) c.in_err-found.ensures.value i.same)
 
 pub loop-turn-preserved : goal.loop-turn-preserved
 loop-turn-preserved c =
     let i = c.loop-turn.invariant in
     let n = c.in_ok-found in
-    let k = row_more _ _ _ _ _ (designators_row (designator_at (named c.args.bytes.now c.args.names.now) c.args.room)) (length c.args.lexemes.now + 1) c.loop-turn.turn (map view_designator c.loop-turn.list.items) c.loop-turn.rest.now c.loop-turn.rest.now n.found.rest.now (view_designator n.found.part) _ c.loop-turn-test.true (designator_more c.loop-turn.rest.now (sym c.begins_designator.ensures ∙ c.if-not-begins_designator.false)) n.ensures.value i.same in
+    let k = row_more _ _ _ _ _ (designators_row (designator_at (named c.args.bytes.now c.args.names.now) c.args.room)) (length c.args.lexemes.now + 1) c.loop-turn.turn (map view_designator c.loop-turn.list.items) c.loop-turn.rest.now c.loop-turn.rest.now n.found.rest.now (view_designator n.found.part) (designators_at (designator_at (named c.args.bytes.now c.args.names.now) c.args.room) (suc (length c.args.lexemes.now)) c.args.lexemes.now) c.loop-turn-test.true (designator_more c.loop-turn.rest.now (sym c.begins_designator.ensures ∙ c.if-not-begins_designator.false)) n.ensures.value i.same in
     let e = map_push view_designator c.loop-turn.list.items c.push.new.self.items n.found.part n.found.part c.in_ok-push.ensures.items refl in
     let size = pushed_size c.loop-turn.list.items c.push.new.self.items n.found.part c.in_ok-push.ensures.items in
     let high = designators_height-items view_designator c.loop-turn.list.items (view_designator n.found.part) in
@@ -48,4 +48,4 @@ loop-turn-preserved c =
 pub returns-clause-value : goal.returns-clause-value
 returns-clause-value c =
     let i = c.loop-turn.invariant in
-    row_spent _ _ _ _ _ (designators_row (designator_at (named c.args.bytes.now c.args.names.now) c.args.room)) (length c.args.lexemes.now + 1) c.loop-turn.turn (map view_designator c.loop-turn.list.items) c.loop-turn.rest.now _ c.loop-turn-test.false i.same
+    row_spent _ _ _ _ _ (designators_row (designator_at (named c.args.bytes.now c.args.names.now) c.args.room)) (length c.args.lexemes.now + 1) c.loop-turn.turn (map view_designator c.loop-turn.list.items) c.loop-turn.rest.now (designators_at (designator_at (named c.args.bytes.now c.args.names.now) c.args.room) (suc (length c.args.lexemes.now)) c.args.lexemes.now) c.loop-turn-test.false i.same

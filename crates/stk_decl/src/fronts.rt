@@ -1,20 +1,21 @@
-//! Names, storage words and bases without braces at the front of some tokens.
+//! Names, and bases without braces, at the front of some tokens.
 
 ghost use Rattle.std.specs.Prelude.{◌≡◌, IfOk, cond, option_map};
 ghost use Rattle.stk_tree.specs.Height.{base_form_height};
 ghost use Rattle.stk_tree.specs.View.{view_base_form};
 ghost use Rattle.stk_grammar.specs.Reading.{base_at, tag_base, words_at, words_base};
 ghost use Rattle.stk_tree.specs.Placed.{is_basic};
-ghost use Rattle.stk_decl_grammar.specs.Reading.{behind_void, declared_name_at, name_at, optional_name_at, optional_word_at, storage_at};
+ghost use Rattle.stk_decl_grammar.specs.Reading.{declared_name_at, name_at, optional_name_at};
 ghost use Rattle.stk_expr.specs.Gives.{Gives, named};
 
 use crate::build;
 use std::alloc::Global;
 use stk_base::{Class, Span};
 use stk_ctype::Names;
+use stk_decl_grammar::optional_word_at;
 use stk_expr::{Parse, is_named, words};
-use stk_grammar::{behind_right_paren, is_basic, word_at};
-use stk_tree::{BaseForm, Fixed, Lexeme, Storage};
+use stk_grammar::{is_basic, word_at};
+use stk_tree::{BaseForm, Fixed, Lexeme};
 
 /// A name: a word that is no typedef name in force.
 pub fn name_at<'a>(
@@ -32,16 +33,6 @@ pub fn name_at<'a>(
     }
 }
 
-/// A word that may be missing.
-pub fn optional_word_at(lexemes: &[Lexeme]) -> (Option<Span>, &[Lexeme])
-    ensures { (result.0, result.1.now) ≡ optional_word_at lexemes.now }
-{
-    match lexemes.split_first() {
-        Some((Lexeme::Leaf(Class::Word, at), rest)) => (Some(*at), rest),
-        _ => (None, lexemes),
-    }
-}
-
 /// A name that may be missing.
 fn optional_name_at<'a>(
     bytes: &[u8],
@@ -52,11 +43,11 @@ fn optional_name_at<'a>(
 {
     match optional_word_at(lexemes) {
         (None, rest) => Some((None, rest)),
-        (Some(at), rest) => {
-            if is_named(bytes, names, at) {
+        (Some(word), rest) => {
+            if is_named(bytes, names, word) {
                 None
             } else {
-                Some((Some(at), rest))
+                Some((Some(word), rest))
             }
         }
     }
@@ -76,28 +67,6 @@ pub fn declared_name_at<'a>(
     }
     let (at, rest) = name_at(bytes, names, lexemes)?;
     Some((Some(at), rest))
-}
-
-/// A storage word that may be missing.
-pub fn storage_at(lexemes: &[Lexeme]) -> (Option<Storage>, &[Lexeme])
-    ensures { (result.0, result.1.now) ≡ storage_at lexemes.now }
-{
-    match lexemes.split_first() {
-        Some((Lexeme::Fixed(Fixed::Typedef), rest)) => (Some(Storage::Typedef), rest),
-        Some((Lexeme::Fixed(Fixed::Extern), rest)) => (Some(Storage::Extern), rest),
-        Some((Lexeme::Fixed(Fixed::Static), rest)) => (Some(Storage::Static), rest),
-        _ => (None, lexemes),
-    }
-}
-
-/// The tokens behind `void` and `)`.
-pub fn behind_void(lexemes: &[Lexeme]) -> Option<&[Lexeme]>
-    ensures { option_map (λ x. x.now) result ≡ behind_void lexemes.now }
-{
-    match lexemes.split_first()? {
-        (Lexeme::Fixed(Fixed::Void), rest) => behind_right_paren(rest),
-        _ => None,
-    }
 }
 
 /// A base without braces. It has no height.

@@ -1,0 +1,70 @@
+#!/bin/bash
+# Times the reader of declarations on large texts. It builds a small program over stk_decl in a folder of its own, outside the
+# repository:
+#   bash bench/declarations.sh
+# For each text it prints the seconds of the whole run, lexing included, and whether a declaration was read.
+set -eu
+. "$(dirname "$0")/program.sh"
+build_program declbench stk_base stk_lex stk_ctype stk_tree stk_lexeme stk_layout stk_grammar stk_expr stk_decl_grammar stk_decl <<'PROGRAM'
+//! Reads the input as a declaration at file scope.
+#![tactic(auto)]
+
+use std::alloc::Global;
+use std::io::{self, Read, Write};
+use stk_base::NoMemory;
+use stk_ctype::Names;
+use stk_decl::decl;
+use stk_expr::Parse;
+use stk_lex::lex;
+use stk_lexeme::lexeme_of;
+use stk_tree::Lexeme;
+
+fn lexemes(alloc: Global, bytes: &[u8]) -> Result<Vec<Lexeme>, NoMemory> {
+    let mut list = Vec::new(alloc);
+    if bytes.len() > 16_777_216 {
+        return Ok(list);
+    }
+    let tokens = lex(alloc, bytes)?;
+    for token in &tokens {
+        list.push(lexeme_of(bytes, *token))?;
+    }
+    Ok(list)
+}
+
+fn answer(alloc: Global, bytes: &[u8]) -> &'static str {
+    let Ok(list) = lexemes(alloc, bytes) else {
+        return "no memory";
+    };
+    match decl(alloc, bytes, list.as_slice(), &Names::new(alloc), 0, true) {
+        Ok((_, _)) => "a tree",
+        Err(Parse::NoTree) => "no tree",
+        Err(Parse::NoMemory) => "no memory",
+    }
+}
+
+fn main(rt: HostRuntime) -> io::Result<()> {
+    let mut bytes = Vec::new(rt.alloc());
+    let mut input = rt.stdin();
+    input.read_to_end(&mut bytes)?;
+    let said = answer(rt.alloc(), &bytes);
+    println!(rt; "{said}")
+}
+PROGRAM
+run() { # the name $1 of a text that begins with $2, goes on with $3 again and again, and ends with $4
+    local TIMEFORMAT=%R took
+    { printf '%s' "$2"; many "$3" $(((size - ${#2} - ${#4}) / ${#3} * ${#3})); printf '%s' "$4"; } > text
+    took=$( { time "$program" < text > result; } 2>&1 )
+    echo "$1: $took s, $(cat result)"
+}
+run '16 MiB of { in an initialiser' 'int a = ' '{' ''
+run '16 MiB of empty items' 'int a[] = {' '{},' '};'
+run '16 MiB of designators' 'int a = {' '.a' '= 1};'
+run '16 MiB of *' 'int ' '*' 'a;'
+run '16 MiB of array parts' 'int a' '[1]' ';'
+run '16 MiB of structs in structs' '' 'struct a {' ''
+run '16 MiB of members' 'struct a {' 'int a;' '};'
+run '16 MiB of enumerations' '' 'enum {A,' ''
+run '16 MiB of enumerators' 'enum {' 'A,' '};'
+run '16 MiB of declarators' 'int a' ',a=1' ';'
+run '16 MiB of parameters' 'int a(int' ',int a' ');'
+run '16 MiB of one declaration each' '' 'int a=1,' ';'

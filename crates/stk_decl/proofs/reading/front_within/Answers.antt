@@ -1,0 +1,24 @@
+use Rattle.std.proofs.Common.{sym, ◌∙◌}
+use Rattle.std.proofs.lemmas.Result.{err_from_is_err_and}
+use Rattle.stk_tree.specs.View.{view_declaration}
+use Rattle.stk_decl_grammar.proofs.Declarations.{front_sound}
+use Rattle.stk_decl_grammar.proofs.Laws.{no_front_read}
+use Rattle.stk_expr.specs.Gives.{named}
+use Rattle.stk_expr.proofs.Rows.{none_of_fails}
+use Rattle.stk_decl.proofs.reading.front_within.Goals as goal
+
+pub returns-in_err-tree-clause-none : goal.returns-in_err-tree-clause-none
+returns-in_err-tree-clause-none c =
+    let p = err_from_is_err_and c.from_residual.result c.from_residual.ensures.1 in
+    let e = c.in_err-tree.field-0.0 in
+    λ is. no_front_read (named c.args.bytes.now c.args.names.now) c.args.room c.args.lexemes.now (none_of_fails e _ (sym p.2 ∙ cc (p.1, is)) c.in_err-tree.ensures)
+
+pub returns-clause-found : goal.returns-clause-found
+returns-clause-found c =
+    let n = c.in_ok-tree in
+    (front_sound (named c.args.bytes.now c.args.names.now) c.args.room c.args.lexemes.now (view_declaration n.tree) n.rest.now n.ensures).0
+
+pub returns-clause-bare : goal.returns-clause-bare
+returns-clause-bare c =
+    let n = c.in_ok-tree in
+    (front_sound (named c.args.bytes.now c.args.names.now) c.args.room c.args.lexemes.now (view_declaration n.tree) n.rest.now n.ensures).1

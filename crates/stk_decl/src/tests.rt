@@ -1,0 +1,505 @@
+// Texts of declarations with the trees that they are, worked out by hand from C11 6.7.
+use crate::{LeadingDeclaration, decl, declaration_within, front, front_within};
+use std::alloc::Global;
+use std::test::Fail;
+use stk_base::{Class, List, NoMemory, Span};
+use stk_ctype::{CType, IntKind, NameEntry, Names, Symbol};
+use stk_expr::Parse;
+use stk_lex::lex;
+use stk_lexeme::lexeme_of;
+use stk_tree::{
+    BaseForm, Declaration, Declr, Desig, Dimension, Enumr, Expr, ExprForm, Fixed, Init, Item,
+    Lexeme, Member, Param, Storage, Tail, spelling,
+};
+
+/// What is read.
+#[derive(Clone, Copy, Debug, PartialEq, Eq)]
+enum Form {
+    File,
+    Local,
+    Front,
+}
+
+type Row = (Form, &'static str, &'static str);
+
+// What is asked for, each text, and the shape of the tree: the base, and each declarator in brackets. `#` stands before a
+// typedef name. An empty shape is no tree. `T` is a typedef name, and all other words aren't.
+const TABLE: [Row; 100] = [
+    // words, names and storage words
+    (Form::File, "int x;", "int<x>"),
+    (
+        Form::File,
+        "long unsigned int long x;",
+        "long unsigned int long<x>",
+    ),
+    (Form::File, "T x;", "#T<x>"),
+    (Form::File, "T T;", ""),
+    (Form::File, "T x, T;", ""),
+    (Form::File, "int T;", ""),
+    (Form::File, "x;", ""),
+    (Form::File, "int;", "int"),
+    (Form::File, "T;", "#T"),
+    (Form::File, "int x", ""),
+    (Form::File, "int x,;", ""),
+    (Form::File, "int x y;", ""),
+    (Form::File, "typedef int *x;", "typedef int<*x>"),
+    (Form::File, "extern T x;", "extern #T<x>"),
+    (Form::File, "static int x, **y;", "static int<x><**y>"),
+    (Form::File, "static extern int x;", ""),
+    (Form::File, "int static x;", ""),
+    (Form::File, "static x;", ""),
+    (Form::File, "int int T;", ""),
+    (Form::File, "register int x;", ""),
+    // structs
+    (Form::File, "struct s;", "struct s"),
+    (Form::File, "struct T x;", "struct T<x>"),
+    (
+        Form::File,
+        "struct s { int a; } x, *y;",
+        "struct s{int<a>;}<x><*y>",
+    ),
+    (Form::File, "struct { int a; };", "struct {int<a>;}"),
+    (Form::File, "struct s { };", ""),
+    (Form::File, "struct;", ""),
+    (Form::File, "struct s { int T; };", ""),
+    (
+        Form::File,
+        "struct s { T a, *b[2]; };",
+        "struct s{#T<a><*b[2]>;}",
+    ),
+    (Form::File, "struct s { int a; T b; } const x;", ""),
+    (
+        Form::File,
+        "struct s { struct { int a; } b; enum { A } c; };",
+        "struct s{struct {int<a>;}<b>;enum {A}<c>;}",
+    ),
+    (Form::File, "struct s { int; };", ""),
+    (Form::File, "struct s { struct { int a; }; };", ""),
+    (Form::File, "struct s { int a : 3; };", ""),
+    (Form::File, "struct s { int a = 1; };", ""),
+    (Form::File, "struct s { int a(); };", ""),
+    (Form::File, "struct s { static int a; };", ""),
+    (Form::File, "union u x;", ""),
+    // enumerations
+    (Form::File, "enum e { A, B = 2, };", "enum e{A,B=2,,}"),
+    (Form::File, "enum { A } x;", "enum {A}<x>"),
+    (Form::File, "enum e x;", "enum e<x>"),
+    (Form::File, "enum { };", ""),
+    (Form::File, "enum { , };", ""),
+    (Form::File, "enum { T };", ""),
+    (Form::File, "enum { A = 1, 2 };", ""),
+    (Form::File, "enum;", ""),
+    // parameters
+    (Form::File, "int f();", "int<f()>"),
+    (Form::File, "int f(void);", "int<f(void)>"),
+    (Form::File, "int f(void, int);", "int<f(void<>,int<>)>"),
+    (Form::File, "int f(void *);", "int<f(void<*>)>"),
+    (Form::File, "int f(int, ...);", "int<f(int<>,...)>"),
+    (Form::File, "int f(...);", ""),
+    (Form::File, "int f(int,);", ""),
+    (Form::File, "int f(int, ...;", ""),
+    (
+        Form::File,
+        "int f(int *, char [3]);",
+        "int<f(int<*>,char<[3]>)>",
+    ),
+    (
+        Form::File,
+        "int *f(T a, struct s *b, enum e c[]), g();",
+        "int<*f(#T<a>,struct s<*b>,enum e<c[]>)><g()>",
+    ),
+    (Form::File, "int f(int T);", ""),
+    (Form::File, "int f(a);", ""),
+    (Form::File, "int f(struct s { int a; } x);", ""),
+    (Form::File, "int f(int a = 1);", ""),
+    (Form::File, "int f(int g());", ""),
+    (Form::File, "int f(static int a);", ""),
+    (Form::File, "int f()[2];", ""),
+    (Form::File, "int (*f)(int);", ""),
+    (Form::File, "int (a);", ""),
+    (Form::File, "int f(a) int a; {}", ""),
+    // array parts
+    (Form::File, "int a[];", "int<a[]>"),
+    (Form::File, "int a[2][3];", "int<a[2][3]>"),
+    (Form::File, "int *a[];", "int<*a[]>"),
+    (Form::File, "int a[2;", ""),
+    (Form::File, "int a[b, c];", ""),
+    // initialisers
+    (Form::File, "int a = 1, b;", "int<a=1><b>"),
+    (Form::File, "int a[] = {1, 2,};", "int<a[]={1,2,,}>"),
+    (Form::File, "int a = {};", "int<a={}>"),
+    (Form::File, "int a = {,};", ""),
+    (Form::File, "int a = {1 2};", ""),
+    (Form::File, "int a = ;", ""),
+    (
+        Form::File,
+        "int a = {{1}, {{2}, 3}};",
+        "int<a={{1},{{2},3}}>",
+    ),
+    (
+        Form::File,
+        "struct s a = {.a = 1, [2].b[3] = {4}};",
+        "struct s<a={.a=1,[2].b[3]={4}}>",
+    ),
+    (Form::File, "struct s a = {.T = 1};", "struct s<a={.T=1}>"),
+    (Form::File, "struct s a = {.a 1};", ""),
+    (Form::File, "struct s a = {= 1};", ""),
+    (Form::File, "int a = {1;};", ""),
+    (Form::File, "int f() = 1;", "int<f()=1>"),
+    // other declarations
+    (Form::File, "_Static_assert(1, \"x\");", ""),
+    (Form::File, "_Alignas(8) int x;", ""),
+    (Form::File, "", ""),
+    // in a block
+    (Form::Local, "int x = 1, *y;", "int<x=1><*y>"),
+    (Form::Local, "static T x[2];", "static #T<x[2]>"),
+    (Form::Local, "struct s x;", "struct s<x>"),
+    (Form::Local, "extern int x;", ""),
+    (Form::Local, "typedef int x;", ""),
+    (Form::Local, "struct s { int a; } x;", ""),
+    (Form::Local, "int f();", ""),
+    (Form::Local, "int;", ""),
+    // what stands before the body of a function
+    (
+        Form::Front,
+        "static int *f(int a, T b) {",
+        "static int<*f(int<a>,#T<b>)>",
+    ),
+    (Form::Front, "int f() {", "int<f()>"),
+    (Form::Front, "int f {", ""),
+    (Form::Front, "int f();", ""),
+    (Form::Front, "int x = 1, f() {", ""),
+    (Form::Front, "struct s { int a; } f() {", ""),
+];
+
+fn add(out: &mut Vec<u8>, text: &[u8]) -> Result<(), NoMemory> {
+    out.extend_from_slice(text)?;
+    Ok(())
+}
+
+/// A name or a number; other expressions have their tests with the reader of expressions.
+fn add_value(bytes: &[u8], e: &Expr, out: &mut Vec<u8>) -> Result<(), NoMemory> {
+    match &e.form {
+        ExprForm::Name(at) | ExprForm::Number(at) => add(out, at.text(bytes)),
+        _ => add(out, b"?"),
+    }
+}
+
+fn add_optional(bytes: &[u8], at: Option<Span>, out: &mut Vec<u8>) -> Result<(), NoMemory> {
+    match at {
+        None => Ok(()),
+        Some(at) => add(out, at.text(bytes)),
+    }
+}
+
+fn add_part(bytes: &[u8], part: &Dimension, out: &mut Vec<u8>) -> Result<(), NoMemory> {
+    add(out, b"[")?;
+    if let Dimension::Sized(e) = part {
+        add_value(bytes, e, out)?;
+    }
+    add(out, b"]")
+}
+
+fn add_designator(bytes: &[u8], part: &Desig, out: &mut Vec<u8>) -> Result<(), NoMemory> {
+    match part {
+        Desig::Dot(at) => {
+            add(out, b".")?;
+            add(out, at.text(bytes))
+        }
+        Desig::At(e) => {
+            add(out, b"[")?;
+            add_value(bytes, e, out)?;
+            add(out, b"]")
+        }
+    }
+}
+
+#[cycle(initial)]
+fn add_item(bytes: &[u8], item: &Item, room: u32, out: &mut Vec<u8>) -> Result<(), NoMemory> {
+    for part in item.path.as_slice() {
+        add_designator(bytes, part, out)?;
+    }
+    if item.path.len() > 0 {
+        add(out, b"=")?;
+    }
+    add_initial(bytes, &item.init, room, out)
+}
+
+/// An initialiser, as far as `room` goes.
+#[cycle(initial)]
+fn add_initial(bytes: &[u8], init: &Init, room: u32, out: &mut Vec<u8>) -> Result<(), NoMemory> {
+    match init {
+        Init::Plain(e) => add_value(bytes, e, out),
+        Init::Braces(list, comma) => {
+            let mut between: &[u8] = b"{";
+            if list.len() == 0 {
+                add(out, between)?;
+            }
+            for item in list.as_slice() {
+                add(out, between)?;
+                between = b",";
+                if room > 0 {
+                    add_item(bytes, item, room - 1, out)?;
+                }
+            }
+            add(out, if *comma { b",,}" } else { b"}" })
+        }
+    }
+}
+
+fn add_parameter(bytes: &[u8], param: &Param, out: &mut Vec<u8>) -> Result<(), NoMemory> {
+    add_base(bytes, &param.base.form, 0, out)?;
+    add(out, b"<")?;
+    add_name(bytes, &param.declr, out)?;
+    if let Tail::Arrays(list) = &param.declr.tail {
+        for part in list.as_slice() {
+            add_part(bytes, part, out)?;
+        }
+    }
+    add(out, b">")
+}
+
+fn add_tail(bytes: &[u8], tail: &Tail, out: &mut Vec<u8>) -> Result<(), NoMemory> {
+    match tail {
+        Tail::Arrays(list) => {
+            for part in list.as_slice() {
+                add_part(bytes, part, out)?;
+            }
+            Ok(())
+        }
+        Tail::Unspecified => add(out, b"()"),
+        Tail::NoParams => add(out, b"(void)"),
+        Tail::Params(list, more) => {
+            let mut between: &[u8] = b"(";
+            for param in list.as_slice() {
+                add(out, between)?;
+                add_parameter(bytes, param, out)?;
+                between = b",";
+            }
+            add(out, if *more { b",...)" } else { b")" })
+        }
+    }
+}
+
+fn add_name(bytes: &[u8], declr: &Declr, out: &mut Vec<u8>) -> Result<(), NoMemory> {
+    for _ in 0..declr.stars {
+        add(out, b"*")?;
+    }
+    add_optional(bytes, declr.name, out)
+}
+
+fn add_declarator(bytes: &[u8], declr: &Declr, out: &mut Vec<u8>) -> Result<(), NoMemory> {
+    add(out, b"<")?;
+    add_name(bytes, declr, out)?;
+    add_tail(bytes, &declr.tail, out)?;
+    if let Some(init) = &declr.init {
+        add(out, b"=")?;
+        add_initial(bytes, init, 400, out)?;
+    }
+    add(out, b">")
+}
+
+fn add_enumerator(bytes: &[u8], part: &Enumr, out: &mut Vec<u8>) -> Result<(), NoMemory> {
+    add(out, part.name.text(bytes))?;
+    if let Some(value) = &part.value {
+        add(out, b"=")?;
+        add_value(bytes, value, out)?;
+    }
+    Ok(())
+}
+
+#[cycle(base)]
+fn add_member(bytes: &[u8], member: &Member, room: u32, out: &mut Vec<u8>) -> Result<(), NoMemory> {
+    add_base(bytes, &member.base.form, room, out)?;
+    for declr in member.list.as_slice() {
+        add_declarator(bytes, declr, out)?;
+    }
+    add(out, b";")
+}
+
+/// A base, as far as `room` goes.
+#[cycle(base)]
+fn add_base(bytes: &[u8], form: &BaseForm, room: u32, out: &mut Vec<u8>) -> Result<(), NoMemory> {
+    match form {
+        BaseForm::Words(words) => {
+            let mut between: &[u8] = b"";
+            for word in words.as_slice() {
+                add(out, between)?;
+                add(out, spelling(*word))?;
+                between = b" ";
+            }
+            Ok(())
+        }
+        BaseForm::StructRef(tag) => {
+            add(out, b"struct ")?;
+            add(out, tag.text(bytes))
+        }
+        BaseForm::EnumRef(tag) => {
+            add(out, b"enum ")?;
+            add(out, tag.text(bytes))
+        }
+        BaseForm::Named(at) => {
+            add(out, b"#")?;
+            add(out, at.text(bytes))
+        }
+        BaseForm::StructDef(tag, list) => {
+            add(out, b"struct ")?;
+            add_optional(bytes, *tag, out)?;
+            add(out, b"{")?;
+            for member in list.as_slice() {
+                if room > 0 {
+                    add_member(bytes, member, room - 1, out)?;
+                }
+            }
+            add(out, b"}")
+        }
+        BaseForm::EnumDef(tag, list, comma) => {
+            add(out, b"enum ")?;
+            add_optional(bytes, *tag, out)?;
+            let mut between: &[u8] = b"{";
+            for part in list.as_slice() {
+                add(out, between)?;
+                add_enumerator(bytes, part, out)?;
+                between = b",";
+            }
+            add(out, if *comma { b",,}" } else { b"}" })
+        }
+    }
+}
+
+fn storage_text(storage: Option<Storage>) -> &'static [u8] {
+    match storage {
+        None => b"",
+        Some(Storage::Typedef) => b"typedef ",
+        Some(Storage::Extern) => b"extern ",
+        Some(Storage::Static) => b"static ",
+    }
+}
+
+fn shape(bytes: &[u8], tree: &Declaration, out: &mut Vec<u8>) -> Result<(), NoMemory> {
+    add(out, storage_text(tree.storage))?;
+    add_base(bytes, &tree.base.form, 400, out)?;
+    for declr in tree.list.as_slice() {
+        add_declarator(bytes, declr, out)?;
+    }
+    Ok(())
+}
+
+/// The lexemes of a text; none of one that is too long.
+fn lexemes(alloc: Global, text: &str) -> Result<Vec<Lexeme>, NoMemory> {
+    let bytes = text.as_bytes();
+    let mut list = Vec::new(alloc);
+    if bytes.len() > 16_777_216 {
+        return Ok(list);
+    }
+    let tokens = lex(alloc, bytes)?;
+    for token in &tokens {
+        list.push(lexeme_of(bytes, *token))?;
+    }
+    Ok(list)
+}
+
+/// The names with the typedef name `T` alone.
+fn names(alloc: Global) -> Result<Names, NoMemory> {
+    let mut names = Names::new(alloc);
+    let name = List::from_vec([b'T'].to_vec(alloc)?);
+    let symbol = Symbol::TypeDef(CType::Int(IntKind::Int));
+    names.add(NameEntry::Symbol { name, symbol })?;
+    Ok(names)
+}
+
+/// The shape of the tree that these lexemes begin with, and where it ends; nothing where there is none.
+fn read(
+    alloc: Global,
+    bytes: &[u8],
+    list: &[Lexeme],
+    form: Form,
+) -> Result<(Vec<u8>, usize), NoMemory> {
+    let names = names(alloc)?;
+    let mut out = Vec::new(alloc);
+    let found = match form {
+        Form::File => decl(alloc, bytes, list, &names, 0, true),
+        Form::Local => decl(alloc, bytes, list, &names, 0, false),
+        Form::Front => front(alloc, bytes, list, &names, 0),
+    };
+    match found {
+        Ok((tree, end)) => {
+            shape(bytes, &tree, &mut out)?;
+            Ok((out, end))
+        }
+        Err(Parse::NoTree) => Ok((out, 0)),
+        Err(Parse::NoMemory) => Err(NoMemory),
+    }
+}
+
+/// Whether a whole text has a tree of this shape; the `{` of a function's body isn't in the tree.
+fn is_whole(alloc: Global, form: Form, text: &str, wanted: &str) -> Result<bool, NoMemory> {
+    let list = lexemes(alloc, text)?;
+    let (shape, end) = read(alloc, text.as_bytes(), list.as_slice(), form)?;
+    let left = list.len().saturating_sub(end);
+    let to_be_left = if wanted.is_empty() {
+        list.len()
+    } else if form == Form::Front {
+        1
+    } else {
+        0
+    };
+    Ok(shape.as_slice() == wanted.as_bytes() && left == to_be_left)
+}
+
+#[test]
+fn reads_the_table(rt: HostRuntime) -> Result<(), Fail> {
+    for (form, text, wanted) in TABLE {
+        assert!(rt; is_whole(rt.alloc(), form, text, wanted)?, "{text}");
+    }
+    Ok(())
+}
+
+/// `int a = ` with so many braces in one another, up to the `;`: where it is read to.
+fn nested(alloc: Global, count: usize) -> Result<usize, NoMemory> {
+    let mut list = Vec::new(alloc);
+    list.push(Lexeme::Fixed(Fixed::Int))?;
+    list.push(Lexeme::Leaf(Class::Word, Span { from: 0, to: 1 }))?;
+    list.push(Lexeme::Fixed(Fixed::Assign))?;
+    for _ in 0..count {
+        list.push(Lexeme::Fixed(Fixed::LeftBrace))?;
+    }
+    for _ in 0..count {
+        list.push(Lexeme::Fixed(Fixed::RightBrace))?;
+    }
+    list.push(Lexeme::Fixed(Fixed::Semicolon))?;
+    let (_, end) = read(alloc, b"a", list.as_slice(), Form::File)?;
+    Ok(end)
+}
+
+#[test]
+fn stops_at_the_greatest_height(rt: HostRuntime) -> Result<(), Fail> {
+    assert!(rt; nested(rt.alloc(), 399)? == 802);
+    assert!(rt; nested(rt.alloc(), 400)? == 0);
+    assert!(rt; nested(rt.alloc(), 200_000)? == 0);
+    Ok(())
+}
+
+/// How many lexemes stand behind a tree that was read.
+fn left(found: Result<LeadingDeclaration, Parse>) -> Option<usize> {
+    match found {
+        Ok(LeadingDeclaration { tree: _, rest }) => Some(rest.len()),
+        Err(_) => None,
+    }
+}
+
+#[test]
+fn reads_what_stands_in_front(rt: HostRuntime) -> Result<(), Fail> {
+    let alloc = rt.alloc();
+    let names = names(alloc)?;
+    let list = lexemes(alloc, "T a; b = 1;")?;
+    let text = b"T a; b = 1;";
+    let read = declaration_within(alloc, text, &names, false, 1, list.as_slice());
+    assert!(rt; left(read) == Some(4));
+    let read = declaration_within(alloc, text, &names, false, 0, list.as_slice());
+    assert!(rt; left(read) == None);
+    let list = lexemes(alloc, "T a() { }")?;
+    let read = front_within(alloc, b"T a() { }", &names, 1, list.as_slice());
+    assert!(rt; left(read) == Some(2));
+    Ok(())
+}
