@@ -17,8 +17,8 @@ use Rattle.stk_stmt_grammar.proofs.LaidUnits.{laid_bare_unit, laid_is_unit}
 use Rattle.stk_stmt_grammar.proofs.Laws.{found_bare, none_of_none, unit_of_found}
 use Rattle.stk_meaning.specs.Parts.{candidates}
 use Rattle.stk_small.specs.SmallForm.{IsSmall}
-use Rattle.stk_small.specs.SmallTests.{small_test}
-use Rattle.stk_small.proofs.SmallTests.{small_of_test, test_of_small}
+use Rattle.stk_small.specs.SmallTests.{is_small}
+use Rattle.stk_small.proofs.FormTests.{small_found, small_tested}
 use Rattle.stk_lint.specs.declared.records.Cause.TheVariants.{NoTree, OtherForm}
 use Rattle.stk_lint.specs.declared.records.Counts.{Counts}
 use Rattle.stk_lint.specs.Records.{findings_text, skip_text}
@@ -46,10 +46,10 @@ read_or_not bytes tokens = on (unit_at (no_types bytes) (lexemes_of bytes tokens
   on None e = inr (none_of_none (no_types bytes) (lexemes_of bytes tokens) e)
 
 small_or_not : (bytes : List ℕ) (u : UnitTree) → IsSmall bytes u ⊎ (IsSmall bytes u → ⊥)
-small_or_not bytes u = on (small_test bytes u) refl where
-  on : (b : Bool) → small_test bytes u ≡ b → IsSmall bytes u ⊎ (IsSmall bytes u → ⊥)
-  on true e = inl (small_of_test bytes u e)
-  on false e = inr (λ small. false≢true (sym e ∙ test_of_small bytes u small))
+small_or_not bytes u = on (is_small bytes u) refl where
+  on : (b : Bool) → is_small bytes u ≡ b → IsSmall bytes u ⊎ (IsSmall bytes u → ⊥)
+  on true e = inl (small_found bytes u e)
+  on false e = inr (λ small. false≢true (sym e ∙ small_tested bytes u small))
 
 text_of_tree : (bytes : List ℕ) (t : Token) (ts : List Token) (u : UnitTree) → IsReadAs bytes (t ∷ ts) u → IsWrittenOf bytes (t ∷ ts)
 text_of_tree bytes t ts (s.empty_unit n) h = record { text = []; counts = nothing_counted; is = accepted (s.empty_unit n) h.is refl }
