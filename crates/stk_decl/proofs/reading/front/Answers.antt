@@ -1,10 +1,12 @@
-use Rattle.std.proofs.Common.{◌≡◌, length, sym, arith, map}
+use Rattle.std.proofs.Common.{◌≡◌, Err, ap, length, sym, ◌∙◌, arith, map}
+use Rattle.std.proofs.lemmas.Result.{err_from_is_err_and}
 use Rattle.std.proofs.lemmas.List.{length-map}
 use Rattle.stk_tree.specs.Layout.{laid_declaration, unnumbered_at}
 use Rattle.stk_tree.specs.View.{view_declaration}
 use Rattle.stk_layout.proofs.Few.{declaration_tokens-few}
 use Rattle.stk_lexeme.specs.Lexemes.{lexeme_of, lexemes_of, spans_of}
 use Rattle.stk_decl_grammar.specs.Declarations.{IsFront}
+use Rattle.stk_expr.specs.declared.parse.Parse.TheVariants as parse
 use Rattle.stk_expr.specs.Gives.{named}
 use Rattle.stk_decl.proofs.Placing.{laid_bare, laid_front_is, front_width_of}
 use Rattle.stk_decl.proofs.reading.front.Goals as goal
@@ -35,3 +37,9 @@ returns-clause-places c =
     let u = view_declaration c.place_declaration.new.x in
     let e : u ≡ laid_declaration (unnumbered_at (spans_of c.args.tokens.now)) 0 c.args.at t = rw (sym c.in_ok-spans.ensures, sym c.as_slice-2.ensures.value) c.place_declaration.ensures in
     laid_bare (unnumbered_at (spans_of c.args.tokens.now)) t u 0 c.args.at c.in_ok-tree.ensures.bare e
+
+pub returns-in_err-tree-clause-none : goal.returns-in_err-tree-clause-none
+returns-in_err-tree-clause-none c =
+    let p = err_from_is_err_and c.from_residual-in_err-tree.result c.from_residual-in_err-tree.ensures.1 in
+    λ is. let same : c.in_err-tree.field-0.0 ≡ parse.NoTree = sym p.2 ∙ cc (p.1, is) in
+    rw (c.as_slice.ensures.value, c.in_ok-lexemes.ensures) at (c.in_err-tree.ensures.none (ap Err same))
