@@ -1,8 +1,10 @@
 ghost use Rattle.std.specs.Prelude.{◌≡◌, ◌≤◌, IfOk, List, length, ℕ};
 ghost use Rattle.std.specs.Result.{IsErrOf};
 ghost use Rattle.stk_tree.specs.declared.fixed.Lexeme.{Lexeme};
+ghost use Rattle.stk_tree.specs.Layout.{laid_declaration, unnumbered_at};
 ghost use Rattle.stk_tree.specs.Syntax.{DeclarationTree};
 ghost use Rattle.stk_tree.specs.View.{view_declaration};
+ghost use Rattle.stk_lexeme.specs.Lexemes.{lexemes_of, spans_of};
 ghost use Rattle.stk_decl_grammar.specs.Bare.{bare_declaration};
 ghost use Rattle.stk_decl_grammar.specs.Declarations.{DeclarationLeads, FrontLeads, IsDeclaration, IsFront};
 ghost use Rattle.stk_expr.specs.Gives.{named};
@@ -11,6 +13,9 @@ use crate::declarations::{declaration, function_front};
 use std::alloc::Global;
 use stk_ctype::Names;
 use stk_expr::Parse;
+use stk_layout::place_declaration;
+use stk_lex::Token;
+use stk_lexeme::{lexemes_of, spans_of};
 use stk_tree::{Declaration, Lexeme};
 
 /// A declaration at the front of some tokens, and the tokens behind it.
@@ -66,14 +71,9 @@ pub fn front_within<'a>(
     Ok(LeadingDeclaration { tree, rest })
 }
 
-/// Reads the declaration that begins at the place `at`, and says at which place it ends (C11 6.7): one at file scope where
-/// `file` says so, and else one in a block or a `for`.
-///
-/// `lexemes` are the tokens of `bytes`, and the words that `names` has as typedef names stand for types. The answered tree
-/// may stand there, fits the names, is at most 400 high and prints exactly the tokens from `at` up to the answered place, its
-/// `;` included. `NoTree` comes exactly where no tree and no place are so. The records of its nodes aren't set: all of them
-/// have the number 0 and the empty span at 0, and the tree is laid out with the unit that it stands in.
-pub fn decl(
+/// Reads the declaration that begins at the place `at` among lexemes, and says at which place it ends. The records of its nodes
+/// aren't set.
+fn declaration_at(
     alloc: Global,
     bytes: &[u8],
     lexemes: &[Lexeme],
@@ -92,13 +92,9 @@ pub fn decl(
     Ok((tree, lexemes.len() - rest.len()))
 }
 
-/// Reads what stands from the place `at` on before the body of a function, and says at which place the body's `{` stands
-/// (C11 6.9.1).
-///
-/// The answered tree is the storage word, the base and the declarator, as a declaration with this one declarator. It fits the
-/// names, is at most 400 high and prints exactly the tokens from `at` up to the answered place, without a `;`. `NoTree` comes
-/// exactly where no tree and no place are so. The records of its nodes aren't set, as with `decl`.
-pub fn front(
+/// Reads what stands from the place `at` on among lexemes before the body of a function, and says at which place the body's `{`
+/// stands. The records of its nodes aren't set.
+fn front_at(
     alloc: Global,
     bytes: &[u8],
     lexemes: &[Lexeme],
@@ -114,4 +110,60 @@ pub fn front(
     let (_, behind) = lexemes.split_at(at);
     let (tree, rest) = function_front(alloc, bytes, names, 400, behind)?;
     Ok((tree, lexemes.len() - rest.len()))
+}
+
+/// Reads the declaration that begins at the place `at` among the tokens of a text, and says at which place it ends (C11 6.7): one
+/// at file scope where `file` says so, and else one in a block or a `for`.
+///
+/// `tokens` are those of `bytes`, at most 16,777,216, and the words that `names` has as typedef names stand for types. The answered
+/// tree may stand there, fits the names, is at most 400 high and prints exactly the tokens from `at` up to the answered place, its
+/// `;` included. `NoTree` comes exactly where no tree and no place are so. Each node has the number 0 and the span of the tokens that it
+/// prints. It takes time and memory for all of the tokens.
+pub fn decl(
+    alloc: Global,
+    bytes: &[u8],
+    tokens: &[Token],
+    names: &Names,
+    at: usize,
+    file: bool,
+) -> Result<(Declaration, usize), Parse>
+    requires within { at ≤ length tokens.now }
+    requires few { length tokens.now ≤ 16777216 }
+    ensures found { IfOk result (λ x. IsDeclaration (named bytes.now names.now) file (lexemes_of bytes.now tokens.now) at x.1 (view_declaration x.0)) }
+    ensures places { IfOk result (λ x. view_declaration x.0 ≡ laid_declaration (unnumbered_at (spans_of tokens.now)) 0 at (bare_declaration (view_declaration x.0))) }
+    ensures none { IsErrOf result Parse.NoTree
+        → (d : DeclarationTree) (to : ℕ) → IsDeclaration (named bytes.now names.now) file (lexemes_of bytes.now tokens.now) at to d → ⊥ }
+{
+    let lexemes = lexemes_of(alloc, bytes, tokens)?;
+    let spans = spans_of(alloc, tokens)?;
+    let (mut tree, end) = declaration_at(alloc, bytes, lexemes.as_slice(), names, at, file)?;
+    place_declaration(&mut tree, at as u32, spans.as_slice());
+    Ok((tree, end))
+}
+
+/// Reads what stands from the place `at` on among the tokens of a text before the body of a function, and says at which place the
+/// body's `{` stands (C11 6.9.1).
+///
+/// The answered tree is the storage word, the base and the declarator, as a declaration with this one declarator. It fits the
+/// names, is at most 400 high and prints exactly the tokens from `at` up to the answered place, without a `;`. `NoTree` comes
+/// exactly where no tree and no place are so. Nodes, time and memory are as with `decl`.
+pub fn front(
+    alloc: Global,
+    bytes: &[u8],
+    tokens: &[Token],
+    names: &Names,
+    at: usize,
+) -> Result<(Declaration, usize), Parse>
+    requires within { at ≤ length tokens.now }
+    requires few { length tokens.now ≤ 16777216 }
+    ensures found { IfOk result (λ x. IsFront (named bytes.now names.now) (lexemes_of bytes.now tokens.now) at x.1 (view_declaration x.0)) }
+    ensures places { IfOk result (λ x. view_declaration x.0 ≡ laid_declaration (unnumbered_at (spans_of tokens.now)) 0 at (bare_declaration (view_declaration x.0))) }
+    ensures none { IsErrOf result Parse.NoTree
+        → (d : DeclarationTree) (to : ℕ) → IsFront (named bytes.now names.now) (lexemes_of bytes.now tokens.now) at to d → ⊥ }
+{
+    let lexemes = lexemes_of(alloc, bytes, tokens)?;
+    let spans = spans_of(alloc, tokens)?;
+    let (mut tree, end) = front_at(alloc, bytes, lexemes.as_slice(), names, at)?;
+    place_declaration(&mut tree, at as u32, spans.as_slice());
+    Ok((tree, end))
 }

@@ -2,14 +2,14 @@
 use crate::{LeadingDeclaration, decl, declaration_within, front, front_within};
 use std::alloc::Global;
 use std::test::Fail;
-use stk_base::{Class, List, NoMemory, Span};
+use stk_base::{List, NoMemory, Span};
 use stk_ctype::{CType, IntKind, NameEntry, Names, Symbol};
 use stk_expr::Parse;
-use stk_lex::lex;
-use stk_lexeme::lexeme_of;
+use stk_lex::{Token, lex};
+use stk_lexeme::lexemes_of;
 use stk_tree::{
     BaseForm, Declaration, Declr, Desig, Dimension, Enumr, Expr, ExprForm, Fixed, Init, Item,
-    Lexeme, Member, Param, Storage, Tail, spelling,
+    Lexeme, Member, Node, Param, Storage, Tail, spelling,
 };
 
 /// What is read.
@@ -374,18 +374,18 @@ fn shape(bytes: &[u8], tree: &Declaration, out: &mut Vec<u8>) -> Result<(), NoMe
     Ok(())
 }
 
+/// The tokens of a text; none of one that is too long.
+fn tokens(alloc: Global, text: &[u8]) -> Result<Vec<Token>, NoMemory> {
+    if text.len() > 16_777_216 {
+        return Ok(Vec::new(alloc));
+    }
+    lex(alloc, text)
+}
+
 /// The lexemes of a text; none of one that is too long.
 fn lexemes(alloc: Global, text: &str) -> Result<Vec<Lexeme>, NoMemory> {
-    let bytes = text.as_bytes();
-    let mut list = Vec::new(alloc);
-    if bytes.len() > 16_777_216 {
-        return Ok(list);
-    }
-    let tokens = lex(alloc, bytes)?;
-    for token in &tokens {
-        list.push(lexeme_of(bytes, *token))?;
-    }
-    Ok(list)
+    let list = tokens(alloc, text.as_bytes())?;
+    lexemes_of(alloc, text.as_bytes(), list.as_slice())
 }
 
 /// The names with the typedef name `T` alone.
@@ -397,15 +397,18 @@ fn names(alloc: Global) -> Result<Names, NoMemory> {
     Ok(names)
 }
 
-/// The shape of the tree that these lexemes begin with, and where it ends; nothing where there is none.
+/// The shape of the tree that these tokens begin with, and where it ends; nothing where there is none.
 fn read(
     alloc: Global,
     bytes: &[u8],
-    list: &[Lexeme],
+    list: &[Token],
     form: Form,
 ) -> Result<(Vec<u8>, usize), NoMemory> {
     let names = names(alloc)?;
     let mut out = Vec::new(alloc);
+    if list.len() > 16_777_216 {
+        return Ok((out, 0));
+    }
     let found = match form {
         Form::File => decl(alloc, bytes, list, &names, 0, true),
         Form::Local => decl(alloc, bytes, list, &names, 0, false),
@@ -423,7 +426,7 @@ fn read(
 
 /// Whether a whole text has a tree of this shape; the `{` of a function's body isn't in the tree.
 fn is_whole(alloc: Global, form: Form, text: &str, wanted: &str) -> Result<bool, NoMemory> {
-    let list = lexemes(alloc, text)?;
+    let list = tokens(alloc, text.as_bytes())?;
     let (shape, end) = read(alloc, text.as_bytes(), list.as_slice(), form)?;
     let left = list.len().saturating_sub(end);
     let to_be_left = if wanted.is_empty() {
@@ -470,18 +473,17 @@ fn reads_fronts(rt: HostRuntime) -> Result<(), Fail> {
 
 /// `int a = ` with so many braces in one another, up to the `;`: where it is read to.
 fn nested(alloc: Global, count: usize) -> Result<usize, NoMemory> {
-    let mut list = Vec::new(alloc);
-    list.push(Lexeme::Fixed(Fixed::Int))?;
-    list.push(Lexeme::Leaf(Class::Word, Span { from: 0, to: 1 }))?;
-    list.push(Lexeme::Fixed(Fixed::Assign))?;
+    let mut text = Vec::new(alloc);
+    text.extend_from_slice(b"int a = ")?;
     for _ in 0..count {
-        list.push(Lexeme::Fixed(Fixed::LeftBrace))?;
+        text.push(b'{')?;
     }
     for _ in 0..count {
-        list.push(Lexeme::Fixed(Fixed::RightBrace))?;
+        text.push(b'}')?;
     }
-    list.push(Lexeme::Fixed(Fixed::Semicolon))?;
-    let (_, end) = read(alloc, b"a", list.as_slice(), Form::File)?;
+    text.push(b';')?;
+    let list = tokens(alloc, text.as_slice())?;
+    let (_, end) = read(alloc, text.as_slice(), list.as_slice(), Form::File)?;
     Ok(end)
 }
 
@@ -514,5 +516,46 @@ fn reads_what_stands_in_front(rt: HostRuntime) -> Result<(), Fail> {
     let list = lexemes(alloc, "T a() { }")?;
     let read = front_within(alloc, b"T a() { }", &names, 1, list.as_slice());
     assert!(rt; left(read) == Some(2));
+    Ok(())
+}
+
+/// The nodes of a declaration of one object with an initialiser: its base, the initialiser and the declarator.
+fn nodes_of(alloc: Global, tree: &Declaration) -> Result<Vec<Node>, NoMemory> {
+    let mut nodes = Vec::new(alloc);
+    nodes.push(tree.base.node)?;
+    for declr in tree.list.as_slice() {
+        if let Some(Init::Plain(value)) = &declr.init {
+            nodes.push(value.node)?;
+        }
+        nodes.push(declr.node)?;
+    }
+    Ok(nodes)
+}
+
+/// The nodes of the declaration that begins with the second token of a text.
+fn second_nodes(alloc: Global, text: &str) -> Result<Vec<Node>, NoMemory> {
+    let list = tokens(alloc, text.as_bytes())?;
+    let names = names(alloc)?;
+    if list.is_empty() || list.len() > 16_777_216 {
+        return Ok(Vec::new(alloc));
+    }
+    match decl(alloc, text.as_bytes(), list.as_slice(), &names, 1, true) {
+        Ok((tree, _)) => nodes_of(alloc, &tree),
+        Err(_) => Ok(Vec::new(alloc)),
+    }
+}
+
+#[test]
+fn sets_the_span_of_each_node(rt: HostRuntime) -> Result<(), Fail> {
+    let nodes = second_nodes(rt.alloc(), "; static  T *a [2] = b ;")?;
+    let wanted = [(10, 11), (21, 22), (12, 22)];
+    assert!(rt; nodes.len() == wanted.len());
+    for (node, (from, to)) in nodes.iter().zip(wanted.iter()) {
+        let span = Span {
+            from: *from,
+            to: *to,
+        };
+        assert!(rt; *node == Node { number: 0, span });
+    }
     Ok(())
 }

@@ -2,12 +2,12 @@
 use crate::{Parse, expr};
 use std::alloc::Global;
 use std::test::Fail;
-use stk_base::{Class, List, NoMemory, Span};
+use stk_base::{List, NoMemory, Span};
 use stk_ctype::{CType, IntKind, NameEntry, Names, Symbol};
 use stk_lex::{Token, lex};
 use stk_tree::{
-    AssignOp, BaseForm, BinaryOp, Dimension, Expr, ExprForm, Fixed, Lexeme, StepOp, TypeName,
-    UnaryOp, fixed_of, spelling,
+    AssignOp, BaseForm, BinaryOp, Dimension, Expr, ExprForm, Fixed, Node, StepOp, TypeName,
+    UnaryOp, spelling,
 };
 
 type Row = (&'static str, u8, &'static str);
@@ -327,25 +327,13 @@ fn member_shape(
     add(out, b"}")
 }
 
-fn lexeme_of(bytes: &[u8], token: Token) -> Lexeme {
-    match (token.class, fixed_of(token.span.text(bytes))) {
-        (Class::Word | Class::Mark, Some(fixed)) => Lexeme::Fixed(fixed),
-        (class, _) => Lexeme::Leaf(class, token.span),
-    }
-}
-
-/// The lexemes of a text; none of one that is too long.
-fn lexemes(alloc: Global, text: &str) -> Result<Vec<Lexeme>, NoMemory> {
+/// The tokens of a text; none of one that is too long.
+fn tokens(alloc: Global, text: &str) -> Result<Vec<Token>, NoMemory> {
     let bytes = text.as_bytes();
-    let mut list = Vec::new(alloc);
     if bytes.len() > 16_777_216 {
-        return Ok(list);
+        return Ok(Vec::new(alloc));
     }
-    let tokens = lex(alloc, bytes)?;
-    for token in &tokens {
-        list.push(lexeme_of(bytes, *token))?;
-    }
-    Ok(list)
+    lex(alloc, bytes)
 }
 
 /// The names with the typedef name `T` alone.
@@ -357,17 +345,17 @@ fn names(alloc: Global) -> Result<Names, NoMemory> {
     Ok(names)
 }
 
-/// The shape of the tree that some lexemes are, from the place `at` on, and where it ends; nothing where there is none.
+/// The shape of the tree that some tokens are, from the place `at` on, and where it ends; nothing where there is none.
 fn read(
     alloc: Global,
     bytes: &[u8],
-    list: &[Lexeme],
+    list: &[Token],
     at: usize,
     level: u8,
 ) -> Result<(Vec<u8>, usize), NoMemory> {
     let names = names(alloc)?;
     let mut out = Vec::new(alloc);
-    if at > list.len() || level == 0 || level > 17 {
+    if at > list.len() || list.len() > 16_777_216 || level == 0 || level > 17 {
         return Ok((out, 0));
     }
     match expr(alloc, bytes, list, &names, at, level) {
@@ -389,30 +377,68 @@ fn has_shape(
     wanted: &str,
     to: usize,
 ) -> Result<bool, NoMemory> {
-    let list = lexemes(alloc, text)?;
+    let list = tokens(alloc, text)?;
     let (shape, end) = read(alloc, text.as_bytes(), list.as_slice(), at, level)?;
     Ok(shape.as_slice() == wanted.as_bytes() && end == to)
 }
 
 /// Whether a whole text has a tree of this shape.
 fn is_whole(alloc: Global, text: &str, level: u8, wanted: &str) -> Result<bool, NoMemory> {
-    let list = lexemes(alloc, text)?;
+    let list = tokens(alloc, text)?;
     let to = if wanted.is_empty() { 0 } else { list.len() };
     has_shape(alloc, text, 0, level, wanted, to)
 }
 
 /// Whether an operand behind so many marks, with as many right parentheses behind it, is read to the place `to`.
-fn is_nested(alloc: Global, count: usize, mark: Fixed, to: usize) -> Result<bool, NoMemory> {
-    let mut list = Vec::new(alloc);
+fn is_nested(alloc: Global, count: usize, mark: &str, to: usize) -> Result<bool, NoMemory> {
+    let mut text = Vec::new(alloc);
     for _ in 0..count {
-        list.push(Lexeme::Fixed(mark))?;
+        text.extend_from_slice(mark.as_bytes())?;
     }
-    list.push(Lexeme::Leaf(Class::Word, Span { from: 0, to: 1 }))?;
+    text.push(b'a')?;
     for _ in 0..count {
-        list.push(Lexeme::Fixed(Fixed::RightParen))?;
+        text.push(b')')?;
     }
-    let (_, end) = read(alloc, b"a", list.as_slice(), 0, 1)?;
+    if text.len() > 16_777_216 {
+        return Ok(false);
+    }
+    let list = lex(alloc, text.as_slice())?;
+    let (_, end) = read(alloc, text.as_slice(), list.as_slice(), 0, 1)?;
     Ok(end == to)
+}
+
+/// The nodes of a sum of a name and a cast name, from the left to the right, each parent behind its children.
+fn nodes_of(alloc: Global, tree: &Expr) -> Result<Vec<Node>, NoMemory> {
+    let mut nodes = Vec::new(alloc);
+    if let ExprForm::Binary(_, left, right) = &tree.form {
+        nodes.push(left.get().node)?;
+        if let ExprForm::Cast(target, operand) = &right.get().form {
+            nodes.extend_from_slice(&[target.base.node, target.node, operand.get().node])?;
+        }
+        nodes.push(right.get().node)?;
+    }
+    nodes.push(tree.node)?;
+    Ok(nodes)
+}
+
+/// The nodes of the expression that begins with the second token of a text, which is such a sum.
+fn second_nodes(alloc: Global, text: &str) -> Result<Vec<Node>, NoMemory> {
+    let list = tokens(alloc, text)?;
+    let names = names(alloc)?;
+    if list.len() < 2 || list.len() > 16_777_216 {
+        return Ok(Vec::new(alloc));
+    }
+    match expr(alloc, text.as_bytes(), list.as_slice(), &names, 1, 1) {
+        Ok((tree, _)) => nodes_of(alloc, &tree),
+        Err(_) => Ok(Vec::new(alloc)),
+    }
+}
+
+fn unnumbered(from: u32, to: u32) -> Node {
+    Node {
+        number: 0,
+        span: Span { from, to },
+    }
 }
 
 #[test]
@@ -448,9 +474,20 @@ fn ends_before_a_stop(rt: HostRuntime) -> Result<(), Fail> {
 
 #[test]
 fn stops_at_the_greatest_height(rt: HostRuntime) -> Result<(), Fail> {
-    assert!(rt; is_nested(rt.alloc(), 399, Fixed::LeftParen, 799)?);
-    assert!(rt; is_nested(rt.alloc(), 400, Fixed::LeftParen, 0)?);
-    assert!(rt; is_nested(rt.alloc(), 200_000, Fixed::LeftParen, 0)?);
-    assert!(rt; is_nested(rt.alloc(), 200_000, Fixed::Sizeof, 0)?);
+    assert!(rt; is_nested(rt.alloc(), 399, "(", 799)?);
+    assert!(rt; is_nested(rt.alloc(), 400, "(", 0)?);
+    assert!(rt; is_nested(rt.alloc(), 200_000, "(", 0)?);
+    assert!(rt; is_nested(rt.alloc(), 200_000, "sizeof ", 0)?);
+    Ok(())
+}
+
+#[test]
+fn sets_the_span_of_each_node(rt: HostRuntime) -> Result<(), Fail> {
+    let nodes = second_nodes(rt.alloc(), "( a  + (T)b )")?;
+    let wanted = [(2, 3), (8, 9), (8, 9), (10, 11), (7, 11), (2, 11)];
+    assert!(rt; nodes.len() == wanted.len());
+    for (node, (from, to)) in nodes.iter().zip(wanted.iter()) {
+        assert!(rt; *node == unnumbered(*from, *to));
+    }
     Ok(())
 }

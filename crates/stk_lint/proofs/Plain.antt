@@ -1,4 +1,4 @@
--- Functions of the small form are of the plain form that runs are defined for, also once their nodes are laid out.
+-- Functions of the small form are of the plain form that runs are defined for; and what is written of a unit that was read.
 use Rattle.std.proofs.Common.{◌≡◌, ℕ, zero, ◌<◌, ◌≤◌, Bool, true, false, List, [], ◌∷◌, Some, None, refl, sym, subst, length, get_or, arith}
 use Rattle.std.specs.Prelude.{◌&&◌, nat_le}
 use Rattle.std.proofs.lemmas.Bool.{leb-true}
@@ -8,59 +8,19 @@ use Rattle.stk_tree.specs.declared.expression.BinaryOp.{BinaryOp}
 use Rattle.stk_tree.specs.declared.expression.BinaryOp.TheVariants.{Add, Mul, Div, Lt, Gt, Le, Ge, Eq, Ne}
 use Rattle.stk_tree.specs.Syntax.{ExprTree, DeclrTree, DeclrTrees, DeclarationTree, StmtTree, PartTree, PartTrees, FunctionTree, UnitTree}
 use Rattle.stk_tree.specs.Syntax as s
-use Rattle.stk_tree.specs.Layout.{laid_expression, laid_declarator, laid_declarators, laid_declaration, laid_statement, laid_part, laid_parts, laid_function, node_at}
-use Rattle.stk_tree.specs.Layout.{unit_laid_out, node_at}
 use Rattle.stk_lex.specs.declared.token.Token.{Token}
 use Rattle.stk_lexeme.specs.Lexemes.{lexemes_of, spans_of}
 use Rattle.stk_lint.specs.declared.records.Counts.{Counts}
-use Rattle.stk_lint.specs.LawfulText.{Prints, IsEmpty, IsUnitText, accepted, judged, other_form, nothing_counted, one_skipped}
-use Rattle.stk_lint.specs.Records.{other_form_text}
+use Rattle.stk_lint.specs.LawfulText.{IsSkipped, IsUnitText, Prints, accepted, is_definition, judged, no_types, nothing_counted, one_skipped, skipped}
+use Rattle.stk_lint.specs.Records.{skip_text}
 use Rattle.stk_lint.specs.Judged.{IsJudged, IsReadAs}
 use Rattle.stk_tree.specs.declared.node.Node.{Node}
-use Rattle.stk_tree.specs.Tokens.{unit_tokens}
+use Rattle.stk_stmt_grammar.proofs.LaidUnits.{one_laid_unit}
+use Rattle.stk_lint.specs.declared.records.Cause.{Cause}
+use Rattle.stk_lint.specs.declared.records.Cause.TheVariants.{OtherForm}
 use Rattle.stk_small.specs.SmallForm.{IsOperand, IsTermOperator, IsComparison, IsTerm, IsSum, IsCondition, IsReturn, IsTest, IsLocal, AreTests, AreParts, IsSmallFunction, IsSmall, is_small_number, is_decimal}
 use Rattle.stk_meaning.specs.Values.{compares, is_arithmetic}
 use Rattle.stk_meaning.specs.Forms.{IsPlainTerm, IsPlainTest, IsPlainDeclarator, ArePlainDeclarators, IsPlainLocal, IsPlainStatement, IsPlainPart, ArePlainParts, IsPlain}
-
-module _ (spans : List Span) (bytes : List ℕ) where
-  laid_term : (e : ExprTree) (n t : ℕ) → IsPlainTerm bytes e → IsPlainTerm bytes (laid_expression (node_at spans) n t e)
-  laid_term (s.expression k (s.name at)) n t p = p
-  laid_term (s.expression k (s.number at)) n t p = p
-  laid_term (s.expression k (s.binary op a b)) n t p = (p.0, laid_term a _ _ p.1, laid_term b _ _ p.2)
-  laid_term (s.expression k f) n t p = absurd p
-
-  laid_test : (e : ExprTree) (n t : ℕ) → IsPlainTest bytes e → IsPlainTest bytes (laid_expression (node_at spans) n t e)
-  laid_test (s.expression k (s.binary op a b)) n t p = (p.0, laid_term a _ _ p.1, laid_term b _ _ p.2)
-  laid_test (s.expression k f) n t p = absurd p
-
-  laid_object : (d : DeclrTree) (n t : ℕ) → IsPlainDeclarator bytes d → IsPlainDeclarator bytes (laid_declarator (node_at spans) n t d)
-  laid_object (s.declarator k stars (Some at) tail (s.some_initialiser (s.plain e))) n t p = laid_term e _ _ p
-  laid_object (s.declarator k stars at tail init) n t p = absurd p
-
-  laid_objects : (ds : DeclrTrees) (n t : ℕ) → ArePlainDeclarators bytes ds → ArePlainDeclarators bytes (laid_declarators (node_at spans) n t ds)
-  laid_objects s.no_declarators n t p = tt
-  laid_objects (s.then_declarator d ds) n t p = (laid_object d _ _ p.0, laid_objects ds _ _ p.1)
-
-  laid_local : (d : DeclarationTree) (n t : ℕ) → IsPlainLocal bytes d → IsPlainLocal bytes (laid_declaration (node_at spans) n t d)
-  laid_local (s.declaration storage b ds) n t p = laid_objects ds _ _ p
-
-  laid_run : (x : StmtTree) (n t : ℕ) → IsPlainStatement bytes x → IsPlainStatement bytes (laid_statement (node_at spans) n t x)
-  laid_run (s.statement k (s.if_statement e x s.no_statement)) n t p = (laid_test e _ _ p.0, laid_run x _ _ p.1)
-  laid_run (s.statement k (s.return_statement (s.some_expression e))) n t p = laid_term e _ _ p
-  laid_run (s.statement k f) n t p = absurd p
-
-  laid_one : (x : PartTree) (n t : ℕ) → IsPlainPart bytes x → IsPlainPart bytes (laid_part (node_at spans) n t x)
-  laid_one (s.local d) n t p = laid_local d _ _ p
-  laid_one (s.run x) n t p = laid_run x _ _ p
-
-  laid_all : (xs : PartTrees) (n t : ℕ) → ArePlainParts bytes xs → ArePlainParts bytes (laid_parts (node_at spans) n t xs)
-  laid_all s.no_parts n t p = tt
-  laid_all (s.then_part x xs) n t p = (laid_one x _ _ p.0, laid_all xs _ _ p.1)
-
-  -- a plain function is plain once its nodes are laid out
-  pub laid_plain : (n t : ℕ) (f : FunctionTree) → IsPlain bytes f → IsPlain bytes (laid_function (node_at spans) n t f)
-  laid_plain n t (s.function storage b (s.declarator k stars at (s.with_parameters ps more) init) (s.statement m (s.block parts))) p = laid_all parts _ _ p
-  laid_plain n t f p = absurd p
 
 second_holds : (a b : Bool) → a && b ≡ true → b ≡ true
 second_holds true b e = e
@@ -134,44 +94,35 @@ module _ (bytes : List ℕ) where
   function_plain (s.function None b (s.declarator n zero (Some at) (s.with_parameters (s.then_parameter p ps) false) s.no_initialiser) (s.statement m (s.block parts))) h = parts_plain _ _ parts h.2
   function_plain f h = absurd h
 
--- what is read as a function is one that the tokens print, and it is plain
-pub read_function : (bytes : List ℕ) (tokens : List Token) (n : Node) (f : FunctionTree) (u : UnitTree) → IsSmall bytes u → unit_tokens u ≡ lexemes_of bytes tokens → s.defines n f ≡ unit_laid_out (spans_of tokens) u → Prints bytes tokens f × IsPlain bytes f
-read_function bytes tokens n f (s.defines m g) small printed e =
-    let same : laid_function (node_at (spans_of tokens)) 0 0 g ≡ f = cc in
-    (record { unit = s.defines m g; node = n; small = small; printed = printed; laid_out = sym e }, subst (IsPlain bytes) same (laid_plain (spans_of tokens) bytes 0 0 g (function_plain bytes g small)))
-read_function bytes tokens n f u small printed e = absurd small
+-- ---- what is written of a unit that was read
 
-pub read_prints : (bytes : List ℕ) (tokens : List Token) (n : Node) (f : FunctionTree) → IsReadAs bytes tokens (s.defines n f) → Prints bytes tokens f
-read_prints bytes tokens n f h = (read_function bytes tokens n f h.tree h.small h.printed h.laid_out).0
+pub small_plain : (bytes : List ℕ) (n : Node) (f : FunctionTree) → IsSmall bytes (s.defines n f) → IsPlain bytes f
+small_plain bytes n f small = function_plain bytes f small
 
-pub read_plain : (bytes : List ℕ) (tokens : List Token) (n : Node) (f : FunctionTree) → IsReadAs bytes tokens (s.defines n f) → IsPlain bytes f
-read_plain bytes tokens n f h = (read_function bytes tokens n f h.tree h.small h.printed h.laid_out).1
+read_prints : (bytes : List ℕ) (tokens : List Token) (n : Node) (f : FunctionTree) → IsReadAs bytes tokens (s.defines n f) → IsSmall bytes (s.defines n f) → Prints bytes tokens f
+read_prints bytes tokens n f h small = record { node = n; is = h.is; laid_out = h.laid_out; small = small }
 
--- nothing else is read
-not_empty : (bytes : List ℕ) (spans : List Span) (n : Node) (u : UnitTree) → IsSmall bytes u → s.empty_unit n ≡ unit_laid_out spans u → ⊥
-not_empty bytes spans n (s.defines m g) small e = cc
-not_empty bytes spans n u small e = absurd small
+-- a function that isn't of the small form is no function of the small form
+pub read_other : (bytes : List ℕ) (tokens : List Token) (n : Node) (f : FunctionTree) → IsReadAs bytes tokens (s.defines n f) → (IsSmall bytes (s.defines n f) → ⊥) → IsSkipped bytes tokens OtherForm
+read_other bytes tokens n f h other = record {
+  node = n;
+  function = f;
+  is = h.is;
+  other = λ g p. other (subst (IsSmall bytes) (one_laid_unit (no_types bytes) (lexemes_of bytes tokens) (spans_of tokens) (s.defines p.node g) (s.defines n f) p.is h.is p.laid_out h.laid_out) p.small);
+}
 
-not_declares : (bytes : List ℕ) (spans : List Span) (n : Node) (d : DeclarationTree) (u : UnitTree) → IsSmall bytes u → s.declares n d ≡ unit_laid_out spans u → ⊥
-not_declares bytes spans n d (s.defines m g) small e = cc
-not_declares bytes spans n d u small e = absurd small
+-- what is written of a function of the small form
+pub text_judged : (bytes : List ℕ) (tokens : List Token) (n : Node) (f : FunctionTree) (text : List ℕ) (counts : Counts) → IsReadAs bytes tokens (s.defines n f) → IsSmall bytes (s.defines n f)
+    → IsJudged bytes f text counts → IsUnitText bytes tokens text counts
+text_judged bytes tokens n f text counts h small j = rw (j.same_text, j.same_counts) (judged j.findings (read_prints bytes tokens n f h small) j.lawful)
 
-pub read_not_empty : (bytes : List ℕ) (tokens : List Token) (n : Node) → IsReadAs bytes tokens (s.empty_unit n) → ⊥
-read_not_empty bytes tokens n h = not_empty bytes (spans_of tokens) n h.tree h.small h.laid_out
+-- what is written of an empty unit and of a declaration
+pub text_accepted : (bytes : List ℕ) (tokens : List Token) (u : UnitTree) (text : List ℕ) (counts : Counts) → IsReadAs bytes tokens u → is_definition u ≡ false → text ≡ [] → counts ≡ nothing_counted
+    → IsUnitText bytes tokens text counts
+text_accepted bytes tokens u text counts h none e f = rw (e, f) (accepted u h.is none)
 
-pub read_not_declares : (bytes : List ℕ) (tokens : List Token) (n : Node) (d : DeclarationTree) → IsReadAs bytes tokens (s.declares n d) → ⊥
-read_not_declares bytes tokens n d h = not_declares bytes (spans_of tokens) n d h.tree h.small h.laid_out
-
--- what is written of a function that the tokens print
-pub text_judged : (bytes : List ℕ) (tokens : List Token) (n : Node) (f : FunctionTree) (text : List ℕ) (counts : Counts) → IsReadAs bytes tokens (s.defines n f) → IsJudged bytes f text counts → IsUnitText bytes tokens text counts
-text_judged bytes tokens n f text counts h j = rw (j.same_text, j.same_counts) (judged j.findings (read_prints bytes tokens n f h) j.lawful)
-
--- what is written of an empty unit
-pub text_accepted : (bytes : List ℕ) (tokens : List Token) (text : List ℕ) (counts : Counts) → IsEmpty bytes tokens → text ≡ [] → counts ≡ nothing_counted → IsUnitText bytes tokens text counts
-text_accepted bytes tokens text counts is e f = rw (e, f) (accepted is)
-
--- what is written of a unit that no small tree prints
-pub text_skipped : (bytes : List ℕ) (tokens : List Token) (none : Token) (text : List ℕ) (counts : Counts) → 0 < length tokens → (IsEmpty bytes tokens → ⊥) → ((f : FunctionTree) → Prints bytes tokens f → ⊥)
-    → text ≡ other_form_text bytes (get_or tokens 0 none).span.from → counts ≡ one_skipped → IsUnitText bytes tokens text counts
-text_skipped bytes [] none text counts some not_empty no_tree e f = absurd (omega arith)
-text_skipped bytes (t ∷ ts) none text counts some not_empty no_tree e f = rw (e, f) (other_form not_empty no_tree)
+-- what is written of a unit that is skipped
+pub text_skipped : (bytes : List ℕ) (tokens : List Token) (none : Token) (cause : Cause) (text : List ℕ) (counts : Counts) → 0 < length tokens → IsSkipped bytes tokens cause
+    → text ≡ skip_text bytes (get_or tokens 0 none).span.from cause → counts ≡ one_skipped → IsUnitText bytes tokens text counts
+text_skipped bytes [] none cause text counts some is e f = absurd (omega arith)
+text_skipped bytes (t ∷ ts) none cause text counts some is e f = rw (e, f) (skipped cause is)

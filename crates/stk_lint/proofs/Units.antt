@@ -1,31 +1,31 @@
 -- What is written of units, one after the other: each unit has a text, and how the texts of units go on.
-use Rattle.std.proofs.Common.{◌≡◌, ℕ, ◌-◌, ◌<◌, ◌≤◌, Bool, true, false, List, [], ◌∷◌, ◌++◌, length, drop, get_or, map, Option, Some, None, refl, sym, ap, ◌∙◌, ◌⊎◌, inl, inr, arith}
+use Rattle.std.proofs.Common.{◌≡◌, ℕ, ◌-◌, ◌<◌, ◌≤◌, Bool, true, false, List, [], ◌∷◌, ◌++◌, length, drop, Option, Some, None, refl, sym, ◌∙◌, ◌⊎◌, inl, inr, arith}
 use Rattle.std.proofs.lemmas.Bool.{false≢true}
 use Rattle.std.proofs.lemmas.List.{length-drop, length-take}
 use Rattle.stk_base.specs.declared.span.Span.{Span}
 use Rattle.stk_lex.specs.declared.token.Token.{Token}
 use Rattle.stk_units.specs.declared.cutting.Piece.{Piece}
 use Rattle.stk_units.specs.Units.{AreJoined}
-use Rattle.stk_tree.specs.declared.node.Node.{Node}
-use Rattle.stk_tree.specs.declared.fixed.Lexeme.{Lexeme}
-use Rattle.stk_tree.specs.declared.fixed.Lexeme.TheVariants as lexemes
-use Rattle.stk_tree.specs.declared.fixed.Fixed.{Fixed}
-use Rattle.stk_tree.specs.declared.fixed.Fixed.TheVariants as fixed
-use Rattle.stk_tree.specs.Syntax.{UnitTree, FunctionTree}
+use Rattle.stk_tree.specs.Syntax.{UnitTree}
 use Rattle.stk_tree.specs.Syntax as s
-use Rattle.stk_tree.specs.Layout.{unit_laid_out, laid_function}
-use Rattle.stk_lexeme.specs.Lexemes.{lexeme_of, lexemes_of, spans_of}
+use Rattle.stk_tree.specs.Layout.{unit_laid_out}
+use Rattle.stk_lexeme.specs.Lexemes.{lexemes_of, spans_of}
+use Rattle.stk_stmt_grammar.specs.Bare.{bare_unit}
+use Rattle.stk_stmt_grammar.specs.Reading.{unit_at}
+use Rattle.stk_stmt_grammar.specs.Units.{IsUnit}
+use Rattle.stk_stmt_grammar.proofs.LaidUnits.{laid_bare_unit, laid_is_unit}
+use Rattle.stk_stmt_grammar.proofs.Laws.{found_bare, none_of_none, unit_of_found}
 use Rattle.stk_meaning.specs.Parts.{candidates}
-use Rattle.stk_small.specs.declared.small.Outline.{Outline}
-use Rattle.stk_small.specs.SmallReading.{terminal_of}
 use Rattle.stk_small.specs.SmallForm.{IsSmall}
-use Rattle.stk_small.specs.SmallTexts.{fitting_outline}
-use Rattle.stk_small.specs.SmallTree.{unit_tree}
-use Rattle.stk_small.proofs.SmallReads.{found_tree, no_tree}
+use Rattle.stk_small.specs.SmallTests.{is_small}
+use Rattle.stk_small.proofs.FormTests.{small_found, small_tested}
+use Rattle.stk_lint.specs.declared.records.Cause.TheVariants.{NoTree, OtherForm}
 use Rattle.stk_lint.specs.declared.records.Counts.{Counts}
-use Rattle.stk_lint.specs.Records.{findings_text, other_form_text}
-use Rattle.stk_lint.specs.LawfulText.{Prints, IsEmpty, IsUnitText, accepted, judged, other_form, nothing_counted, counts_sum, tokens_of_piece, AreUnitTexts, no_unit, then_unit}
+use Rattle.stk_lint.specs.Records.{findings_text, skip_text}
+use Rattle.stk_lint.specs.LawfulText.{AreUnitTexts, IsSkipped, IsUnitText, accepted, counts_sum, judged, no_types, no_unit, nothing_counted, one_skipped, skipped, then_unit, tokens_of_piece}
+use Rattle.stk_lint.specs.Judged.{IsReadAs}
 use Rattle.stk_lint.proofs.Exists.{findings_of}
+use Rattle.stk_lint.proofs.Plain.{read_other}
 
 -- ---- a text of each unit
 
@@ -34,59 +34,39 @@ pub record IsWrittenOf (bytes : List ℕ) (tokens : List Token) : Type 0 where
   pub counts : Counts
   pub is : IsUnitText bytes tokens text counts
 
--- whether lexemes are a `;`
-is_semicolon : List Lexeme → Bool
-is_semicolon (lexemes.Fixed fixed.Semicolon ∷ []) = true
-is_semicolon ls = false
+-- a unit of these tokens, laid out, or there is none
+read_or_not : (bytes : List ℕ) (tokens : List Token) → ((u : UnitTree) × IsReadAs bytes tokens u) ⊎ IsSkipped bytes tokens NoTree
+read_or_not bytes tokens = on (unit_at (no_types bytes) (lexemes_of bytes tokens)) refl where
+  on : (o : Option UnitTree) → unit_at (no_types bytes) (lexemes_of bytes tokens) ≡ o → ((u : UnitTree) × IsReadAs bytes tokens u) ⊎ IsSkipped bytes tokens NoTree
+  on (Some u) e =
+      let is : IsUnit (no_types bytes) (lexemes_of bytes tokens) u = unit_of_found (no_types bytes) (lexemes_of bytes tokens) u e in
+      let spans : List Span = spans_of tokens in
+      let bare : bare_unit u ≡ u = found_bare (no_types bytes) (lexemes_of bytes tokens) u e in
+      inl (unit_laid_out spans u, record { is = laid_is_unit (no_types bytes) (lexemes_of bytes tokens) spans u is; laid_out = laid_bare_unit spans u (unit_laid_out spans u) bare refl })
+  on None e = inr (none_of_none (no_types bytes) (lexemes_of bytes tokens) e)
 
-one_semicolon : List Lexeme
-one_semicolon = lexemes.Fixed fixed.Semicolon ∷ []
+small_or_not : (bytes : List ℕ) (u : UnitTree) → IsSmall bytes u ⊎ (IsSmall bytes u → ⊥)
+small_or_not bytes u = on (is_small bytes u) refl where
+  on : (b : Bool) → is_small bytes u ≡ b → IsSmall bytes u ⊎ (IsSmall bytes u → ⊥)
+  on true e = inl (small_found bytes u e)
+  on false e = inr (λ small. false≢true (sym e ∙ small_tested bytes u small))
 
-semicolon_is : (ls : List Lexeme) → is_semicolon ls ≡ true → one_semicolon ≡ ls
-unfolding is_semicolon one_semicolon
-semicolon_is (lexemes.Fixed fixed.Semicolon ∷ []) e = refl
-semicolon_is ls e = absurd (false≢true e)
-
-pub empty_or_not : (bytes : List ℕ) (tokens : List Token) → IsEmpty bytes tokens ⊎ (IsEmpty bytes tokens → ⊥)
-unfolding is_semicolon one_semicolon
-empty_or_not bytes tokens = on (is_semicolon (lexemes_of bytes tokens)) refl where
-  none : Node
-  none = record { number = 0; span = record { from = 0; to = 0 } }
-
-  on : (p : Bool) → is_semicolon (lexemes_of bytes tokens) ≡ p → IsEmpty bytes tokens ⊎ (IsEmpty bytes tokens → ⊥)
-  on true e = inl (record { node = none; printed = semicolon_is (lexemes_of bytes tokens) e })
-  on false e = inr (λ is. false≢true (sym e ∙ ap is_semicolon (sym is.printed)))
-
--- one token that is a `;`
-pub one_is_empty : (bytes : List ℕ) (tokens : List Token) (none : Token) (l : Lexeme) (f : Fixed) → 1 ≤ length tokens → length tokens < 2 → l ≡ lexeme_of bytes (get_or tokens 0 none) → l ≡ lexemes.Fixed f → f ≡ fixed.Semicolon → IsEmpty bytes tokens
-one_is_empty bytes [] none l f some few e k h = absurd (omega arith)
-one_is_empty bytes (t ∷ []) none l f some few e k h =
-    let same : ◌≡◌ {A = Lexeme} (lexemes.Fixed fixed.Semicolon) (lexeme_of bytes t) = ap (λ (x : Fixed). lexemes.Fixed x) (sym h) ∙ sym k ∙ e in
-    record { node = record { number = 0; span = record { from = 0; to = 0 } }; printed = ap (λ (x : Lexeme). x ∷ []) same }
-one_is_empty bytes (t ∷ u ∷ ts) none l f some few e k h = absurd (omega arith)
-
-defined : (bytes : List ℕ) (spans : List Span) (u : UnitTree) → IsSmall bytes u → (n : Node) × (f : FunctionTree) × (unit_laid_out spans u ≡ s.defines n f)
-defined bytes spans (s.defines m g) small = (_, laid_function spans 0 0 g, refl)
-defined bytes spans u small = absurd small
-
-prints_or_not : (bytes : List ℕ) (tokens : List Token) → ((f : FunctionTree) × Prints bytes tokens f) ⊎ ((f : FunctionTree) → Prints bytes tokens f → ⊥)
-prints_or_not bytes tokens = on (fitting_outline bytes (map terminal_of (lexemes_of bytes tokens))) refl where
-  on : (o : Option Outline) → fitting_outline bytes (map terminal_of (lexemes_of bytes tokens)) ≡ o → ((f : FunctionTree) × Prints bytes tokens f) ⊎ ((f : FunctionTree) → Prints bytes tokens f → ⊥)
-  on (Some o) e =
-      let t = found_tree bytes (lexemes_of bytes tokens) o e in
-      let d = defined bytes (spans_of tokens) (unit_tree o) t.small in
-      inl (d.1, record { unit = unit_tree o; node = d.0; small = t.small; printed = t.printed; laid_out = d.2 })
-  on None e = inr (λ f p. no_tree bytes (lexemes_of bytes tokens) e p.unit p.small p.printed)
+text_of_tree : (bytes : List ℕ) (t : Token) (ts : List Token) (u : UnitTree) → IsReadAs bytes (t ∷ ts) u → IsWrittenOf bytes (t ∷ ts)
+text_of_tree bytes t ts (s.empty_unit n) h = record { text = []; counts = nothing_counted; is = accepted (s.empty_unit n) h.is refl }
+text_of_tree bytes t ts (s.declares n d) h = record { text = []; counts = nothing_counted; is = accepted (s.declares n d) h.is refl }
+text_of_tree bytes t ts (s.defines n f) h =
+    elim (small_or_not bytes (s.defines n f)) [
+      | inl small ↦ (let xs = findings_of bytes f (candidates f) in
+        record { text = findings_text bytes f (candidates f) xs.0; counts = _; is = judged xs.0 (record { node = n; is = h.is; laid_out = h.laid_out; small = small }) xs.1 })
+      | inr other ↦ record { text = skip_text bytes t.span.from OtherForm; counts = one_skipped; is = skipped OtherForm (read_other bytes (t ∷ ts) n f h other) }
+    ]
 
 pub text_of_unit : (bytes : List ℕ) (tokens : List Token) → 0 < length tokens → IsWrittenOf bytes tokens
 text_of_unit bytes [] some = absurd (omega arith)
 text_of_unit bytes (t ∷ ts) some =
-    elim (empty_or_not bytes (t ∷ ts)) [
-      | inl is ↦ record { text = []; counts = nothing_counted; is = accepted is }
-      | inr not_empty ↦ elim (prints_or_not bytes (t ∷ ts)) [
-        | inl p ↦ (let xs = findings_of bytes p.0 (candidates p.0) in record { text = findings_text bytes p.0 (candidates p.0) xs.0; counts = _; is = judged xs.0 p.1 xs.1 })
-        | inr none ↦ record { text = other_form_text bytes t.span.from; counts = _; is = other_form not_empty none }
-      ]
+    elim (read_or_not bytes (t ∷ ts)) [
+      | inl read ↦ text_of_tree bytes t ts read.0 read.1
+      | inr none ↦ record { text = skip_text bytes t.span.from NoTree; counts = one_skipped; is = skipped NoTree none }
     ]
 
 -- ---- the texts of units

@@ -1,19 +1,18 @@
 -- What is written of the findings of a function, and of units one after the other.
 use Rattle.std.specs.Prelude.{◌≡◌, ℕ, ◌≤◌, List, ◌++◌, Option}
 use Rattle.stk_lex.specs.declared.token.Token.{Token}
-use Rattle.stk_lexeme.specs.Lexemes.{lexemes_of, spans_of}
+use Rattle.stk_lexeme.specs.Lexemes.{spans_of}
 use Rattle.stk_units.specs.declared.cutting.Piece.{Piece}
 use Rattle.stk_base.specs.Streams.{Appended, AppendedFront}
 use Rattle.stk_tree.specs.Syntax.{FunctionTree, UnitTree}
-use Rattle.stk_tree.specs.Tokens.{unit_tokens}
+use Rattle.stk_stmt_grammar.specs.Bare.{bare_unit}
 use Rattle.stk_tree.specs.Layout.{unit_laid_out}
 use Rattle.stk_meaning.specs.declared.candidate.Candidate.{Candidate}
 use Rattle.stk_meaning.specs.declared.finding.Finding.{Finding}
 use Rattle.stk_meaning.specs.Parts.{candidates}
-use Rattle.stk_small.specs.SmallForm.{IsSmall}
 use Rattle.stk_lint.specs.declared.records.Counts.{Counts}
 use Rattle.stk_lint.specs.Records.{findings_text}
-use Rattle.stk_lint.specs.LawfulText.{AreLawful, unstable_count, one_judged, IsUnitText, AreUnitTexts}
+use Rattle.stk_lint.specs.LawfulText.{AreLawful, unstable_count, one_judged, IsUnitOf, IsUnitText, AreUnitTexts}
 
 -- the records of lawful findings for these candidates were added to a text; so many of them are reports
 pub record AddsFindings (bytes : List ℕ) (f : FunctionTree) (list : List Candidate) (old new : List ℕ) (unstable : ℕ) : Type 0 where
@@ -29,12 +28,10 @@ pub record IsJudged (bytes : List ℕ) (f : FunctionTree) (text : List ℕ) (cou
   pub same_text : text ≡ findings_text bytes f (candidates f) findings
   pub same_counts : counts ≡ one_judged findings
 
--- a small tree prints the tokens of a unit, and this is the unit once its nodes are laid out
+-- the tokens of a unit are this tree, whose nodes are numbered and placed
 pub record IsReadAs (bytes : List ℕ) (tokens : List Token) (unit : UnitTree) : Type 0 where
-  pub tree : UnitTree
-  pub small : IsSmall bytes tree
-  pub printed : unit_tokens tree ≡ lexemes_of bytes tokens
-  pub laid_out : unit ≡ unit_laid_out (spans_of tokens) tree
+  pub is : IsUnitOf bytes tokens unit
+  pub laid_out : unit ≡ unit_laid_out (spans_of tokens) (bare_unit unit)
 
 -- each count is at most n
 pub record AreAtMost (n : ℕ) (counts : Counts) : Type 0 where

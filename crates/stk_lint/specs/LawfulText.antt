@@ -1,6 +1,6 @@
 -- Which texts and statuses are lawful for the bytes of an input. The input is cut into its units; a tree stands for a unit
 -- by printing its tokens, so nothing here speaks of how a unit is read.
-use Rattle.std.specs.Prelude.{◌≡◌, ℕ, ◌+◌, ◌-◌, List, [], ◌∷◌, ◌++◌, map, length, take, drop, zero, suc}
+use Rattle.std.specs.Prelude.{◌≡◌, ℕ, ◌+◌, ◌-◌, Bool, true, false, List, [], ◌∷◌, ◌++◌, map, length, take, drop, zero, suc}
 use Rattle.stk_base.specs.declared.span.Span.{Span}
 use Rattle.stk_base.specs.declared.status.Status.{Status}
 use Rattle.stk_base.specs.declared.status.Status.TheVariants.{Stable, Found}
@@ -10,18 +10,22 @@ use Rattle.stk_units.specs.declared.cutting.Piece.{Piece}
 use Rattle.stk_units.specs.Skimming.{kept_tokens, notes_of}
 use Rattle.stk_units.specs.Units.{units_of}
 use Rattle.stk_tree.specs.declared.node.Node.{Node}
-use Rattle.stk_tree.specs.Syntax.{UnitTree, FunctionTree, defines, empty_unit}
-use Rattle.stk_tree.specs.Tokens.{unit_tokens}
+use Rattle.stk_tree.specs.Syntax.{UnitTree, FunctionTree, declares, defines, empty_unit}
 use Rattle.stk_tree.specs.Layout.{unit_laid_out}
 use Rattle.stk_lexeme.specs.Lexemes.{lexemes_of, spans_of}
+use Rattle.stk_stmt_grammar.specs.Bare.{bare_unit}
+use Rattle.stk_stmt_grammar.specs.Units.{IsUnit}
+use Rattle.stk_expr.specs.Gives.{named}
 use Rattle.stk_meaning.specs.declared.candidate.Candidate.{Candidate}
 use Rattle.stk_meaning.specs.declared.finding.Finding.{Finding}
 use Rattle.stk_meaning.specs.declared.finding.Finding.TheVariants.{Clear, Unstable, Undecided}
 use Rattle.stk_meaning.specs.Findings.{IsLawful}
 use Rattle.stk_meaning.specs.Parts.{candidates}
 use Rattle.stk_small.specs.SmallForm.{IsSmall}
+use Rattle.stk_lint.specs.declared.records.Cause.{Cause}
+use Rattle.stk_lint.specs.declared.records.Cause.TheVariants.{NoTree, OtherForm}
 use Rattle.stk_lint.specs.declared.records.Counts.{Counts}
-use Rattle.stk_lint.specs.Records.{findings_text, summary_text, other_form_text}
+use Rattle.stk_lint.specs.Records.{findings_text, skip_text, summary_text}
 
 -- each candidate has a lawful finding
 abbrev pub AreLawful : List ℕ → FunctionTree → List Candidate → List Finding → Type 0
@@ -67,27 +71,47 @@ counts_sum a b = record {
 
 -- ---- units
 
--- These tokens are printed by a tree of the small form, which is this function once its nodes are numbered and placed.
-pub record Prints (bytes : List ℕ) (tokens : List Token) (f : FunctionTree) : Type 0 where
-  pub unit : UnitTree
-  pub node : Node
-  pub small : IsSmall bytes unit
-  pub printed : unit_tokens unit ≡ lexemes_of bytes tokens
-  pub laid_out : unit_laid_out (spans_of tokens) unit ≡ defines node f
+-- whether the word at a span is a typedef name in force: none is, as long as no declaration is taken up
+abbrev pub no_types : List ℕ → Span → Bool
+no_types bytes at = named bytes [] at
 
--- these tokens are printed by an empty unit, a `;`
-pub record IsEmpty (bytes : List ℕ) (tokens : List Token) : Type 0 where
+-- these tokens are a unit: the whole of them, at most 400 high
+abbrev pub IsUnitOf : List ℕ → List Token → UnitTree → Type 0
+IsUnitOf bytes tokens u = IsUnit (no_types bytes) (lexemes_of bytes tokens) u
+
+-- whether a unit is the definition of a function
+abbrev pub is_definition : UnitTree → Bool
+is_definition (empty_unit n) = false
+is_definition (declares n d) = false
+is_definition (defines n f) = true
+
+-- These tokens are a function of the small form, whose nodes are numbered and placed.
+pub record Prints (bytes : List ℕ) (tokens : List Token) (f : FunctionTree) : Type 0 where
   pub node : Node
-  pub printed : unit_tokens (empty_unit node) ≡ lexemes_of bytes tokens
+  pub is : IsUnitOf bytes tokens (defines node f)
+  pub laid_out : defines node f ≡ unit_laid_out (spans_of tokens) (bare_unit (defines node f))
+  pub small : IsSmall bytes (defines node f)
+
+-- these tokens are the definition of a function, which isn't of the small form
+pub record IsOtherForm (bytes : List ℕ) (tokens : List Token) : Type 0 where
+  pub node : Node
+  pub function : FunctionTree
+  pub is : IsUnitOf bytes tokens (defines node function)
+  pub other : (f : FunctionTree) → Prints bytes tokens f → ⊥
+
+-- when a unit is skipped for a cause: no tree is these tokens; or they define a function of another form than the program judges
+abbrev pub IsSkipped : List ℕ → List Token → Cause → Type 0
+IsSkipped bytes tokens NoTree = (u : UnitTree) → IsUnitOf bytes tokens u → ⊥
+IsSkipped bytes tokens OtherForm = IsOtherForm bytes tokens
 
 -- What is written of a unit of these tokens, and what it counts for:
--- an empty unit is accepted without a word;
--- a unit that no tree of the small form prints has a skip line at its first token;
--- and one that such a tree prints has the records of lawful findings, one for each candidate in order.
+-- an empty unit and a declaration are accepted without a word;
+-- a unit that is skipped has a line with the cause at its first token;
+-- and a function of the small form has the records of lawful findings, one for each candidate in order.
 pub data IsUnitText (bytes : List ℕ) : List Token → List ℕ → Counts → Type 0 where
-  accepted : {tokens : List Token} → IsEmpty bytes tokens → IsUnitText bytes tokens [] nothing_counted
-  other_form : {first : Token} {others : List Token} → (IsEmpty bytes (first ∷ others) → ⊥) → ((f : FunctionTree) → Prints bytes (first ∷ others) f → ⊥)
-      → IsUnitText bytes (first ∷ others) (other_form_text bytes first.span.from) one_skipped
+  accepted : {tokens : List Token} (u : UnitTree) → IsUnitOf bytes tokens u → is_definition u ≡ false → IsUnitText bytes tokens [] nothing_counted
+  skipped : {first : Token} {others : List Token} (cause : Cause) → IsSkipped bytes (first ∷ others) cause
+      → IsUnitText bytes (first ∷ others) (skip_text bytes first.span.from cause) one_skipped
   judged : {tokens : List Token} {f : FunctionTree} (findings : List Finding) → Prints bytes tokens f → AreLawful bytes f (candidates f) findings
       → IsUnitText bytes tokens (findings_text bytes f (candidates f) findings) (one_judged findings)
 

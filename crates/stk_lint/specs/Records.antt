@@ -16,6 +16,8 @@ use Rattle.stk_meaning.specs.declared.finding.Finding.TheVariants.{Clear, Unstab
 use Rattle.stk_meaning.specs.declared.finding.Need.{Need}
 use Rattle.stk_meaning.specs.declared.inputs.Inputs.{Inputs}
 use Rattle.stk_meaning.specs.Runs.{body_of, parameters_of}
+use Rattle.stk_lint.specs.declared.records.Cause.{Cause}
+use Rattle.stk_lint.specs.declared.records.Cause.TheVariants.{NoTree, OtherForm}
 use Rattle.stk_lint.specs.declared.records.Counts.{Counts}
 
 -- a byte of a file's name as it is printed: itself from 32 to 126, and else `?`
@@ -165,6 +167,11 @@ left_out_text n = counted n.undecided (codes " undecided, ") ++ counted n.skippe
 abbrev pub summary_text : Counts → List ℕ
 summary_text n = found_text n ++ left_out_text n
 
--- the line of a unit that isn't of a form that the program judges; the place is that of its first token
-abbrev pub other_form_text : List ℕ → ℕ → List ℕ
-other_form_text bytes at = place_text bytes at ++ codes ": skipped: other form\n"
+-- what a skip line says behind the place
+abbrev pub skip_words : Cause → List ℕ
+skip_words NoTree = codes ": skipped: no tree\n"
+skip_words OtherForm = codes ": skipped: other form\n"
+
+-- the line of a unit that is skipped; the place is that of its first token
+abbrev pub skip_text : List ℕ → ℕ → Cause → List ℕ
+skip_text bytes at cause = place_text bytes at ++ skip_words cause

@@ -3,7 +3,7 @@
 ghost use Rattle.std.specs.Prelude.{◌≡◌, ◌++◌, ◌∷◌, [], ◌≤◌, IfOk, map, length, codes, decimal};
 ghost use Rattle.std.specs.Fmt.{signed_decimal};
 ghost use Rattle.stk_tree.specs.View.{view_expression, view_declarator, declarators, view_statement, view_part, parts, view_parameter, parameters, view_function};
-ghost use Rattle.stk_lint.specs.Records.{printed_byte, file_text, position_text, place_text, expression_nodes, declarator_nodes, declarators_nodes, statement_nodes, part_nodes, parts_nodes, function_nodes, beginning, node_place, declarator_name, function_name, key_text, more_keys, start_text, kind_text, shown_text, need_text, needs_text, report_text, hit_text, finding_text, counted, found_text, left_out_text, summary_text, other_form_text};
+ghost use Rattle.stk_lint.specs.Records.{printed_byte, file_text, position_text, place_text, expression_nodes, declarator_nodes, declarators_nodes, statement_nodes, part_nodes, parts_nodes, function_nodes, beginning, node_place, declarator_name, function_name, key_text, more_keys, start_text, kind_text, shown_text, need_text, needs_text, report_text, hit_text, finding_text, counted, found_text, left_out_text, skip_text, skip_words, summary_text};
 ghost use Rattle.stk_lint.specs.LawfulText.{nothing_counted, counts_sum};
 ghost use Rattle.stk_lint.specs.Judged.{AreAtMost};
 
@@ -361,10 +361,34 @@ pub fn add_summary(text: &mut Vec<u8>, counts: Counts) -> Result<(), NoMemory>
     add_left_out(text, counts)
 }
 
-/// Adds the line of a unit that isn't of a form that the program judges; its first token begins at this byte.
-pub fn add_other_form(text: &mut Vec<u8>, input: &Places, at: u32) -> Result<(), NoMemory>
-    ensures { IfOk result (λ _. text.new.items ≡ text.old.items ++ other_form_text input.now at) }
+/// Why a unit is skipped.
+#[derive(Clone, Copy, Debug, PartialEq, Eq)]
+pub enum Cause {
+    /// No tree of the grammar prints its tokens.
+    NoTree,
+    /// It defines a function, of another form than the program judges.
+    OtherForm,
+}
+
+// What a skip line says behind the place.
+fn skip_words(cause: Cause) -> &'static [u8]
+    ensures { result.now ≡ skip_words cause }
+{
+    match cause {
+        Cause::NoTree => b": skipped: no tree\n",
+        Cause::OtherForm => b": skipped: other form\n",
+    }
+}
+
+/// Adds the line of a unit that is skipped for a cause; its first token begins at this byte.
+pub fn add_skip(
+    text: &mut Vec<u8>,
+    input: &Places,
+    at: u32,
+    cause: Cause,
+) -> Result<(), NoMemory>
+    ensures { IfOk result (λ _. text.new.items ≡ text.old.items ++ skip_text input.now at cause) }
 {
     add_place(text, input, at)?;
-    add(text, b": skipped: other form\n")
+    add(text, skip_words(cause))
 }

@@ -1,24 +1,25 @@
 //! What is written of a unit, and what it counts for.
 
-ghost use Rattle.std.specs.Prelude.{◌≡◌, ◌≤◌, ◌<◌, ◌∷◌, ◌↔◌, [], None, IfOk, IfSome, IsTrue, length};
-ghost use Rattle.stk_tree.specs.Syntax.{FunctionTree};
+ghost use Rattle.std.specs.Prelude.{◌≡◌, ◌≤◌, ◌<◌, ◌∷◌, [], None, IfOk, IfSome, length};
 ghost use Rattle.stk_tree.specs.View.{view_function, view_unit};
 ghost use Rattle.stk_meaning.specs.Forms.{IsPlain};
 ghost use Rattle.stk_meaning.specs.Parts.{conditions, candidates};
-ghost use Rattle.stk_lint.specs.Records.{function_nodes, other_form_text};
-ghost use Rattle.stk_lint.specs.LawfulText.{unstable_count, nothing_counted, one_skipped, IsEmpty, Prints, IsUnitText};
+ghost use Rattle.stk_lint.specs.Records.{function_nodes, skip_text};
+ghost use Rattle.stk_lint.specs.LawfulText.{unstable_count, nothing_counted, one_skipped, IsSkipped, IsUnitText};
 ghost use Rattle.stk_lint.specs.Judged.{AddsFindings, IsJudged, IsReadAs};
 
 use crate::judging::judge;
 use crate::nodes::nodes_of;
-use crate::records::{Counts, add_finding, add_other_form};
+use crate::records::{Cause, Counts, add_finding, add_skip};
 use std::alloc::Global;
 use stk_base::{Boxed, NoMemory};
+use stk_ctype::Names;
 use stk_lex::{Places, Token};
-use stk_lexeme::lexeme_of;
+use stk_expr::Parse;
 use stk_meaning::{Candidate, Condition, Finding, candidates_of, conditions_of};
-use stk_small::read_small;
-use stk_tree::{Fixed, Function, Lexeme, Node, Unit};
+use stk_small::is_small;
+use stk_stmt::unit;
+use stk_tree::{Function, Node, Unit};
 
 /// What is written of a unit, and what it counts for.
 #[derive(Debug, Drop)]
@@ -99,12 +100,19 @@ fn accepted(alloc: Global) -> UnitText
     UnitText { text, counts }
 }
 
-// What is written of a unit of another form, whose first token begins at this byte.
-fn skipped(alloc: Global, input: &Places, at: u32) -> Result<UnitText, NoMemory>
-    ensures { IfOk result (λ unit. (unit.text.items ≡ other_form_text input.now at) × (unit.counts ≡ one_skipped)) }
+// What is written of a unit that is skipped for a cause.
+fn skipped(
+    alloc: Global,
+    input: &Places,
+    tokens: &[Token],
+    cause: Cause,
+) -> Result<UnitText, NoMemory>
+    requires some { 0 < length tokens.now }
+    requires is { IsSkipped input.now tokens.now cause }
+    ensures { IfOk result (λ unit. IsUnitText input.now tokens.now unit.text.items unit.counts) }
 {
     let mut text = Vec::new(alloc);
-    add_other_form(&mut text, input, at)?;
+    add_skip(&mut text, input, tokens[0].span.from, cause)?;
     let counts = Counts {
         skipped: 1,
         ..Counts::nothing()
@@ -112,69 +120,57 @@ fn skipped(alloc: Global, input: &Places, at: u32) -> Result<UnitText, NoMemory>
     Ok(UnitText { text, counts })
 }
 
-// Whether these tokens are an empty unit, a `;`.
-fn is_empty(bytes: &[u8], tokens: &[Token]) -> bool
-    ensures { IsTrue result ↔ IsEmpty bytes.now tokens.now }
-{
-    match tokens {
-        [token] => matches!(lexeme_of(bytes, *token), Lexeme::Fixed(Fixed::Semicolon)),
-        _ => false,
-    }
-}
-
-// The unit that tokens print, its nodes laid out, or `None` exactly where no tree of the small form prints them.
+// The unit that tokens are, its nodes laid out, or `None` exactly where no tree is these tokens.
 fn unit_of(alloc: Global, bytes: &[u8], tokens: &[Token]) -> Result<Option<Boxed<Unit>>, NoMemory>
     requires { length tokens.now ≤ 16777216 }
     ensures found { IfOk result (λ found. IfSome found (λ unit. IsReadAs bytes.now tokens.now (view_unit unit))) }
-    ensures none { IfOk result (λ found. found ≡ None → (f : FunctionTree) → Prints bytes.now tokens.now f → ⊥) }
+    ensures none { IfOk result (λ found. found ≡ None → IsSkipped bytes.now tokens.now Cause.NoTree) }
 {
-    match read_small(alloc, bytes, tokens)? {
-        Some(unit) => Ok(Some(Boxed::new(alloc, unit)?)),
-        None => Ok(None),
+    let names = Names::new(alloc);
+    match unit(alloc, bytes, tokens, &names) {
+        Ok(unit) => Ok(Some(unit)),
+        Err(Parse::NoTree) => Ok(None),
+        Err(Parse::NoMemory) => Err(NoMemory),
     }
 }
 
-// What is written of a unit that is read as this tree.
-fn judged_unit(
+// What is written of a unit that is this tree.
+fn text_of_tree(
     alloc: Global,
     input: &Places,
     tokens: &[Token],
     unit: &Unit,
 ) -> Result<UnitText, NoMemory>
-    requires { IsReadAs input.now tokens.now (view_unit unit.now) }
-    ensures { IfOk result (λ unit. IsUnitText input.now tokens.now unit.text.items unit.counts) }
+    requires some { 0 < length tokens.now }
+    requires read { IsReadAs input.now tokens.now (view_unit unit.now) }
+    ensures { IfOk result (λ text. IsUnitText input.now tokens.now text.text.items text.counts) }
 {
-    let _read = tokens;
     match unit {
         Unit::Defines(_, function) => {
-            let unit = judged(alloc, input, function)?;
-            Ok(unit)
+            if !is_small(alloc, input.bytes(), unit)? {
+                return skipped(alloc, input, tokens, Cause::OtherForm);
+            }
+            let text = judged(alloc, input, function)?;
+            Ok(text)
         }
         Unit::Empty(_) | Unit::Declares(_, _) => Ok(accepted(alloc)),
     }
 }
 
-/// What is written of a unit of these tokens, of which there is at least one: nothing of an empty unit, a skip line where
-/// no tree of the small form prints them, and else the records of the function's candidates. The only refusal is want of
-/// memory.
+/// What is written of a unit of these tokens, of which there is at least one: nothing of an empty unit and of a declaration, a
+/// skip line where no tree is the tokens and where they define a function that isn't of the small form, and else the records of the
+/// function's candidates. The only refusal is want of memory.
 pub fn unit_text(alloc: Global, input: &Places, tokens: &[Token]) -> Result<UnitText, NoMemory>
     requires some { 0 < length tokens.now }
     requires few { length tokens.now ≤ 16777216 }
     ensures { IfOk result (λ unit. IsUnitText input.now tokens.now unit.text.items unit.counts) }
 {
-    if is_empty(input.bytes(), tokens) {
-        return Ok(accepted(alloc));
-    }
-    let at = tokens[0].span.from;
     let found = unit_of(alloc, input.bytes(), tokens)?;
     match &found {
         Some(unit) => {
-            let unit = judged_unit(alloc, input, tokens, unit.get())?;
-            Ok(unit)
+            let text = text_of_tree(alloc, input, tokens, unit.get())?;
+            Ok(text)
         }
-        None => {
-            let unit = skipped(alloc, input, at)?;
-            Ok(unit)
-        }
+        None => skipped(alloc, input, tokens, Cause::NoTree),
     }
 }

@@ -1,11 +1,3 @@
-pub mod SmallPrints
-pub mod Rows
-pub mod SmallSound
-pub mod SmallComplete
 pub mod NameSets
-pub mod SmallTokens
-pub mod Views
-pub mod SmallShapes
-pub mod SmallOutlines
-pub mod SmallNodes
-pub mod SmallReads
+pub mod NameSpans
+pub mod FormTests

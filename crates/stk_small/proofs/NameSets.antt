@@ -9,13 +9,11 @@ use Rattle.std.specs.Str.{bytes_eq}
 use Rattle.std.specs.BTreeSet.{BTreeSet, contains_by, UpdatesBy}
 use Rattle.std.proofs.lemmas.Map.Text.{is_eq-slice_cmp}
 use Rattle.std.proofs.lemmas.Slice.Eq.{bytes_eq-Decides}
-use Rattle.std.proofs.Math.Path.{fun_ext}
 use Rattle.stk_base.specs.declared.span.Span.{Span}
-use Rattle.stk_small.specs.declared.small.Outline.{Outline}
 use Rattle.stk_base.specs.Text.{text_of}
 use Rattle.stk_small.specs.ReservedWords.{is_reserved}
 use Rattle.stk_small.specs.SmallForm.{is_among}
-use Rattle.stk_small.specs.SmallTexts.{are_names, inner_names, parts_fit, outline_fits}
+use Rattle.stk_small.specs.SmallTests.{are_names}
 use Rattle.stk_small.specs.Names.{is_in}
 
 among_is : (ks : List (Bor (List ℕ))) (text : List ℕ) → list_any (λ k. is_eq (slice_cmp nat_cmp text k.now)) ks ≡ is_among text (map (λ k. k.now) ks)
@@ -52,22 +50,3 @@ place_step bytes spans place d some within =
 pub apart_step : (x y : List ℕ) (rest : List (List ℕ)) (r is_new apart inside : Bool) → x ≡ y → r ≡ (not (is_reserved x) && is_new && apart) → is_new ≡ not inside → inside ≡ is_among x rest → apart ≡ are_names rest → r ≡ are_names (y ∷ rest)
 unfolding are_names
 apart_step x y rest r is_new apart inside e f g h i = f ∙ rw (g, h, i, e) refl
-
-pub fits_is : (bytes : List ℕ) (o : Outline) (ps ns : BTreeSet (Bor (List ℕ))) (apart : Bool)
-    → ((text : List ℕ) → is_in ns text ≡ is_among text (map (text_of bytes) (inner_names o))) → ((text : List ℕ) → is_in ps text ≡ is_among text (map (text_of bytes) o.parameters))
-    → apart ≡ are_names (text_of bytes o.name ∷ map (text_of bytes) (inner_names o)) → (apart && parts_fit bytes (is_in ps) (is_in ns) o) ≡ outline_fits bytes o
-unfolding outline_fits
-fits_is bytes o ps ns apart h i e =
-    ap (λ known. apart && parts_fit bytes (is_in ps) known o) (fun_ext h)
-    ∙ ap (λ known. apart && parts_fit bytes known (λ text. is_among text (map (text_of bytes) (inner_names o))) o) (fun_ext i)
-    ∙ ap (λ b. b && parts_fit bytes (λ text. is_among text (map (text_of bytes) o.parameters)) (λ text. is_among text (map (text_of bytes) (inner_names o))) o) e
-
-pub checked : (bytes : List ℕ) (o : Outline) (ps ns : BTreeSet (Bor (List ℕ))) (x : List ℕ) (inner outer : List Span) (set_apart inside all : Bool) → inner ≡ inner_names o → outer ≡ o.parameters
-    → ((text : List ℕ) → is_in ns text ≡ is_among text (map (text_of bytes) inner)) → set_apart ≡ are_names (map (text_of bytes) inner) → ((text : List ℕ) → is_in ps text ≡ is_among text (map (text_of bytes) outer))
-    → x ≡ text_of bytes o.name → inside ≡ is_in ns x → all ≡ (not (is_reserved x) && not inside && set_apart)
-    → (all && parts_fit bytes (is_in ps) (is_in ns) o) ≡ outline_fits bytes o
-checked bytes o ps ns x inner outer set_apart inside all in_is_inner out_is has_inner apart_inner has_outer e f g =
-    let has : (text : List ℕ) → is_in ns text ≡ is_among text (map (text_of bytes) (inner_names o)) = rw in_is_inner at has_inner in
-    let apart : set_apart ≡ are_names (map (text_of bytes) (inner_names o)) = rw in_is_inner at apart_inner in
-    let out : (text : List ℕ) → is_in ps text ≡ is_among text (map (text_of bytes) o.parameters) = rw out_is at has_outer in
-    fits_is bytes o ps ns all has out (apart_step x (text_of bytes o.name) (map (text_of bytes) (inner_names o)) all (not inside) set_apart inside e g refl (f ∙ has x) apart)

@@ -1,11 +1,12 @@
-//! The small form, and its reader, which finds the one function that the tokens of a unit print.
+//! The test for the small form: one function of unsigned characters, whose locals, tests and results are made of small
+//! numbers, `+`, `*` and `/`.
 #![tactic(auto)]
 
-mod building;
-mod checking;
-mod reading;
+mod names;
+mod numbers;
 mod reserved;
-mod small;
 mod small_form;
+mod statements;
+mod terms;
 
-pub use small_form::read_small;
+pub use small_form::is_small;

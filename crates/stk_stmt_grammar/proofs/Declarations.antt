@@ -1,5 +1,5 @@
 -- What declarations begin with.
-use Rattle.std.proofs.Common.{◌≡◌, Bool, true, false, cond, ◌||◌, List, [], ◌∷◌, ◌++◌, Option, Some, None, refl, ap, ◌∙◌, append_assoc}
+use Rattle.std.proofs.Common.{◌≡◌, Bool, true, false, ◌||◌, List, [], ◌∷◌, ◌++◌, Option, Some, None, refl, ap, ◌∙◌, append_assoc}
 use Rattle.stk_base.specs.declared.span.Span.{Span}
 use Rattle.stk_tree.specs.declared.declaration.Storage.{Storage}
 use Rattle.stk_tree.specs.declared.declaration.Storage.TheVariants.{Typedef, Extern, Static}
@@ -13,19 +13,16 @@ use Rattle.stk_tree.specs.Syntax as s
 use Rattle.stk_tree.specs.Tokens.{base_form_tokens, declaration_tokens, declarators_tokens, storage_tokens}
 use Rattle.stk_grammar.specs.Fits.{base_form_fits}
 use Rattle.stk_grammar.specs.Reading.{begins_type, behind_right_brace, is_tag_word}
+use Rattle.stk_grammar.proofs.Complete.{cond_true}
 use Rattle.stk_grammar.proofs.Operators.{both_true}
 use Rattle.stk_decl_grammar.specs.Declarations.{declaration_fits, front_placed, front_tokens}
 use Rattle.stk_stmt_grammar.specs.Reading.{begins_local, begins_static, behind_else, is_semicolon}
 
 -- ---- what a base begins with
 
-cond_true : (b c : Bool) → b ≡ true → cond b true c ≡ true
-cond_true true c h = refl
-cond_true false c h = absurd cc
-
 base_begins : (named : Span → Bool) (f : BaseFormTree) (r : List Lexeme) → base_form_placed f ≡ true → base_form_fits named f ≡ true → begins_type named (base_form_tokens f ++ r) ≡ true
 base_begins named (s.words []) r p q = absurd cc
-base_begins named (s.words (w ∷ ws)) r p q = cond_true (is_basic w) (is_tag_word w) (both_true _ _ p).0
+base_begins named (s.words (w ∷ ws)) r p q = cond_true (is_basic w) true (is_tag_word w) (both_true _ _ p).0
 base_begins named (s.struct_ref tag) r p q = refl
 base_begins named (s.struct_def tag ms) r p q = refl
 base_begins named (s.enum_ref tag) r p q = refl

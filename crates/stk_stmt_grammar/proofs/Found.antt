@@ -4,26 +4,11 @@ use Rattle.stk_tree.specs.declared.fixed.Fixed.{Fixed}
 use Rattle.stk_tree.specs.declared.fixed.Fixed.TheVariants as fixed
 use Rattle.stk_tree.specs.declared.fixed.Lexeme.{Lexeme}
 use Rattle.stk_tree.specs.declared.fixed.Lexeme.TheVariants.{Leaf, Fixed as Token}
-use Rattle.stk_grammar.specs.Reading.{behind_left_brace, behind_right_brace, behind_semicolon}
+use Rattle.stk_grammar.specs.Reading.{behind_right_brace}
 use Rattle.stk_grammar.proofs.Operators.{some_is}
 use Rattle.stk_stmt_grammar.specs.Reading.{begins_label, behind_case, behind_default, behind_else, behind_first, behind_while, ends_section, is_end, is_semicolon, kind_at, kind_mark}
 use Rattle.stk_stmt_grammar.specs.declared.tables.Kind.{Kind}
 use Rattle.stk_stmt_grammar.specs.declared.tables.Kind.TheVariants as kind
-
-pub semicolon_is : (ts rest : List Lexeme) → behind_semicolon ts ≡ Some rest → ts ≡ Token fixed.Semicolon ∷ rest
-semicolon_is [] rest e = absurd cc
-semicolon_is (Token fixed.Semicolon ∷ ts) rest e = ap (λ x. Token fixed.Semicolon ∷ x) (some_is ts rest e)
-semicolon_is (t ∷ ts) rest e = absurd cc
-
-pub left_brace_is : (ts rest : List Lexeme) → behind_left_brace ts ≡ Some rest → ts ≡ Token fixed.LeftBrace ∷ rest
-left_brace_is [] rest e = absurd cc
-left_brace_is (Token fixed.LeftBrace ∷ ts) rest e = ap (λ x. Token fixed.LeftBrace ∷ x) (some_is ts rest e)
-left_brace_is (t ∷ ts) rest e = absurd cc
-
-pub right_brace_is : (ts rest : List Lexeme) → behind_right_brace ts ≡ Some rest → ts ≡ Token fixed.RightBrace ∷ rest
-right_brace_is [] rest e = absurd cc
-right_brace_is (Token fixed.RightBrace ∷ ts) rest e = ap (λ x. Token fixed.RightBrace ∷ x) (some_is ts rest e)
-right_brace_is (t ∷ ts) rest e = absurd cc
 
 pub else_is : (ts rest : List Lexeme) → behind_else ts ≡ Some rest → ts ≡ Token fixed.Else ∷ rest
 else_is [] rest e = absurd cc

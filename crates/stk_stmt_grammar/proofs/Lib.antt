@@ -2,10 +2,14 @@ pub mod Apart
 pub mod Complete
 pub mod Declarations
 pub mod Found
+pub mod LaidBare
+pub mod LaidFits
 pub mod Laws
 pub mod Prints
 pub mod Shorter
 pub mod Sound
 pub mod Starts
 pub mod Steps
+pub mod Turns
 pub mod Units
+pub mod LaidUnits

@@ -22,7 +22,8 @@ use Rattle.stk_stmt_grammar.specs.declared.tables.Kind.{Kind}
 use Rattle.stk_stmt_grammar.specs.declared.tables.Kind.TheVariants as kind
 use Rattle.stk_decl_grammar.specs.Reading.{declaration_at}
 use Rattle.stk_decl_grammar.proofs.Declarations.{declaration_sound}
-use Rattle.stk_stmt_grammar.proofs.Found.{brace_of_end, case_is, default_is, else_is, kind_is, kind_token, left_brace_is, right_brace_is, semicolon_is, while_is}
+use Rattle.stk_decl_grammar.proofs.Marks.{left_brace_is, right_brace_is, semicolon_is}
+use Rattle.stk_stmt_grammar.proofs.Found.{brace_of_end, case_is, default_is, else_is, kind_is, kind_token, while_is}
 use Rattle.stk_stmt_grammar.proofs.Prints.{prints, prints_all, prints_condition, prints_label, prints_labels, prints_part, prints_parts, prints_section, prints_sections, prints_start}
 
 -- a tree that was found at the front of these tokens, and what stands behind it

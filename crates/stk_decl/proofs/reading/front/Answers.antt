@@ -1,32 +1,37 @@
-use Rattle.std.proofs.Common.{drop, sym, ◌∙◌, arith}
-use Rattle.std.proofs.lemmas.Result.{err_from_is_err_and}
+use Rattle.std.proofs.Common.{◌≡◌, length, sym, arith, map}
+use Rattle.std.proofs.lemmas.List.{length-map}
+use Rattle.stk_tree.specs.Layout.{laid_declaration, unnumbered_at}
 use Rattle.stk_tree.specs.View.{view_declaration}
-use Rattle.stk_decl_grammar.specs.Declarations.{front_tokens}
-use Rattle.stk_decl_grammar.proofs.Declarations.{front_sound}
-use Rattle.stk_decl_grammar.proofs.Laws.{front_found_bare, front_of_found, no_front_of_none}
+use Rattle.stk_layout.proofs.Few.{declaration_tokens-few}
+use Rattle.stk_lexeme.specs.Lexemes.{lexeme_of, lexemes_of, spans_of}
+use Rattle.stk_decl_grammar.specs.Declarations.{IsFront}
 use Rattle.stk_expr.specs.Gives.{named}
-use Rattle.stk_expr.proofs.Rows.{none_of_fails}
-use Rattle.stk_decl.proofs.Leading.{rest_within}
+use Rattle.stk_decl.proofs.Placing.{laid_bare, laid_front_is, front_width_of}
 use Rattle.stk_decl.proofs.reading.front.Goals as goal
 
-pub returns-in_err-tree-clause-none : goal.returns-in_err-tree-clause-none
-returns-in_err-tree-clause-none c =
-    let p = err_from_is_err_and c.from_residual.result c.from_residual.ensures.1 in
-    let e = c.in_err-tree.field-0.0 in
-    λ is. no_front_of_none (named c.args.bytes.now c.args.names.now) c.args.lexemes.now c.args.at (none_of_fails e _ (sym p.2 ∙ cc (p.1, is)) (rw c.split_at.ensures.back at c.in_err-tree.ensures))
+pub place_declaration-requires-clause-numbers : goal.place_declaration-requires-clause-numbers
+place_declaration-requires-clause-numbers c =
+    let t = view_declaration c.in_ok-tree.tree in
+    let found : IsFront (named c.args.bytes.now c.args.names.now) (lexemes_of c.args.bytes.now c.args.tokens.now) c.args.at c.in_ok-tree.end t = rw (sym c.in_ok-lexemes.ensures, sym c.as_slice.ensures.value) c.in_ok-tree.ensures.found in
+    let wide = front_width_of (named c.args.bytes.now c.args.names.now) (lexemes_of c.args.bytes.now c.args.tokens.now) c.args.at c.in_ok-tree.end t found in
+    omega (arith, declaration_tokens-few t, wide, length-map c.args.tokens.now (lexeme_of c.args.bytes.now), c.requires.few)
 
-pub overflow_sub-result : goal.overflow_sub-result
-overflow_sub-result c =
-    let n = c.in_ok-tree in
-    let p = front_sound (named c.args.bytes.now c.args.names.now) 400 (drop c.args.at c.args.lexemes.now) (view_declaration n.tree) n.rest.now (rw c.split_at.ensures.back at n.ensures) in
-    omega (arith, rest_within c.args.lexemes.now (front_tokens (view_declaration n.tree)) n.rest.now c.args.at p.0.tokens)
+pub place_declaration-requires-clause-tokens : goal.place_declaration-requires-clause-tokens
+place_declaration-requires-clause-tokens c =
+    let t = view_declaration c.in_ok-tree.tree in
+    let found : IsFront (named c.args.bytes.now c.args.names.now) (lexemes_of c.args.bytes.now c.args.tokens.now) c.args.at c.in_ok-tree.end t = rw (sym c.in_ok-lexemes.ensures, sym c.as_slice.ensures.value) c.in_ok-tree.ensures.found in
+    let wide = front_width_of (named c.args.bytes.now c.args.names.now) (lexemes_of c.args.bytes.now c.args.tokens.now) c.args.at c.in_ok-tree.end t found in
+    omega (arith, wide, length-map c.args.tokens.now (lexeme_of c.args.bytes.now), c.requires.few)
 
 pub returns-clause-found : goal.returns-clause-found
 returns-clause-found c =
-    let n = c.in_ok-tree in
-    front_of_found (named c.args.bytes.now c.args.names.now) c.args.lexemes.now c.args.at (view_declaration n.tree) n.rest.now c.requires (rw c.split_at.ensures.back at n.ensures)
+    let t = view_declaration c.in_ok-tree.tree in
+    let found : IsFront (named c.args.bytes.now c.args.names.now) (lexemes_of c.args.bytes.now c.args.tokens.now) c.args.at c.in_ok-tree.end t = rw (sym c.in_ok-lexemes.ensures, sym c.as_slice.ensures.value) c.in_ok-tree.ensures.found in
+    rw c.place_declaration.ensures (laid_front_is (unnumbered_at c.as_slice-2.result.now) (named c.args.bytes.now c.args.names.now) (lexemes_of c.args.bytes.now c.args.tokens.now) c.args.at c.in_ok-tree.end t 0 c.args.at found)
 
-pub returns-clause-bare : goal.returns-clause-bare
-returns-clause-bare c =
-    let n = c.in_ok-tree in
-    front_found_bare (named c.args.bytes.now c.args.names.now) 400 _ (view_declaration n.tree) n.rest.now n.ensures
+pub returns-clause-places : goal.returns-clause-places
+returns-clause-places c =
+    let t = view_declaration c.in_ok-tree.tree in
+    let u = view_declaration c.place_declaration.new.x in
+    let e : u ≡ laid_declaration (unnumbered_at (spans_of c.args.tokens.now)) 0 c.args.at t = rw (sym c.in_ok-spans.ensures, sym c.as_slice-2.ensures.value) c.place_declaration.ensures in
+    laid_bare (unnumbered_at (spans_of c.args.tokens.now)) t u 0 c.args.at c.in_ok-tree.ensures.bare e
