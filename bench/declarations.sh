@@ -13,7 +13,7 @@ use std::alloc::Global;
 use std::io::{self, Read, Write};
 use stk_base::NoMemory;
 use stk_ctype::Names;
-use stk_decl::decl;
+use stk_decl::declaration_within;
 use stk_expr::Parse;
 use stk_lex::lex;
 use stk_lexeme::lexeme_of;
@@ -35,8 +35,8 @@ fn answer(alloc: Global, bytes: &[u8]) -> &'static str {
     let Ok(list) = lexemes(alloc, bytes) else {
         return "no memory";
     };
-    match decl(alloc, bytes, list.as_slice(), &Names::new(alloc), 0, true) {
-        Ok((_, _)) => "a tree",
+    match declaration_within(alloc, bytes, &Names::new(alloc), true, 400, list.as_slice()) {
+        Ok(_) => "a tree",
         Err(Parse::NoTree) => "no tree",
         Err(Parse::NoMemory) => "no memory",
     }

@@ -20,156 +20,137 @@ enum Form {
     Front,
 }
 
-type Row = (Form, &'static str, &'static str);
+type Row = (&'static str, &'static str);
 
-// What is asked for, each text, and the shape of the tree: the base, and each declarator in brackets. `#` stands before a
-// typedef name. An empty shape is no tree. `T` is a typedef name, and all other words aren't.
-const TABLE: [Row; 100] = [
-    // words, names and storage words
-    (Form::File, "int x;", "int<x>"),
+// Each text and the shape of its tree: the base, and each declarator in brackets. `#` stands before a typedef name. An empty
+// shape is no tree. `T` is a typedef name, and all other words aren't.
+
+// Words, names, storage words, structs and enumerations, at file scope.
+const BASES: [Row; 45] = [
+    ("int x;", "int<x>"),
+    ("long unsigned int long x;", "long unsigned int long<x>"),
+    ("T x;", "#T<x>"),
+    ("T T;", ""),
+    ("T x, T;", ""),
+    ("int T;", ""),
+    ("x;", ""),
+    ("int;", "int"),
+    ("T;", "#T"),
+    ("int x", ""),
+    ("int x,;", ""),
+    ("int x y;", ""),
+    ("typedef int *x;", "typedef int<*x>"),
+    ("extern T x;", "extern #T<x>"),
+    ("static int x, **y;", "static int<x><**y>"),
+    ("static extern int x;", ""),
+    ("int static x;", ""),
+    ("static x;", ""),
+    ("int int T;", ""),
+    ("register int x;", ""),
+    ("struct s;", "struct s"),
+    ("struct T x;", "struct T<x>"),
+    ("struct s { int a; } x, *y;", "struct s{int<a>;}<x><*y>"),
+    ("struct { int a; };", "struct {int<a>;}"),
+    ("struct s { };", ""),
+    ("struct;", ""),
+    ("struct s { int T; };", ""),
+    ("struct s { T a, *b[2]; };", "struct s{#T<a><*b[2]>;}"),
+    ("struct s { int a; T b; } const x;", ""),
     (
-        Form::File,
-        "long unsigned int long x;",
-        "long unsigned int long<x>",
-    ),
-    (Form::File, "T x;", "#T<x>"),
-    (Form::File, "T T;", ""),
-    (Form::File, "T x, T;", ""),
-    (Form::File, "int T;", ""),
-    (Form::File, "x;", ""),
-    (Form::File, "int;", "int"),
-    (Form::File, "T;", "#T"),
-    (Form::File, "int x", ""),
-    (Form::File, "int x,;", ""),
-    (Form::File, "int x y;", ""),
-    (Form::File, "typedef int *x;", "typedef int<*x>"),
-    (Form::File, "extern T x;", "extern #T<x>"),
-    (Form::File, "static int x, **y;", "static int<x><**y>"),
-    (Form::File, "static extern int x;", ""),
-    (Form::File, "int static x;", ""),
-    (Form::File, "static x;", ""),
-    (Form::File, "int int T;", ""),
-    (Form::File, "register int x;", ""),
-    // structs
-    (Form::File, "struct s;", "struct s"),
-    (Form::File, "struct T x;", "struct T<x>"),
-    (
-        Form::File,
-        "struct s { int a; } x, *y;",
-        "struct s{int<a>;}<x><*y>",
-    ),
-    (Form::File, "struct { int a; };", "struct {int<a>;}"),
-    (Form::File, "struct s { };", ""),
-    (Form::File, "struct;", ""),
-    (Form::File, "struct s { int T; };", ""),
-    (
-        Form::File,
-        "struct s { T a, *b[2]; };",
-        "struct s{#T<a><*b[2]>;}",
-    ),
-    (Form::File, "struct s { int a; T b; } const x;", ""),
-    (
-        Form::File,
         "struct s { struct { int a; } b; enum { A } c; };",
         "struct s{struct {int<a>;}<b>;enum {A}<c>;}",
     ),
-    (Form::File, "struct s { int; };", ""),
-    (Form::File, "struct s { struct { int a; }; };", ""),
-    (Form::File, "struct s { int a : 3; };", ""),
-    (Form::File, "struct s { int a = 1; };", ""),
-    (Form::File, "struct s { int a(); };", ""),
-    (Form::File, "struct s { static int a; };", ""),
-    (Form::File, "union u x;", ""),
-    // enumerations
-    (Form::File, "enum e { A, B = 2, };", "enum e{A,B=2,,}"),
-    (Form::File, "enum { A } x;", "enum {A}<x>"),
-    (Form::File, "enum e x;", "enum e<x>"),
-    (Form::File, "enum { };", ""),
-    (Form::File, "enum { , };", ""),
-    (Form::File, "enum { T };", ""),
-    (Form::File, "enum { A = 1, 2 };", ""),
-    (Form::File, "enum;", ""),
-    // parameters
-    (Form::File, "int f();", "int<f()>"),
-    (Form::File, "int f(void);", "int<f(void)>"),
-    (Form::File, "int f(void, int);", "int<f(void<>,int<>)>"),
-    (Form::File, "int f(void *);", "int<f(void<*>)>"),
-    (Form::File, "int f(int, ...);", "int<f(int<>,...)>"),
-    (Form::File, "int f(...);", ""),
-    (Form::File, "int f(int,);", ""),
-    (Form::File, "int f(int, ...;", ""),
+    ("struct s { int; };", ""),
+    ("struct s { struct { int a; }; };", ""),
+    ("struct s { int a : 3; };", ""),
+    ("struct s { int a = 1; };", ""),
+    ("struct s { int a(); };", ""),
+    ("struct s { static int a; };", ""),
+    ("union u x;", ""),
+    ("enum e { A, B = 2, };", "enum e{A,B=2,,}"),
+    ("enum { A } x;", "enum {A}<x>"),
+    ("enum e x;", "enum e<x>"),
+    ("enum { };", ""),
+    ("enum { , };", ""),
+    ("enum { T };", ""),
+    ("enum { A = 1, 2 };", ""),
+    ("enum;", ""),
+];
+
+// Parameters, array parts and initialisers, at file scope.
+const DECLARATORS: [Row; 41] = [
+    ("int f();", "int<f()>"),
+    ("int f(void);", "int<f(void)>"),
+    ("int f(void, int);", "int<f(void<>,int<>)>"),
+    ("int f(void *);", "int<f(void<*>)>"),
+    ("int f(int, ...);", "int<f(int<>,...)>"),
+    ("int f(...);", ""),
+    ("int f(int,);", ""),
+    ("int f(int, ...;", ""),
+    ("int f(int *, char [3]);", "int<f(int<*>,char<[3]>)>"),
     (
-        Form::File,
-        "int f(int *, char [3]);",
-        "int<f(int<*>,char<[3]>)>",
-    ),
-    (
-        Form::File,
         "int *f(T a, struct s *b, enum e c[]), g();",
         "int<*f(#T<a>,struct s<*b>,enum e<c[]>)><g()>",
     ),
-    (Form::File, "int f(int T);", ""),
-    (Form::File, "int f(a);", ""),
-    (Form::File, "int f(struct s { int a; } x);", ""),
-    (Form::File, "int f(int a = 1);", ""),
-    (Form::File, "int f(int g());", ""),
-    (Form::File, "int f(static int a);", ""),
-    (Form::File, "int f()[2];", ""),
-    (Form::File, "int (*f)(int);", ""),
-    (Form::File, "int (a);", ""),
-    (Form::File, "int f(a) int a; {}", ""),
-    // array parts
-    (Form::File, "int a[];", "int<a[]>"),
-    (Form::File, "int a[2][3];", "int<a[2][3]>"),
-    (Form::File, "int *a[];", "int<*a[]>"),
-    (Form::File, "int a[2;", ""),
-    (Form::File, "int a[b, c];", ""),
-    // initialisers
-    (Form::File, "int a = 1, b;", "int<a=1><b>"),
-    (Form::File, "int a[] = {1, 2,};", "int<a[]={1,2,,}>"),
-    (Form::File, "int a = {};", "int<a={}>"),
-    (Form::File, "int a = {,};", ""),
-    (Form::File, "int a = {1 2};", ""),
-    (Form::File, "int a = ;", ""),
+    ("int f(int T);", ""),
+    ("int f(a);", ""),
+    ("int f(struct s { int a; } x);", ""),
+    ("int f(int a = 1);", ""),
+    ("int f(int g());", ""),
+    ("int f(static int a);", ""),
+    ("int f()[2];", ""),
+    ("int (*f)(int);", ""),
+    ("int (a);", ""),
+    ("int f(a) int a; {}", ""),
+    ("int a[];", "int<a[]>"),
+    ("int a[2][3];", "int<a[2][3]>"),
+    ("int *a[];", "int<*a[]>"),
+    ("int a[2;", ""),
+    ("int a[b, c];", ""),
+    ("int a = 1, b;", "int<a=1><b>"),
+    ("int a[] = {1, 2,};", "int<a[]={1,2,,}>"),
+    ("int a = {};", "int<a={}>"),
+    ("int a = {,};", ""),
+    ("int a = {1 2};", ""),
+    ("int a = ;", ""),
+    ("int a = {{1}, {{2}, 3}};", "int<a={{1},{{2},3}}>"),
     (
-        Form::File,
-        "int a = {{1}, {{2}, 3}};",
-        "int<a={{1},{{2},3}}>",
-    ),
-    (
-        Form::File,
         "struct s a = {.a = 1, [2].b[3] = {4}};",
         "struct s<a={.a=1,[2].b[3]={4}}>",
     ),
-    (Form::File, "struct s a = {.T = 1};", "struct s<a={.T=1}>"),
-    (Form::File, "struct s a = {.a 1};", ""),
-    (Form::File, "struct s a = {= 1};", ""),
-    (Form::File, "int a = {1;};", ""),
-    (Form::File, "int f() = 1;", "int<f()=1>"),
-    // other declarations
-    (Form::File, "_Static_assert(1, \"x\");", ""),
-    (Form::File, "_Alignas(8) int x;", ""),
-    (Form::File, "", ""),
-    // in a block
-    (Form::Local, "int x = 1, *y;", "int<x=1><*y>"),
-    (Form::Local, "static T x[2];", "static #T<x[2]>"),
-    (Form::Local, "struct s x;", "struct s<x>"),
-    (Form::Local, "extern int x;", ""),
-    (Form::Local, "typedef int x;", ""),
-    (Form::Local, "struct s { int a; } x;", ""),
-    (Form::Local, "int f();", ""),
-    (Form::Local, "int;", ""),
-    // what stands before the body of a function
+    ("struct s a = {.T = 1};", "struct s<a={.T=1}>"),
+    ("struct s a = {.a 1};", ""),
+    ("struct s a = {= 1};", ""),
+    ("int a = {1;};", ""),
+    ("int f() = 1;", "int<f()=1>"),
+    ("_Static_assert(1, \"x\");", ""),
+    ("_Alignas(8) int x;", ""),
+    ("", ""),
+];
+
+// In a block.
+const LOCAL: [Row; 8] = [
+    ("int x = 1, *y;", "int<x=1><*y>"),
+    ("static T x[2];", "static #T<x[2]>"),
+    ("struct s x;", "struct s<x>"),
+    ("extern int x;", ""),
+    ("typedef int x;", ""),
+    ("struct s { int a; } x;", ""),
+    ("int f();", ""),
+    ("int;", ""),
+];
+
+// What stands before the body of a function.
+const FRONTS: [Row; 6] = [
     (
-        Form::Front,
         "static int *f(int a, T b) {",
         "static int<*f(int<a>,#T<b>)>",
     ),
-    (Form::Front, "int f() {", "int<f()>"),
-    (Form::Front, "int f {", ""),
-    (Form::Front, "int f();", ""),
-    (Form::Front, "int x = 1, f() {", ""),
-    (Form::Front, "struct s { int a; } f() {", ""),
+    ("int f() {", "int<f()>"),
+    ("int f {", ""),
+    ("int f();", ""),
+    ("int x = 1, f() {", ""),
+    ("struct s { int a; } f() {", ""),
 ];
 
 fn add(out: &mut Vec<u8>, text: &[u8]) -> Result<(), NoMemory> {
@@ -247,8 +228,36 @@ fn add_initial(bytes: &[u8], init: &Init, room: u32, out: &mut Vec<u8>) -> Resul
     }
 }
 
+/// A base without braces.
+fn add_bare_base(bytes: &[u8], form: &BaseForm, out: &mut Vec<u8>) -> Result<(), NoMemory> {
+    match form {
+        BaseForm::Words(words) => {
+            let mut between: &[u8] = b"";
+            for word in words.as_slice() {
+                add(out, between)?;
+                add(out, spelling(*word))?;
+                between = b" ";
+            }
+            Ok(())
+        }
+        BaseForm::StructRef(tag) => {
+            add(out, b"struct ")?;
+            add(out, tag.text(bytes))
+        }
+        BaseForm::EnumRef(tag) => {
+            add(out, b"enum ")?;
+            add(out, tag.text(bytes))
+        }
+        BaseForm::Named(at) => {
+            add(out, b"#")?;
+            add(out, at.text(bytes))
+        }
+        _ => add(out, b"!"),
+    }
+}
+
 fn add_parameter(bytes: &[u8], param: &Param, out: &mut Vec<u8>) -> Result<(), NoMemory> {
-    add_base(bytes, &param.base.form, 0, out)?;
+    add_bare_base(bytes, &param.base.form, out)?;
     add(out, b"<")?;
     add_name(bytes, &param.declr, out)?;
     if let Tail::Arrays(list) = &param.declr.tail {
@@ -321,27 +330,6 @@ fn add_member(bytes: &[u8], member: &Member, room: u32, out: &mut Vec<u8>) -> Re
 #[cycle(base)]
 fn add_base(bytes: &[u8], form: &BaseForm, room: u32, out: &mut Vec<u8>) -> Result<(), NoMemory> {
     match form {
-        BaseForm::Words(words) => {
-            let mut between: &[u8] = b"";
-            for word in words.as_slice() {
-                add(out, between)?;
-                add(out, spelling(*word))?;
-                between = b" ";
-            }
-            Ok(())
-        }
-        BaseForm::StructRef(tag) => {
-            add(out, b"struct ")?;
-            add(out, tag.text(bytes))
-        }
-        BaseForm::EnumRef(tag) => {
-            add(out, b"enum ")?;
-            add(out, tag.text(bytes))
-        }
-        BaseForm::Named(at) => {
-            add(out, b"#")?;
-            add(out, at.text(bytes))
-        }
         BaseForm::StructDef(tag, list) => {
             add(out, b"struct ")?;
             add_optional(bytes, *tag, out)?;
@@ -364,6 +352,7 @@ fn add_base(bytes: &[u8], form: &BaseForm, room: u32, out: &mut Vec<u8>) -> Resu
             }
             add(out, if *comma { b",,}" } else { b"}" })
         }
+        _ => add_bare_base(bytes, form, out),
     }
 }
 
@@ -451,9 +440,33 @@ fn is_whole(alloc: Global, form: Form, text: &str, wanted: &str) -> Result<bool,
 }
 
 #[test]
-fn reads_the_table(rt: HostRuntime) -> Result<(), Fail> {
-    for (form, text, wanted) in TABLE {
-        assert!(rt; is_whole(rt.alloc(), form, text, wanted)?, "{text}");
+fn reads_bases(rt: HostRuntime) -> Result<(), Fail> {
+    for (text, wanted) in BASES {
+        assert!(rt; is_whole(rt.alloc(), Form::File, text, wanted)?, "{text}");
+    }
+    Ok(())
+}
+
+#[test]
+fn reads_declarators(rt: HostRuntime) -> Result<(), Fail> {
+    for (text, wanted) in DECLARATORS {
+        assert!(rt; is_whole(rt.alloc(), Form::File, text, wanted)?, "{text}");
+    }
+    Ok(())
+}
+
+#[test]
+fn reads_local_declarations(rt: HostRuntime) -> Result<(), Fail> {
+    for (text, wanted) in LOCAL {
+        assert!(rt; is_whole(rt.alloc(), Form::Local, text, wanted)?, "{text}");
+    }
+    Ok(())
+}
+
+#[test]
+fn reads_fronts(rt: HostRuntime) -> Result<(), Fail> {
+    for (text, wanted) in FRONTS {
+        assert!(rt; is_whole(rt.alloc(), Form::Front, text, wanted)?, "{text}");
     }
     Ok(())
 }
