@@ -1,5 +1,5 @@
 -- Each test of the small form is true exactly where what it tests holds.
-use Rattle.std.proofs.Common.{◌≡◌, ℕ, zero, suc, Bool, true, false, List, [], ◌∷◌, ◌++◌, Option, Some, None, refl, arith}
+use Rattle.std.proofs.Common.{◌≡◌, ℕ, zero, suc, Bool, true, false, List, [], ◌∷◌, ◌++◌, Some, None, refl, arith}
 use Rattle.std.specs.Prelude.{◌&&◌, not, nat_eq}
 use Rattle.std.proofs.lemmas.Bool.{eqb-true}
 use Rattle.stk_tree.specs.declared.node.Node.{Node}
@@ -259,16 +259,16 @@ function_found_in : (bytes : List ℕ) (b : BaseTree) (d : DeclrTree) (x : StmtT
     → IsSmallFunction bytes (s.function None b d x)
 unfolding has_parts
 function_found_in bytes b (s.declarator n stars None t i) x base h ps k q =
-    let outer : List (List ℕ) = names_of_parameters bytes (parameters_of (s.declarator n stars None t i)) in
-    let names : List (List ℕ) = outer ++ names_of_locals bytes (parts_of x) in
-    let r = three (are_names names) false (are_parts bytes (among outer) (among names) (parts_of x)) q in
+    let parameters : List (List ℕ) = names_of_parameters bytes (parameters_of (s.declarator n stars None t i)) in
+    let names : List (List ℕ) = parameters ++ names_of_locals bytes (parts_of x) in
+    let r = three (are_names names) false (are_parts bytes (among parameters) (among names) (parts_of x)) q in
     absurd (apart r.1)
 function_found_in bytes b (s.declarator n zero (Some at) (s.with_parameters (s.then_parameter p ps) false) s.no_initialiser) (s.statement m (s.block parts)) base h are k q =
-    let outer : List (List ℕ) = names_of_parameters bytes (s.then_parameter p ps) in
-    let names : List (List ℕ) = outer ++ names_of_locals bytes parts in
-    let r = three (are_names names) (not (is_reserved (text_of bytes at)) && not (is_among (text_of bytes at) names)) (are_parts bytes (among outer) (among names) parts) q in
+    let parameters : List (List ℕ) = names_of_parameters bytes (s.then_parameter p ps) in
+    let names : List (List ℕ) = parameters ++ names_of_locals bytes parts in
+    let r = three (are_names names) (not (is_reserved (text_of bytes at)) && not (is_among (text_of bytes at) names)) (are_parts bytes (among parameters) (among names) parts) q in
     let new = both (not (is_reserved (text_of bytes at))) (not (is_among (text_of bytes at) names)) r.1 in
-    (base, are, parts_found bytes outer names parts r.2, (not_true (is_reserved (text_of bytes at)) new.0, not_true (is_among (text_of bytes at) names) new.1, names_found names r.0))
+    (base, are, parts_found bytes parameters names parts r.2, (not_true (is_reserved (text_of bytes at)) new.0, not_true (is_among (text_of bytes at) names) new.1, names_found names r.0))
 function_found_in bytes b (s.declarator n (suc stars) (Some at) t i) x base h ps k q = absurd (no_stars stars (is_parameter_tail t) (not (has_initialiser (s.declarator n (suc stars) (Some at) t i))) h)
 function_found_in bytes b (s.declarator n zero (Some at) (s.with_parameters (s.then_parameter p ps) false) s.no_initialiser) x base h are k q = absurd (apart k)
 function_found_in bytes b d x base h ps k q = absurd (apart h)
@@ -287,9 +287,9 @@ function_found bytes (s.function (Some word) b d x) h = absurd (apart h)
 function_tested : (bytes : List ℕ) (f : FunctionTree) → IsSmallFunction bytes f → is_small_function bytes f ≡ true
 unfolding has_parts
 function_tested bytes (s.function None b (s.declarator n zero (Some at) (s.with_parameters (s.then_parameter p ps) false) s.no_initialiser) (s.statement m (s.block parts))) q =
-    let outer : List (List ℕ) = names_of_parameters bytes (s.then_parameter p ps) in
-    let names : List (List ℕ) = outer ++ names_of_locals bytes parts in
-    rw (int_base_tested b q.0, parameters_tested (s.then_parameter p ps) q.1, parts_tested bytes outer names parts q.2, q.3.0, q.3.1, names_tested names q.3.2) refl
+    let parameters : List (List ℕ) = names_of_parameters bytes (s.then_parameter p ps) in
+    let names : List (List ℕ) = parameters ++ names_of_locals bytes parts in
+    rw (int_base_tested b q.0, parameters_tested (s.then_parameter p ps) q.1, parts_tested bytes parameters names parts q.2, q.3.0, q.3.1, names_tested names q.3.2) refl
 function_tested bytes f q = absurd q
 
 -- the test of a unit is true exactly where the unit is small

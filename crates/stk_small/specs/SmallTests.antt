@@ -209,9 +209,9 @@ parts_fit bytes has_parameter has are_apart d ps = are_apart && is_new_name byte
 -- the parts are those of a function of the small form with this declarator, and its names all differ
 unfoldable pub has_parts : List ℕ → DeclrTree → PartTrees → Bool
 has_parts bytes d ps =
-    let outer : List (List ℕ) = names_of_parameters bytes (parameters_of d) in
-    let names : List (List ℕ) = outer ++ names_of_locals bytes ps in
-    parts_fit bytes (λ text. is_among text outer) (λ text. is_among text names) (are_names names) d ps
+    let parameters : List (List ℕ) = names_of_parameters bytes (parameters_of d) in
+    let names : List (List ℕ) = parameters ++ names_of_locals bytes ps in
+    parts_fit bytes (λ text. is_among text parameters) (λ text. is_among text names) (are_names names) d ps
 
 -- what needs no names: `int`, the declarator, the parameters, the block
 abbrev pub has_shape : FunctionTree → Bool

@@ -111,7 +111,7 @@ fn has_shape(function: &Function) -> bool
         && is_block(&function.body)
 }
 
-/// Whether the name of a function and its parts fit its sets of names, which differ and are no reserved words.
+/// Whether the name and the parts of a function fit these sets of its parameters' names and of all names inside it.
 fn parts_fit<'a>(
     bytes: &'a [u8],
     parameters: &BTreeSet<&'a [u8], Global>,
@@ -131,10 +131,10 @@ fn has_parts(alloc: Global, bytes: &[u8], declr: &Declr, list: &[Part]) -> Resul
 {
     let mut spans = Vec::new(alloc);
     add_parameters(parameters_of(declr), &mut spans)?;
-    let (outer, _) = name_set(alloc, bytes, spans.as_slice())?;
+    let (parameters, _) = name_set(alloc, bytes, spans.as_slice())?;
     add_locals(list, &mut spans)?;
     let (names, are_apart) = name_set(alloc, bytes, spans.as_slice())?;
-    Ok(parts_fit(bytes, &outer, &names, are_apart, declr, list))
+    Ok(parts_fit(bytes, &parameters, &names, are_apart, declr, list))
 }
 
 fn is_small_function(alloc: Global, bytes: &[u8], function: &Function) -> Result<bool, NoMemory>
