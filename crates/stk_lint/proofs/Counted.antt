@@ -1,16 +1,14 @@
 -- A unit counts for no more than its tokens.
-use Rattle.std.proofs.Common.{◌≡◌, ℕ, zero, suc, ◌+◌, ◌<◌, ◌≤◌, List, [], ◌∷◌, length, Some, None, false, refl, sym, ap, ◌∙◌, length-append, arith}
-use Rattle.stk_base.specs.declared.span.Span.{Span}
+use Rattle.std.proofs.Common.{◌≡◌, ℕ, zero, suc, ◌<◌, ◌≤◌, List, [], ◌∷◌, length, Some, None, false, refl, ap, length-append, arith}
 use Rattle.stk_lex.specs.declared.token.Token.{Token}
-use Rattle.stk_tree.specs.declared.node.Node.{Node}
 use Rattle.stk_tree.specs.Syntax.{StmtTree, PartTree, PartTrees, FunctionTree, UnitTree}
 use Rattle.stk_tree.specs.Syntax as s
-use Rattle.stk_tree.specs.Tokens.{statement_tokens, part_tokens, parts_tokens, function_tokens, unit_tokens}
+use Rattle.stk_tree.specs.Tokens.{statement_tokens, part_tokens, parts_tokens, function_tokens}
 use Rattle.stk_lexeme.specs.Lexemes.{lexemes_of}
 use Rattle.stk_meaning.specs.declared.finding.Finding.{Finding}
 use Rattle.stk_meaning.specs.declared.finding.Finding.TheVariants.{Clear, Unstable, Undecided}
-use Rattle.stk_meaning.specs.Parts.{statement_candidates, part_candidates, parts_candidates, candidates, arm}
-use Rattle.stk_small.specs.SmallForm.{IsSmallFunction, IsSmall}
+use Rattle.stk_meaning.specs.Parts.{statement_candidates, part_candidates, parts_candidates, candidates}
+use Rattle.stk_small.specs.SmallForm.{IsSmallFunction}
 use Rattle.stk_lint.specs.declared.records.Counts.{Counts}
 use Rattle.stk_lint.specs.LawfulText.{Prints, unstable_count, IsUnitText, accepted, judged, skipped}
 use Rattle.stk_lint.specs.Judged.{AreAtMost}

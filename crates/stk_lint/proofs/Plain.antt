@@ -1,8 +1,7 @@
 -- Functions of the small form are of the plain form that runs are defined for; and what is written of a unit that was read.
-use Rattle.std.proofs.Common.{◌≡◌, ℕ, zero, ◌<◌, ◌≤◌, Bool, true, false, List, [], ◌∷◌, Some, None, refl, sym, subst, length, get_or, arith}
+use Rattle.std.proofs.Common.{◌≡◌, ℕ, zero, ◌<◌, ◌≤◌, Bool, true, false, List, [], ◌∷◌, Some, None, refl, subst, length, get_or, arith}
 use Rattle.std.specs.Prelude.{◌&&◌, nat_le}
 use Rattle.std.proofs.lemmas.Bool.{leb-true}
-use Rattle.stk_base.specs.declared.span.Span.{Span}
 use Rattle.stk_base.specs.Text.{decimal}
 use Rattle.stk_tree.specs.declared.expression.BinaryOp.{BinaryOp}
 use Rattle.stk_tree.specs.declared.expression.BinaryOp.TheVariants.{Add, Mul, Div, Lt, Gt, Le, Ge, Eq, Ne}
@@ -20,7 +19,7 @@ use Rattle.stk_lint.specs.declared.records.Cause.{Cause}
 use Rattle.stk_lint.specs.declared.records.Cause.TheVariants.{OtherForm}
 use Rattle.stk_small.specs.SmallForm.{IsOperand, IsTermOperator, IsComparison, IsTerm, IsSum, IsCondition, IsReturn, IsTest, IsLocal, AreTests, AreParts, IsSmallFunction, IsSmall, is_small_number, is_decimal}
 use Rattle.stk_meaning.specs.Values.{compares, is_arithmetic}
-use Rattle.stk_meaning.specs.Forms.{IsPlainTerm, IsPlainTest, IsPlainDeclarator, ArePlainDeclarators, IsPlainLocal, IsPlainStatement, IsPlainPart, ArePlainParts, IsPlain}
+use Rattle.stk_meaning.specs.Forms.{IsPlainTerm, IsPlainTest, IsPlainLocal, IsPlainStatement, ArePlainParts, IsPlain}
 
 second_holds : (a b : Bool) → a && b ≡ true → b ≡ true
 second_holds true b e = e

@@ -57,7 +57,7 @@ text_of_tree bytes t ts (s.declares n d) h = record { text = []; counts = nothin
 text_of_tree bytes t ts (s.defines n f) h =
     elim (small_or_not bytes (s.defines n f)) [
       | inl small ↦ (let xs = findings_of bytes f (candidates f) in
-        record { text = findings_text bytes f (candidates f) xs.0; counts = _; is = judged xs.0 (record { node = n; is = h.is; laid_out = h.laid_out; small = small }) xs.1 })
+          record { text = findings_text bytes f (candidates f) xs.0; counts = _; is = judged xs.0 (record { node = n; is = h.is; laid_out = h.laid_out; small = small }) xs.1 })
       | inr other ↦ record { text = skip_text bytes t.span.from OtherForm; counts = one_skipped; is = skipped OtherForm (read_other bytes (t ∷ ts) n f h other) }
     ]
 

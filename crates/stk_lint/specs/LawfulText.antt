@@ -1,6 +1,6 @@
 -- Which texts and statuses are lawful for the bytes of an input. The input is cut into its units; a tree stands for a unit
 -- by printing its tokens, so nothing here speaks of how a unit is read.
-use Rattle.std.specs.Prelude.{◌≡◌, ℕ, ◌+◌, ◌-◌, Bool, true, false, List, [], ◌∷◌, ◌++◌, map, length, take, drop, zero, suc}
+use Rattle.std.specs.Prelude.{◌≡◌, ℕ, ◌+◌, ◌-◌, Bool, true, false, List, [], ◌∷◌, ◌++◌, length, take, drop, zero, suc}
 use Rattle.stk_base.specs.declared.span.Span.{Span}
 use Rattle.stk_base.specs.declared.status.Status.{Status}
 use Rattle.stk_base.specs.declared.status.Status.TheVariants.{Stable, Found}

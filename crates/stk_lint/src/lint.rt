@@ -13,8 +13,8 @@ use crate::records::{Counts, add_summary};
 use crate::report::unit_text;
 use std::alloc::Global;
 use stk_base::{Failed, List, NoMemory, ReadAll, Sink, Source, Status, read_all, write_all};
-use stk_units::{Piece, Skimmed, cut, skim};
 use stk_lex::{Places, Token, lex};
+use stk_units::{Piece, Skimmed, cut, skim};
 
 /// The most bytes that an input may have.
 pub const LIMIT: u64 = 16_777_216;

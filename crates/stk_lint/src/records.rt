@@ -381,12 +381,7 @@ fn skip_words(cause: Cause) -> &'static [u8]
 }
 
 /// Adds the line of a unit that is skipped for a cause; its first token begins at this byte.
-pub fn add_skip(
-    text: &mut Vec<u8>,
-    input: &Places,
-    at: u32,
-    cause: Cause,
-) -> Result<(), NoMemory>
+pub fn add_skip(text: &mut Vec<u8>, input: &Places, at: u32, cause: Cause) -> Result<(), NoMemory>
     ensures { IfOk result (λ _. text.new.items ≡ text.old.items ++ skip_text input.now at cause) }
 {
     add_place(text, input, at)?;

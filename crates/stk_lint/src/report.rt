@@ -14,8 +14,8 @@ use crate::records::{Cause, Counts, add_finding, add_skip};
 use std::alloc::Global;
 use stk_base::{Boxed, NoMemory};
 use stk_ctype::Names;
-use stk_lex::{Places, Token};
 use stk_expr::Parse;
+use stk_lex::{Places, Token};
 use stk_meaning::{Candidate, Condition, Finding, candidates_of, conditions_of};
 use stk_small::is_small;
 use stk_stmt::unit;
@@ -153,7 +153,8 @@ fn text_of_tree(
             let text = judged(alloc, input, function)?;
             Ok(text)
         }
-        Unit::Empty(_) | Unit::Declares(_, _) => Ok(accepted(alloc)),
+        Unit::Empty(_) => Ok(accepted(alloc)),
+        Unit::Declares(_, _) => Ok(accepted(alloc)),
     }
 }
 

@@ -1,4 +1,5 @@
-use Rattle.std.proofs.Common.{refl}
+use Rattle.std.proofs.Common.{◌≡◌, Err, ap}
+use Rattle.stk_expr.specs.declared.parse.Parse.TheVariants as parse
 use Rattle.stk_lint.proofs.report.unit_of.Goals as goal
 
 pub returns-in-Ok-clause-found : goal.returns-in-Ok-clause-found
@@ -8,4 +9,6 @@ returns-in-Ok-clause-found c = record {
 }
 
 pub returns-in-Err-NoTree-clause-none : goal.returns-in-Err-NoTree-clause-none
-returns-in-Err-NoTree-clause-none c = λ _. rw c.new-names.ensures at (c.in-Err-NoTree.ensures.none c.in-Err-NoTree.field-0-is)
+returns-in-Err-NoTree-clause-none c =
+    let same : c.in-Err-NoTree.field-0 ≡ parse.NoTree = c.in-Err-NoTree.field-0-is in
+    λ _. rw c.new-names.ensures at (c.in-Err-NoTree.ensures.none (ap Err same))
