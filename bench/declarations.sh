@@ -2,7 +2,8 @@
 # Times the reader of declarations on large texts. It builds a small program over stk_decl in a folder of its own, outside the
 # repository:
 #   bash bench/declarations.sh
-# For each text it prints the seconds of the whole run, lexing included, and whether a declaration was read.
+# For each text it prints the processor seconds of the whole run, those of the same text behind a `+`, which begins no
+# declaration, and whether a declaration was read.
 set -eu
 . "$(dirname "$0")/program.sh"
 build_program declbench stk_base stk_lex stk_ctype stk_tree stk_lexeme stk_layout stk_grammar stk_expr stk_decl_grammar stk_decl <<'PROGRAM'
@@ -50,11 +51,17 @@ fn main(rt: HostRuntime) -> io::Result<()> {
     println!(rt; "{said}")
 }
 PROGRAM
+seconds() { # the processor time of the program on the file $1
+    local TIMEFORMAT=%U
+    { time "$program" < "$1" > result; } 2>&1
+}
 run() { # the name $1 of a text that begins with $2, goes on with $3 again and again, and ends with $4
-    local TIMEFORMAT=%R took
-    { printf '%s' "$2"; many "$3" $(((size - ${#2} - ${#4}) / ${#3} * ${#3})); printf '%s' "$4"; } > text
-    took=$( { time "$program" < text > result; } 2>&1 )
-    echo "$1: $took s, $(cat result)"
+    local took lexing
+    { printf '%s' "$2"; many "$3" $(((size - ${#2} - ${#4} - 2) / ${#3} * ${#3})); printf '%s' "$4"; } > text
+    { printf '+ '; cat text; } > stray
+    lexing=$(seconds stray)
+    took=$(seconds text)
+    echo "$1: $took s, $lexing s of it lexing, $(cat result)"
 }
 run '16 MiB of { in an initialiser' 'int a = ' '{' ''
 run '16 MiB of empty items' 'int a[] = {' '{},' '};'
@@ -67,4 +74,4 @@ run '16 MiB of enumerations' '' 'enum {A,' ''
 run '16 MiB of enumerators' 'enum {' 'A,' '};'
 run '16 MiB of declarators' 'int a' ',a=1' ';'
 run '16 MiB of parameters' 'int a(int' ',int a' ');'
-run '16 MiB of one declaration each' '' 'int a=1,' ';'
+run '16 MiB of int a=1,' '' 'int a=1,' ';'
