@@ -1,0 +1,5 @@
+pub mod Declared
+pub mod Rows
+pub mod UnitForms
+pub mod Placing
+pub mod DeclarationHeads

@@ -1,0 +1,4 @@
+pub mod Loops
+pub mod Sections
+pub mod Units
+pub mod Heads

@@ -1,0 +1,179 @@
+//! Nodes of trees. Their records are all alike: a tree is laid out as a whole, once its unit is read.
+//!
+//! A statement is put in a box as soon as it is made, since it isn't dropped where it stands.
+
+ghost use Rattle.std.specs.Prelude.{◌≡◌, IfOk, map};
+ghost use Rattle.stk_tree.specs.Syntax as s;
+ghost use Rattle.stk_tree.specs.View.{given_expression, labels, parts, sections, statements, view_base, view_declaration, view_declarator, view_expression, view_label, view_part, view_section, view_start, view_statement, view_statement_form, view_unit};
+ghost use Rattle.stk_grammar.specs.Bare.{no_node};
+ghost use Rattle.stk_stmt_grammar.specs.Reading.{made_statement};
+
+use std::alloc::{AllocError, Global};
+use stk_base::{Boxed, List, Span};
+use stk_tree::{
+    Base, Declaration, Declr, Expr, Function, Label, Node, Part, Section, Start, Stmt, StmtForm,
+    Storage, Unit,
+};
+
+/// The record of a node that isn't laid out yet.
+pub fn no_node() -> Node
+    ensures { result ≡ no_node }
+{
+    Node {
+        number: 0,
+        span: Span { from: 0, to: 0 },
+    }
+}
+
+/// A statement of this form.
+pub fn made(alloc: Global, form: StmtForm) -> Result<Boxed<Stmt>, AllocError>
+    ensures { IfOk result (λ x. view_statement x ≡ made_statement (view_statement_form form)) }
+{
+    Boxed::new(
+        alloc,
+        Stmt {
+            node: no_node(),
+            form,
+        },
+    )
+}
+
+/// `{ parts }`
+pub fn block(list: List<Part>) -> StmtForm
+    ensures { view_statement_form result ≡ s.block (parts (map view_part list)) }
+{
+    StmtForm::Block(list)
+}
+
+/// `[e] ;`
+pub fn plain(value: Option<Expr>) -> StmtForm
+    ensures { view_statement_form result ≡ s.expression_statement (given_expression value) }
+{
+    StmtForm::Plain(value)
+}
+
+/// An `if` without `else`.
+pub fn lone_if(test: Expr, then: Boxed<Stmt>) -> StmtForm
+    ensures { view_statement_form result ≡ s.if_statement (view_expression test) (view_statement then) s.no_statement }
+{
+    StmtForm::If(test, then, None)
+}
+
+/// An `if` with an `else`.
+pub fn if_else(test: Expr, then: Boxed<Stmt>, other: Boxed<Stmt>) -> StmtForm
+    ensures { view_statement_form result ≡ s.if_statement (view_expression test) (view_statement then) (s.some_statement (view_statement other)) }
+{
+    StmtForm::If(test, then, Some(other))
+}
+
+/// `switch (e) { sections }`
+pub fn switch(value: Expr, list: List<Section>) -> StmtForm
+    ensures { view_statement_form result ≡ s.switch_statement (view_expression value) (sections (map view_section list)) }
+{
+    StmtForm::Switch(value, list)
+}
+
+/// `while (e) statement`
+pub fn while_loop(test: Expr, body: Boxed<Stmt>) -> StmtForm
+    ensures { view_statement_form result ≡ s.while_statement (view_expression test) (view_statement body) }
+{
+    StmtForm::While(test, body)
+}
+
+/// `do statement while (e) ;`
+pub fn do_loop(body: Boxed<Stmt>, test: Expr) -> StmtForm
+    ensures { view_statement_form result ≡ s.do_statement (view_statement body) (view_expression test) }
+{
+    StmtForm::Do(body, test)
+}
+
+/// `for (start [e] ; [e]) statement`
+pub fn for_loop(start: Start, test: Option<Expr>, step: Option<Expr>, body: Boxed<Stmt>) -> StmtForm
+    ensures { view_statement_form result ≡ s.for_statement (view_start start) (given_expression test) (given_expression step) (view_statement body) }
+{
+    StmtForm::For(start, test, step, body)
+}
+
+/// `break ;`
+pub fn break_form() -> StmtForm
+    ensures { view_statement_form result ≡ s.break_statement }
+{
+    StmtForm::Break
+}
+
+/// `continue ;`
+pub fn continue_form() -> StmtForm
+    ensures { view_statement_form result ≡ s.continue_statement }
+{
+    StmtForm::Continue
+}
+
+/// `return [e] ;`
+pub fn return_form(value: Option<Expr>) -> StmtForm
+    ensures { view_statement_form result ≡ s.return_statement (given_expression value) }
+{
+    StmtForm::Return(value)
+}
+
+/// A declaration as a part of a block.
+pub fn local(declaration: Declaration) -> Part
+    ensures { view_part result ≡ s.local (view_declaration declaration) }
+{
+    Part::Local(declaration)
+}
+
+/// A statement as a part of a block.
+pub fn run(statement: Boxed<Stmt>) -> Part
+    ensures { view_part result ≡ s.run (view_statement statement) }
+{
+    Part::Run(statement.into_inner())
+}
+
+/// Labels, and the statements behind them.
+pub fn section(marks: List<Label>, body: List<Stmt>) -> Section
+    ensures { view_section result ≡ s.section no_node (labels (map view_label marks)) (statements (map view_statement body)) }
+{
+    Section {
+        node: no_node(),
+        labels: marks,
+        body,
+    }
+}
+
+/// A lone `;`.
+pub fn empty_unit(alloc: Global) -> Result<Boxed<Unit>, AllocError>
+    ensures { IfOk result (λ x. view_unit x ≡ s.empty_unit no_node) }
+{
+    Boxed::new(alloc, Unit::Empty(no_node()))
+}
+
+/// A declaration as a unit.
+pub fn declares(alloc: Global, declaration: Declaration) -> Result<Boxed<Unit>, AllocError>
+    ensures { IfOk result (λ x. view_unit x ≡ s.declares no_node (view_declaration declaration)) }
+{
+    Boxed::new(alloc, Unit::Declares(no_node(), declaration))
+}
+
+/// A function as a unit.
+pub fn defines(
+    alloc: Global,
+    storage: Option<Storage>,
+    base: Base,
+    declr: Declr,
+    body: Boxed<Stmt>,
+) -> Result<Boxed<Unit>, AllocError>
+    ensures { IfOk result (λ x. view_unit x ≡ s.defines no_node (s.function storage (view_base base) (view_declarator declr) (view_statement body))) }
+{
+    Boxed::new(
+        alloc,
+        Unit::Defines(
+            no_node(),
+            Function {
+                storage,
+                base,
+                declr,
+                body: body.into_inner(),
+            },
+        ),
+    )
+}
