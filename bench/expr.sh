@@ -5,35 +5,26 @@
 # For each text it prints the seconds of the whole run, lexing included, and whether an expression was read.
 set -eu
 . "$(dirname "$0")/program.sh"
-build_program exprbench stk_base stk_lex stk_ctype stk_tree stk_lexeme stk_grammar stk_expr <<'END'
+build_program exprbench stk_base stk_lex stk_ctype stk_tree stk_lexeme stk_layout stk_grammar stk_expr <<'END'
 //! Reads the input as an expression.
 #![tactic(auto)]
 
 use std::alloc::Global;
 use std::io::{self, Read, Write};
-use stk_base::NoMemory;
 use stk_ctype::Names;
 use stk_expr::{Parse, expr};
 use stk_lex::lex;
-use stk_lexeme::lexeme_of;
-use stk_tree::Lexeme;
-
-fn lexemes(alloc: Global, bytes: &[u8]) -> Result<Vec<Lexeme>, NoMemory> {
-    let mut list = Vec::new(alloc);
-    if bytes.len() > 16_777_216 {
-        return Ok(list);
-    }
-    let tokens = lex(alloc, bytes)?;
-    for token in &tokens {
-        list.push(lexeme_of(bytes, *token))?;
-    }
-    Ok(list)
-}
 
 fn answer(alloc: Global, bytes: &[u8]) -> &'static str {
-    let Ok(list) = lexemes(alloc, bytes) else {
+    if bytes.len() > 16_777_216 {
+        return "too large";
+    }
+    let Ok(list) = lex(alloc, bytes) else {
         return "no memory";
     };
+    if list.len() > 16_777_216 {
+        return "too large";
+    }
     match expr(alloc, bytes, list.as_slice(), &Names::new(alloc), 0, 1) {
         Ok((_, _)) => "a tree",
         Err(Parse::NoTree) => "no tree",
