@@ -83,7 +83,7 @@ fn each_call_of_the_output_may_fail(rt: HostRuntime) -> Result<(), Fail> {
 fn any_bytes_are_answered(rt: HostRuntime) -> Result<(), Fail> {
     let alloc = rt.alloc();
     let skipped =
-        b"-:1:1: skipped: other form\n0 functions, 0 candidates, 0 unstable, 0 undecided, 1 skipped\n";
+        b"-:1:1: skipped: no tree\n0 functions, 0 candidates, 0 unstable, 0 undecided, 1 skipped\n";
     for byte in [0u8, 127, 128, 195, 255] {
         let input = [byte, b' ', byte];
         check(
