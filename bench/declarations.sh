@@ -6,34 +6,27 @@
 # declaration, and whether a declaration was read.
 set -eu
 . "$(dirname "$0")/program.sh"
+ending=$said
 build_program declbench stk_base stk_lex stk_ctype stk_tree stk_lexeme stk_layout stk_grammar stk_expr stk_decl_grammar stk_decl <<'PROGRAM'
 //! Reads the input as a declaration at file scope.
 #![tactic(auto)]
 
 use std::alloc::Global;
 use std::io::{self, Read, Write};
-use stk_base::NoMemory;
 use stk_ctype::Names;
 use stk_decl::declaration_within;
 use stk_expr::Parse;
 use stk_lex::lex;
-use stk_lexeme::lexeme_of;
-use stk_tree::Lexeme;
-
-fn lexemes(alloc: Global, bytes: &[u8]) -> Result<Vec<Lexeme>, NoMemory> {
-    let mut list = Vec::new(alloc);
-    if bytes.len() > 16_777_216 {
-        return Ok(list);
-    }
-    let tokens = lex(alloc, bytes)?;
-    for token in &tokens {
-        list.push(lexeme_of(bytes, *token))?;
-    }
-    Ok(list)
-}
+use stk_lexeme::lexemes_of;
 
 fn answer(alloc: Global, bytes: &[u8]) -> &'static str {
-    let Ok(list) = lexemes(alloc, bytes) else {
+    if bytes.len() > 16_777_216 {
+        return "too large";
+    }
+    let Ok(tokens) = lex(alloc, bytes) else {
+        return "no memory";
+    };
+    let Ok(list) = lexemes_of(alloc, bytes, tokens.as_slice()) else {
         return "no memory";
     };
     match declaration_within(alloc, bytes, &Names::new(alloc), true, 400, list.as_slice()) {
@@ -41,14 +34,6 @@ fn answer(alloc: Global, bytes: &[u8]) -> &'static str {
         Err(Parse::NoTree) => "no tree",
         Err(Parse::NoMemory) => "no memory",
     }
-}
-
-fn main(rt: HostRuntime) -> io::Result<()> {
-    let mut bytes = Vec::new(rt.alloc());
-    let mut input = rt.stdin();
-    input.read_to_end(&mut bytes)?;
-    let said = answer(rt.alloc(), &bytes);
-    println!(rt; "{said}")
 }
 PROGRAM
 seconds() { # the processor time of the program on the file $1

@@ -5,6 +5,7 @@
 # For each text it prints the seconds of the whole run, lexing included, and whether an expression was read.
 set -eu
 . "$(dirname "$0")/program.sh"
+ending=$said
 build_program exprbench stk_base stk_lex stk_ctype stk_tree stk_lexeme stk_layout stk_grammar stk_expr <<'END'
 //! Reads the input as an expression.
 #![tactic(auto)]
@@ -30,14 +31,6 @@ fn answer(alloc: Global, bytes: &[u8]) -> &'static str {
         Err(Parse::NoTree) => "no tree",
         Err(Parse::NoMemory) => "no memory",
     }
-}
-
-fn main(rt: HostRuntime) -> io::Result<()> {
-    let mut bytes = Vec::new(rt.alloc());
-    let mut input = rt.stdin();
-    input.read_to_end(&mut bytes)?;
-    let said = answer(rt.alloc(), &bytes);
-    println!(rt; "{said}")
 }
 END
 run() { # the name $1 of a text that the Python expression $2 gives

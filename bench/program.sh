@@ -1,10 +1,21 @@
 # What the benches share; they source it. `build_program NAME CRATE..` takes the program's main.rt from standard input, builds it over
-# these crates of the repository, which it takes in a folder of its own, and leaves the shell there, with the path in `program`.
+# these crates of the repository, which it takes in a folder of its own, and leaves the shell there, with the path in `program`. Where
+# `ending` is set, its text is added at the program's end: `said` is a `main` that prints what `answer(alloc, bytes)` says of the input.
 # `many TEXT SIZE` writes a text, given with Python's escapes, again and again, up to so many bytes.
 top=$(cd "$(dirname "${BASH_SOURCE[0]}")/.." && pwd)
 work=$(mktemp -d)
 trap 'rm -rf "$work"' EXIT
 size=16777216
+ending=
+said='
+fn main(rt: HostRuntime) -> io::Result<()> {
+    let mut bytes = Vec::new(rt.alloc());
+    let mut input = rt.stdin();
+    input.read_to_end(&mut bytes)?;
+    let said = answer(rt.alloc(), &bytes);
+    println!(rt; "{said}")
+}
+'
 build_program() {
     local name=$1 crate
     shift
@@ -15,7 +26,7 @@ build_program() {
     done
     echo "$name: $*" >> "$work/crates.txt"
     echo 'Handles allowed: none.' > "$work/HANDLES"
-    cat > "$work/crates/$name/src/main.rt"
+    { cat; printf '%s' "$ending"; } > "$work/crates/$name/src/main.rt"
     cd "$work/crates/$name"
     rt run < /dev/null > "$work/build.log" 2>&1 || { tail -20 "$work/build.log"; exit 1; }
     program=$(find out -maxdepth 1 -type f -name "$name")
