@@ -2,7 +2,7 @@
 # Times the reader of units on large texts. It builds a small program over stk_stmt in a folder of its own, outside the
 # repository:
 #   bash bench/statements.sh
-# For each text it prints the seconds of the whole run, lexing and cutting included, how many units there are and how many of
+# For each text it prints the processor seconds of the whole run, lexing and cutting included, how many units there are and how many of
 # them were read. No word is a typedef name.
 set -eu
 . "$(dirname "$0")/program.sh"
@@ -72,7 +72,7 @@ fn main(rt: HostRuntime) -> io::Result<()> {
 }
 PROGRAM
 measure() { # the name $1 of the text that stands in the file text
-    local TIMEFORMAT=%R took
+    local TIMEFORMAT=%U took
     took=$( { time "$program" < text > result; } 2>&1 )
     echo "$1: $took s, $(cat result)"
 }
