@@ -14,6 +14,3 @@ mod reading;
 mod turns;
 
 pub use reading::{LeadingDeclaration, decl, declaration_within, front, front_within};
-
-#[cfg(test)]
-mod tests;

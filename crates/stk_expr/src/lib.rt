@@ -10,6 +10,3 @@ mod reading;
 pub use front::{begins_type, is_named, words};
 pub use parse::Parse;
 pub use reading::{Leading, expr, expression};
-
-#[cfg(test)]
-mod tests;

@@ -13,6 +13,3 @@ pub use lexing::{gap_is_longest, lex, one_cut};
 pub use places::Places;
 pub use placing::{one_place, place, place_of_each_byte};
 pub use token::Token;
-
-#[cfg(test)]
-mod tests;

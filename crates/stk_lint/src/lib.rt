@@ -14,6 +14,3 @@ pub use lint::{LIMIT, lint_main};
 pub use records::Counts;
 pub use report::{UnitText, unit_text};
 pub use set_laws::{each_member_is_needed, sufficient_set_has_member};
-
-#[cfg(test)]
-mod tests;

@@ -58,4 +58,6 @@ fn main(rt: HostRuntime) -> ExitCode {
 }
 
 #[cfg(test)]
+mod rows;
+#[cfg(test)]
 mod tests;

@@ -11,6 +11,3 @@ mod statements;
 mod units;
 
 pub use reading::{head, unit};
-
-#[cfg(test)]
-mod tests;

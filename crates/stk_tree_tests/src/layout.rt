@@ -9,7 +9,9 @@ use std::process::Abort;
 use std::test::Fail;
 use stk_base::{Boxed, Class, Span};
 use stk_layout::lay_out;
-use stk_measure::{height, nodes, tokens_of, well_placed};
+use stk_measure::{height, nodes};
+use stk_placed::well_placed;
+use stk_print::tokens_of;
 use stk_tree::{
     Declaration, Declr, Dimension, Expr, ExprForm, Fixed, Init, Item, Lexeme, Node, Part, Stmt,
     StmtForm, Tail, Unit,

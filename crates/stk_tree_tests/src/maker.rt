@@ -8,7 +8,8 @@ use crate::printed::{F, are_spelled};
 use std::alloc::Global;
 use std::process::Abort;
 use stk_base::{Boxed, List, Span};
-use stk_measure::{tokens_of, well_placed};
+use stk_placed::well_placed;
+use stk_print::tokens_of;
 use stk_tree::{
     Base, BaseForm, BinaryOp, Declaration, Declr, Expr, ExprForm, Fixed, Function, Init, Node,
     Stmt, StmtForm, Tail, Unit,

@@ -11,6 +11,3 @@ mod spelled;
 
 pub use cutting::{Piece, cut, units_in_order};
 pub use skimming::{Skimmed, skim};
-
-#[cfg(test)]
-mod tests;

@@ -1,0 +1,401 @@
+//! Runs of the top call over a source and sinks in memory. The expected records were worked out by hand and by an
+//! independent brute-force program, not by this one.
+
+use std::alloc::Global;
+use std::process::Abort;
+use std::test::Fail;
+use stk_base::{MemSink, MemSource, Status};
+use stk_lint::lint_main;
+
+/// An input, the records that it has, and the status of its run.
+struct Row {
+    input: &'static str,
+    records: &'static str,
+    status: Status,
+}
+
+static ROWS: [Row; 25] = [
+    Row {
+        input: "",
+        records: "0 functions, 0 candidates, 0 unstable, 0 undecided, 0 skipped\n",
+        status: Status::Stable,
+    },
+    Row {
+        input: "int f(unsigned char x) { int y = 10 / x; if (x == 0) return 1; return y; }",
+        records: "-:1:54: unstable: never entered in f\n  hit: x=0\n  needs division by zero at -:1:34; without it: x=0\n1 functions, 1 candidates, 1 unstable, 0 undecided, 0 skipped\n",
+        status: Status::Found,
+    },
+    Row {
+        input: "int f(unsigned char x, unsigned char y) { int a = 1 / x; int b = 1 / y; if (x * y == 0) return 1; return a + b; }",
+        records: "-:1:89: unstable: never entered in f\n  hit: x=0 y=0\n  needs division by zero at -:1:51; without it: x=0 y=1\n  needs division by zero at -:1:66; without it: x=1 y=0\n1 functions, 1 candidates, 1 unstable, 0 undecided, 0 skipped\n",
+        status: Status::Found,
+    },
+    Row {
+        input: "int f(unsigned char x) { int a = 1 / x; int b = 1 / x; if (x == 0) return 1; return a + b; }",
+        records: "-:1:68: unstable: never entered in f\n  hit: x=0\n  needs division by zero at -:1:34; without it: x=0\n1 functions, 1 candidates, 1 unstable, 0 undecided, 0 skipped\n",
+        status: Status::Found,
+    },
+    Row {
+        input: "int f(unsigned char x) { int y = 10 / 0; if (x == 0) return 1; return y; }",
+        records: "-:1:54: unstable: never entered in f\n  hit: x=0\n  needs division by zero at -:1:34; without it: x=0\n1 functions, 1 candidates, 1 unstable, 0 undecided, 0 skipped\n",
+        status: Status::Found,
+    },
+    Row {
+        input: "int f(unsigned char x) { if (1 / x == 0) return 1; return 0; }",
+        records: "1 functions, 1 candidates, 0 unstable, 0 undecided, 0 skipped\n",
+        status: Status::Stable,
+    },
+    Row {
+        input: "int f(unsigned char x) { if (1 / x <= 0) return 1; return 0; }",
+        records: "1 functions, 1 candidates, 0 unstable, 0 undecided, 0 skipped\n",
+        status: Status::Stable,
+    },
+    Row {
+        input: "int f(unsigned char x) { if (x == 0) return 1; if (1 / x == 0) return 2; return 3; }",
+        records: "1 functions, 2 candidates, 0 unstable, 0 undecided, 0 skipped\n",
+        status: Status::Stable,
+    },
+    Row {
+        input: "int f(unsigned char x) { if (x != x) return 1; return 0; }",
+        records: "1 functions, 1 candidates, 0 unstable, 0 undecided, 0 skipped\n",
+        status: Status::Stable,
+    },
+    Row {
+        input: "int f(unsigned char x) { int y = x / x; if (x <= 0) return y; return 255; }",
+        records: "-:1:53: unstable: never entered in f\n  hit: x=0\n  needs division by zero at -:1:34; without it: x=0\n1 functions, 1 candidates, 1 unstable, 0 undecided, 0 skipped\n",
+        status: Status::Found,
+    },
+    Row {
+        input: "int f(unsigned char x) { int y = 0 / x; if (x < 1) return y + 1; return y; }",
+        records: "-:1:52: unstable: never entered in f\n  hit: x=0\n  needs division by zero at -:1:34; without it: x=0\n1 functions, 1 candidates, 1 unstable, 0 undecided, 0 skipped\n",
+        status: Status::Found,
+    },
+    Row {
+        input: "int f(unsigned char x) { int y = 1 / x; if (x != 0) return 1; return y; }",
+        records: "1 functions, 1 candidates, 0 unstable, 0 undecided, 0 skipped\n",
+        status: Status::Stable,
+    },
+    Row {
+        input: "int f(unsigned char x) { return x; }",
+        records: "1 functions, 0 candidates, 0 unstable, 0 undecided, 0 skipped\n",
+        status: Status::Stable,
+    },
+    Row {
+        input: "int g(unsigned char a) { int b = 7 / 0; if (a >= 255) return 0; if (a > 254) return 1; return b + a; }",
+        records: "-:1:55: unstable: never entered in g\n  hit: a=255\n  needs division by zero at -:1:34; without it: a=255\n1 functions, 2 candidates, 1 unstable, 0 undecided, 0 skipped\n",
+        status: Status::Found,
+    },
+    Row {
+        input: "int f(unsigned char x, unsigned char y) { int a = 1 / x; int b = 1 / y; int c = 2 / x; if (x * y == 0) return c; return a + b; }",
+        records: "-:1:104: unstable: never entered in f\n  hit: x=0 y=0\n  needs division by zero at -:1:51; without it: x=0 y=1\n  needs division by zero at -:1:66; without it: x=1 y=0\n1 functions, 1 candidates, 1 unstable, 0 undecided, 0 skipped\n",
+        status: Status::Found,
+    },
+    Row {
+        input: "int f(unsigned char x, unsigned char y) { int a = x / y; if (y == 0) return 1; if (x / y > 255) return 2; return a; }",
+        records: "-:1:70: unstable: never entered in f\n  hit: x=0 y=0\n  needs division by zero at -:1:51; without it: x=0 y=0\n1 functions, 2 candidates, 1 unstable, 0 undecided, 0 skipped\n",
+        status: Status::Found,
+    },
+    Row {
+        input: "int\tf\n(\runsigned\x0bchar\x0cx ) {\nint y=3/x;\n  if(x==0)return 1;return y;}\n",
+        records: "-:4:11: unstable: never entered in f\n  hit: x=0\n  needs division by zero at -:3:7; without it: x=0\n1 functions, 1 candidates, 1 unstable, 0 undecided, 0 skipped\n",
+        status: Status::Found,
+    },
+    Row {
+        input: "int f(unsigned char x) { return 255; }",
+        records: "1 functions, 0 candidates, 0 unstable, 0 undecided, 0 skipped\n",
+        status: Status::Stable,
+    },
+    Row {
+        input: "union u { int a; };\nint g(int x) { goto out; out: return x; }\nint h(int x) { return x @ 1; }\nint f(unsigned char x) { int y = 10 / x; if (x == 0) return 1; return y; }\nint k(void) { return g(1); }",
+        records: "-:1:1: skipped: no tree\n-:2:1: skipped: no tree\n-:3:1: skipped: no tree\n-:4:54: unstable: never entered in f\n  hit: x=0\n  needs division by zero at -:4:34; without it: x=0\n-:5:1: skipped: other form\n1 functions, 1 candidates, 1 unstable, 0 undecided, 4 skipped\n",
+        status: Status::Found,
+    },
+    Row {
+        input: "# 10 \"a.c\"\nint f(unsigned char x) { int y = 10 / x; if (x == 0) return 1; return y; }\n# 3 \"inc/b\t.h\" 2\nint f(unsigned char x) { int y = 10 / x; if (x == 0) return 1; return y; }",
+        records: "a.c:10:54: unstable: never entered in f\n  hit: x=0\n  needs division by zero at a.c:10:34; without it: x=0\ninc/b?.h:3:54: unstable: never entered in f\n  hit: x=0\n  needs division by zero at inc/b?.h:3:34; without it: x=0\n2 functions, 2 candidates, 2 unstable, 0 undecided, 0 skipped\n",
+        status: Status::Found,
+    },
+    Row {
+        input: ";;;",
+        records: "0 functions, 0 candidates, 0 unstable, 0 undecided, 0 skipped\n",
+        status: Status::Stable,
+    },
+    Row {
+        input: "int f(unsigned char x) {\r\nint y = 3 / x;\r\nif (x == 0) return 1;\r\nreturn y; }\r\n",
+        records: "-:3:13: unstable: never entered in f\n  hit: x=0\n  needs division by zero at -:2:9; without it: x=0\n1 functions, 1 candidates, 1 unstable, 0 undecided, 0 skipped\n",
+        status: Status::Found,
+    },
+    Row {
+        input: "extern int e; int f(unsigned char x) { /* c */ return x; } ; __extension__ int g(const unsigned char x) __attribute__((cold)) { return x; } // end",
+        records: "2 functions, 0 candidates, 0 unstable, 0 undecided, 0 skipped\n",
+        status: Status::Stable,
+    },
+    Row {
+        input: "#pragma once",
+        records: "0 functions, 0 candidates, 0 unstable, 0 undecided, 0 skipped\n",
+        status: Status::Stable,
+    },
+    Row {
+        input: "\n\n  @",
+        records: "-:3:3: skipped: no tree\n0 functions, 0 candidates, 0 unstable, 0 undecided, 1 skipped\n",
+        status: Status::Stable,
+    },
+];
+
+/// Texts of one unit with the cause that it is skipped for; without a cause, it is a declaration.
+static UNITS: [(&str, &str); 32] = [
+    ("int f(unsigned char x) { return 256; }", "other form"),
+    ("int f(unsigned char x) { return 01; }", "other form"),
+    ("int f(unsigned char x) { return 0x1; }", "other form"),
+    ("int f(unsigned char f) { return f; }", "other form"),
+    (
+        "int f(unsigned char x, unsigned char x) { return x; }",
+        "other form",
+    ),
+    (
+        "int f(unsigned char x) { int x = 1; return x; }",
+        "other form",
+    ),
+    ("int f(unsigned char x) { return y; }", "other form"),
+    ("int f(unsigned char x) { return f; }", "other form"),
+    (
+        "int f(unsigned char x) { int b = 1; int c = b; return c; }",
+        "other form",
+    ),
+    (
+        "int f(unsigned char x) { int b = x < 1; return b; }",
+        "other form",
+    ),
+    ("int f(void) { return 1; }", "other form"),
+    ("int f() { return 0; }", "other form"),
+    (
+        "int f(unsigned char x) { if (x) return 0; return x; }",
+        "other form",
+    ),
+    (
+        "int f(unsigned char x) { if (x < 1) return 0; }",
+        "other form",
+    ),
+    (
+        "int f(unsigned char x) { if (x < 1) return 0; int b = 1; return b; }",
+        "other form",
+    ),
+    ("int f(unsigned char x) { return x * 2; }", "other form"),
+    ("int f(unsigned char x) { return x; ; }", "other form"),
+    ("static int f(unsigned char x) { return x; }", "other form"),
+    ("int while(unsigned char x) { return x; }", "no tree"),
+    ("int f(unsigned char while) { return 0; }", "no tree"),
+    ("int f(unsigned char x) {", "no tree"),
+    ("int f(unsigned char x) { if (x == 0) return 1 }", "no tree"),
+    (
+        "int f(unsigned char x) __attribute__((aligned(8))) { return x; }",
+        "no tree",
+    ),
+    ("size_t f(unsigned char x) { return x; }", "no tree"),
+    ("union u { int a; };", "no tree"),
+    ("int f(unsigned char x) { return x }", "no tree"),
+    ("int x = 1 2;", "no tree"),
+    ("int f(unsigned char x);", ""),
+    ("struct s { int a; } x, *y;", ""),
+    ("enum e { A, B = 2, };", ""),
+    ("typedef unsigned long size_t;", ""),
+    ("int a[] = { [1] = 2, 3 };", ""),
+];
+
+/// How a source and the sinks behave in a run: the most bytes of a call, and the calls that fail.
+#[derive(Clone, Copy)]
+struct Outside {
+    words: usize,
+    most: usize,
+    source_fails: Option<u64>,
+    out_fails: Option<u64>,
+    fault_fails: Option<u64>,
+}
+
+fn failing(alloc: Global, call: Option<u64>) -> Result<Vec<u64>, Fail> {
+    let mut calls = Vec::new(alloc);
+    if let Some(call) = call {
+        calls.push(call)?;
+    }
+    Ok(calls)
+}
+
+// Runs the top call, and compares its status and what the sinks took.
+fn check(
+    alloc: Global,
+    rt: &impl Abort,
+    outside: &Outside,
+    input: &[u8],
+    status: Status,
+    records: &[u8],
+    line: &[u8],
+) -> Result<(), Fail> {
+    let mut words = Vec::new(alloc);
+    for _ in 0..outside.words {
+        words.push(String::from_str(alloc, "--help")?)?;
+    }
+    let most = outside.most.max(1);
+    let bytes = Vec::from_slice(alloc, input)?;
+    let mut source = MemSource::new(bytes, most, failing(alloc, outside.source_fails)?);
+    let mut out = MemSink::new(alloc, most, failing(alloc, outside.out_fails)?);
+    let mut fault = MemSink::new(alloc, most, failing(alloc, outside.fault_fails)?);
+    let answer = lint_main(alloc, words.as_slice(), &mut source, &mut out, &mut fault);
+    assert!(rt; answer == status, "{input:?}");
+    assert!(rt; out.bytes() == records, "{input:?}");
+    assert!(rt; fault.bytes() == line, "{input:?}");
+    Ok(())
+}
+
+const CALM: Outside = Outside {
+    words: 0,
+    most: 1_000_000,
+    source_fails: None,
+    out_fails: None,
+    fault_fails: None,
+};
+
+#[test]
+fn each_row_has_its_records(rt: HostRuntime) -> Result<(), Fail> {
+    for row in &ROWS {
+        let (input, records) = (row.input.as_bytes(), row.records.as_bytes());
+        check(rt.alloc(), &rt, &CALM, input, row.status, records, b"")?;
+    }
+    Ok(())
+}
+
+/// The records of a unit that is skipped for a cause, or of a declaration.
+fn records_of(alloc: Global, cause: &str) -> Result<Vec<u8>, Fail> {
+    let mut records = Vec::new(alloc);
+    if cause.is_empty() {
+        records.extend_from_slice(
+            b"0 functions, 0 candidates, 0 unstable, 0 undecided, 0 skipped\n",
+        )?;
+    } else {
+        records.extend_from_slice(b"-:1:1: skipped: ")?;
+        records.extend_from_slice(cause.as_bytes())?;
+        records.extend_from_slice(
+            b"\n0 functions, 0 candidates, 0 unstable, 0 undecided, 1 skipped\n",
+        )?;
+    }
+    Ok(records)
+}
+
+#[test]
+fn each_unit_is_skipped_for_its_cause(rt: HostRuntime) -> Result<(), Fail> {
+    for &(input, cause) in &UNITS {
+        let records = records_of(rt.alloc(), cause)?;
+        check(
+            rt.alloc(),
+            &rt,
+            &CALM,
+            input.as_bytes(),
+            Status::Stable,
+            records.as_slice(),
+            b"",
+        )?;
+    }
+    Ok(())
+}
+
+const INPUT: &[u8] = b"int f(unsigned char x) { int y = 10 / x; if (x == 0) return 1; return y; }";
+
+const RECORDS: &[u8] =
+    b"-:1:54: unstable: never entered in f\n  hit: x=0\n  needs division by zero at -:1:34; without it: x=0\n1 functions, 1 candidates, 1 unstable, 0 undecided, 0 skipped\n";
+
+// How the outside behaves.
+fn of_outside(
+    words: usize,
+    most: usize,
+    source_fails: Option<u64>,
+    out_fails: Option<u64>,
+    fault_fails: Option<u64>,
+) -> Outside {
+    Outside {
+        words,
+        most,
+        source_fails,
+        out_fails,
+        fault_fails,
+    }
+}
+
+#[test]
+fn each_failure_has_its_status(rt: HostRuntime) -> Result<(), Fail> {
+    let unread: &[u8] = b"stack: the input cannot be read\n";
+    let unwritten: &[u8] = b"stack: the output cannot be written\n";
+    let table: [(Outside, Status, &[u8], &[u8]); 7] = [
+        (
+            of_outside(1, 9, None, None, None),
+            Status::BadWords,
+            b"",
+            b"stack: bad words\n",
+        ),
+        (
+            of_outside(0, 9, Some(0), None, None),
+            Status::ReadFault,
+            b"",
+            unread,
+        ),
+        (
+            of_outside(0, 1, Some(74), None, None),
+            Status::ReadFault,
+            b"",
+            unread,
+        ),
+        (
+            of_outside(0, 1, None, None, None),
+            Status::Found,
+            RECORDS,
+            b"",
+        ),
+        (
+            of_outside(0, 16, None, Some(1), None),
+            Status::WriteFault,
+            b"-:1:54: unstable",
+            unwritten,
+        ),
+        (
+            of_outside(0, 999, None, Some(2), None),
+            Status::WriteFault,
+            RECORDS,
+            unwritten,
+        ),
+        (
+            of_outside(0, 9, Some(0), None, Some(0)),
+            Status::ReadFault,
+            b"",
+            b"",
+        ),
+    ];
+    for (outside, status, records, line) in &table {
+        check(rt.alloc(), &rt, outside, INPUT, *status, records, line)?;
+    }
+    Ok(())
+}
+
+#[test]
+fn an_input_over_the_limit_is_too_large(rt: HostRuntime) -> Result<(), Fail> {
+    let alloc = rt.alloc();
+    let spaces = vec![in alloc; b' '; 16_777_217]?;
+    let line = b"stack: the input is larger than 16777216 bytes\n";
+    check(
+        alloc,
+        &rt,
+        &CALM,
+        spaces.as_slice(),
+        Status::TooLarge,
+        b"",
+        line,
+    )?;
+    let summary = b"0 functions, 0 candidates, 0 unstable, 0 undecided, 0 skipped\n";
+    check(
+        alloc,
+        &rt,
+        &CALM,
+        &spaces[1..],
+        Status::Stable,
+        summary,
+        b"",
+    )?;
+    Ok(())
+}
