@@ -204,7 +204,7 @@ static UNITS: [(&str, &str); 32] = [
 
 /// How a source and the sinks behave in a run: the most bytes of a call, and the calls that fail.
 #[derive(Clone, Copy)]
-struct Outside {
+pub struct Outside {
     words: usize,
     most: usize,
     source_fails: Option<u64>,
@@ -220,8 +220,8 @@ fn failing(alloc: Global, call: Option<u64>) -> Result<Vec<u64>, Fail> {
     Ok(calls)
 }
 
-// Runs the top call, and compares its status and what the sinks took.
-fn check(
+/// Runs the top call, and compares its status and what the sinks took.
+pub fn check(
     alloc: Global,
     rt: &impl Abort,
     outside: &Outside,
@@ -246,7 +246,8 @@ fn check(
     Ok(())
 }
 
-const CALM: Outside = Outside {
+/// An outside in which nothing fails.
+pub const CALM: Outside = Outside {
     words: 0,
     most: 1_000_000,
     source_fails: None,
@@ -297,13 +298,22 @@ fn each_unit_is_skipped_for_its_cause(rt: HostRuntime) -> Result<(), Fail> {
     Ok(())
 }
 
-const INPUT: &[u8] = b"int f(unsigned char x) { int y = 10 / x; if (x == 0) return 1; return y; }";
+/// A function with one unstable branch.
+pub const INPUT: &[u8] =
+    b"int f(unsigned char x) { int y = 10 / x; if (x == 0) return 1; return y; }";
 
-const RECORDS: &[u8] =
+/// Its records.
+pub const RECORDS: &[u8] =
     b"-:1:54: unstable: never entered in f\n  hit: x=0\n  needs division by zero at -:1:34; without it: x=0\n1 functions, 1 candidates, 1 unstable, 0 undecided, 0 skipped\n";
 
-// How the outside behaves.
-fn of_outside(
+/// What standard error takes where the input can't be read.
+pub const UNREAD: &[u8] = b"stack: the input cannot be read\n";
+
+/// What standard error takes where the output can't be written.
+pub const UNWRITTEN: &[u8] = b"stack: the output cannot be written\n";
+
+/// How the outside behaves.
+pub fn of_outside(
     words: usize,
     most: usize,
     source_fails: Option<u64>,
@@ -321,8 +331,6 @@ fn of_outside(
 
 #[test]
 fn each_failure_has_its_status(rt: HostRuntime) -> Result<(), Fail> {
-    let unread: &[u8] = b"stack: the input cannot be read\n";
-    let unwritten: &[u8] = b"stack: the output cannot be written\n";
     let table: [(Outside, Status, &[u8], &[u8]); 7] = [
         (
             of_outside(1, 9, None, None, None),
@@ -334,13 +342,13 @@ fn each_failure_has_its_status(rt: HostRuntime) -> Result<(), Fail> {
             of_outside(0, 9, Some(0), None, None),
             Status::ReadFault,
             b"",
-            unread,
+            UNREAD,
         ),
         (
             of_outside(0, 1, Some(74), None, None),
             Status::ReadFault,
             b"",
-            unread,
+            UNREAD,
         ),
         (
             of_outside(0, 1, None, None, None),
@@ -352,13 +360,13 @@ fn each_failure_has_its_status(rt: HostRuntime) -> Result<(), Fail> {
             of_outside(0, 16, None, Some(1), None),
             Status::WriteFault,
             b"-:1:54: unstable",
-            unwritten,
+            UNWRITTEN,
         ),
         (
             of_outside(0, 999, None, Some(2), None),
             Status::WriteFault,
             RECORDS,
-            unwritten,
+            UNWRITTEN,
         ),
         (
             of_outside(0, 9, Some(0), None, Some(0)),
