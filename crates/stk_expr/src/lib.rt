@@ -3,6 +3,7 @@
 
 mod build;
 mod front;
+mod leaves;
 mod parse;
 mod reader;
 mod reading;

@@ -2,33 +2,26 @@
 //!
 //! They call one another no deeper than the height that is left, and each loop takes a token or more in a turn.
 
-ghost use Rattle.std.specs.Prelude.{◌≡◌, ◌+◌, ◌*◌, ◌<◌, ◌≤◌, max, suc, IfOk, length, map};
+ghost use Rattle.std.specs.Prelude.{◌≡◌, ◌+◌, ◌*◌, ◌<◌, ◌≤◌, max, suc, true, false, IfOk, length, map};
 ghost use Rattle.stk_tree.specs.Height.{dimension_height, dimensions_height};
 ghost use Rattle.stk_tree.specs.View.{dimensions, expressions, view_dimension, view_expression, view_type_name};
 ghost use Rattle.stk_grammar.specs.Reading.{arguments, before_at, begins_type, behind_left_paren, behind_right_bracket, climb, dimension_at, dimensions_at, expression_at, head_at, opens_type, paren_at, size_at, tail_at, type_at};
+ghost use Rattle.stk_grammar.specs.declared.tables.Suffix.TheVariants.{Assign, Binary, Call, Choice, Index};
 ghost use Rattle.stk_expr.specs.Gives.{AreRead, Gives, IsRead, IsTypeRead, named};
 ghost use Rattle.stk_expr.specs.Prefixes.{prefix_form, prefix_operand};
 
 use crate::build::{self, Prefix};
-use crate::front::{base, begins_type, first_head, is_named, opens_type, taken, texts};
+use crate::front::{base, begins_type, first_head, opens_type, taken};
+use crate::leaves::{self, Found};
 use crate::parse::Parse;
 use std::alloc::Global;
 use stk_base::{Boxed, List};
 use stk_ctype::Names;
 use stk_grammar::{
     Head, Suffix, behind_colon, behind_comma, behind_left_bracket, behind_left_paren,
-    behind_right_bracket, behind_right_paren, binary_level, stars_at, word_at,
+    behind_right_bracket, behind_right_paren, binary_level, stars_at,
 };
-use stk_tree::{Dimension, Expr, Lexeme, StepOp, TypeName};
-
-/// An expression that was read, its height and its level, and the tokens behind it.
-#[derive(Drop)]
-pub struct Found<'a> {
-    pub tree: Boxed<Expr>,
-    pub height: usize,
-    pub level: usize,
-    pub rest: &'a [Lexeme],
-}
+use stk_tree::{AssignOp, BinaryOp, Dimension, Expr, Lexeme, StepOp, TypeName};
 
 /// A type name that was read, its height, and the tokens behind it.
 #[derive(Drop)]
@@ -97,67 +90,24 @@ fn operand<'a>(
     ensures height { IfOk result (λ x. IsRead (inner + 1) (view_expression x.tree) x.height x.level) }
 {
     match head {
-        Head::Name(at) => {
-            if is_named(bytes, names, at) {
-                return Err(Parse::NoTree);
-            }
-            Ok(Found {
-                tree: build::name(alloc, at)?,
-                height: 1,
-                level: 17,
-                rest: lexemes,
-            })
-        }
-        Head::Number(at) => Ok(Found {
-            tree: build::number(alloc, at)?,
-            height: 1,
-            level: 17,
-            rest: lexemes,
-        }),
-        Head::Character(at) => Ok(Found {
-            tree: build::character(alloc, at)?,
-            height: 1,
-            level: 17,
-            rest: lexemes,
-        }),
-        Head::Text(at) => {
-            let (parts, rest) = texts(alloc, at, lexemes)?;
-            Ok(Found {
-                tree: build::text(alloc, parts)?,
-                height: 1,
-                level: 17,
-                rest,
-            })
-        }
+        Head::Name(at) => leaves::name(alloc, bytes, names, at, lexemes),
+        Head::Number(at) => leaves::number(alloc, at, lexemes),
+        Head::Character(at) => leaves::character(alloc, at, lexemes),
+        Head::Text(at) => leaves::text(alloc, at, lexemes),
         Head::Paren => paren(alloc, bytes, names, inner, least, lexemes),
         Head::SizeOf => size(alloc, bytes, names, inner, least, lexemes),
-        Head::Increment => before(
-            alloc,
-            bytes,
-            names,
-            inner,
-            least,
-            Prefix::Increment,
-            lexemes,
-        ),
-        Head::Decrement => before(
-            alloc,
-            bytes,
-            names,
-            inner,
-            least,
-            Prefix::Decrement,
-            lexemes,
-        ),
-        Head::Unary(op) => before(
-            alloc,
-            bytes,
-            names,
-            inner,
-            least,
-            Prefix::Unary(op),
-            lexemes,
-        ),
+        Head::Increment => {
+            let prefix = Prefix::Increment;
+            before(alloc, bytes, names, inner, least, prefix, lexemes)
+        }
+        Head::Decrement => {
+            let prefix = Prefix::Decrement;
+            before(alloc, bytes, names, inner, least, prefix, lexemes)
+        }
+        Head::Unary(op) => {
+            let prefix = Prefix::Unary(op);
+            before(alloc, bytes, names, inner, least, prefix, lexemes)
+        }
     }
 }
 
@@ -176,32 +126,65 @@ fn paren<'a>(
     ensures height { IfOk result (λ x. IsRead (inner + 1) (view_expression x.tree) x.height x.level) }
 {
     if begins_type(bytes, names, lexemes) {
-        if least > 14 {
-            return Err(Parse::NoTree);
-        }
-        let target = type_name(alloc, bytes, names, inner, lexemes)?;
-        let Some(rest) = behind_right_paren(target.rest) else {
-            return Err(Parse::NoTree);
-        };
-        let found = expression(alloc, bytes, names, inner, 14, rest)?;
-        Ok(Found {
-            tree: build::cast(alloc, target.name, found.tree)?,
-            height: target.height.max(found.height) + 1,
-            level: 14,
-            rest: found.rest,
-        })
+        cast(alloc, bytes, names, inner, least, lexemes)
     } else {
-        let found = expression(alloc, bytes, names, inner, 1, lexemes)?;
-        let Some(rest) = behind_right_paren(found.rest) else {
-            return Err(Parse::NoTree);
-        };
-        Ok(Found {
-            tree: build::paren(alloc, found.tree)?,
-            height: found.height + 1,
-            level: 17,
-            rest,
-        })
+        enclosed(alloc, bytes, names, inner, lexemes)
     }
+}
+
+/// A cast, behind its `(`.
+#[cycle(reader)]
+fn cast<'a>(
+    alloc: Global,
+    bytes: &[u8],
+    names: &Names,
+    inner: usize,
+    least: usize,
+    lexemes: &'a [Lexeme],
+) -> Result<Found<'a>, Parse>
+    requires { inner < 400 }
+    ensures value { Gives (λ x. (view_expression x.tree, x.rest.now)) result (paren_at (named bytes.now names.now) (expression_at (named bytes.now names.now) inner) inner least true lexemes.now) }
+    ensures height { IfOk result (λ x. IsRead (inner + 1) (view_expression x.tree) x.height x.level) }
+{
+    if least > 14 {
+        return Err(Parse::NoTree);
+    }
+    let target = type_name(alloc, bytes, names, inner, lexemes)?;
+    let Some(rest) = behind_right_paren(target.rest) else {
+        return Err(Parse::NoTree);
+    };
+    let found = expression(alloc, bytes, names, inner, 14, rest)?;
+    Ok(Found {
+        tree: build::cast(alloc, target.name, found.tree)?,
+        height: target.height.max(found.height) + 1,
+        level: 14,
+        rest: found.rest,
+    })
+}
+
+/// An expression in parentheses, behind its `(`.
+#[cycle(reader)]
+fn enclosed<'a>(
+    alloc: Global,
+    bytes: &[u8],
+    names: &Names,
+    inner: usize,
+    lexemes: &'a [Lexeme],
+) -> Result<Found<'a>, Parse>
+    requires { inner < 400 }
+    ensures value { Gives (λ x. (view_expression x.tree, x.rest.now)) result (paren_at (named bytes.now names.now) (expression_at (named bytes.now names.now) inner) inner 1 false lexemes.now) }
+    ensures height { IfOk result (λ x. IsRead (inner + 1) (view_expression x.tree) x.height x.level) }
+{
+    let found = expression(alloc, bytes, names, inner, 1, lexemes)?;
+    let Some(rest) = behind_right_paren(found.rest) else {
+        return Err(Parse::NoTree);
+    };
+    Ok(Found {
+        tree: build::paren(alloc, found.tree)?,
+        height: found.height + 1,
+        level: 17,
+        rest,
+    })
 }
 
 /// Behind `sizeof`: a type name in parentheses where one begins, and else an operand.
@@ -413,94 +396,156 @@ fn tail<'a>(
     ensures higher { IfOk result (λ x. left.entry.height < x.height) }
 {
     match suffix {
-        Suffix::Binary(op) => {
-            let level = binary_level(op);
-            let right = expression(alloc, bytes, names, inner, level + 1, lexemes)?;
-            Ok(Found {
-                tree: build::binary(alloc, op, left.tree, right.tree)?,
-                height: left.height.max(right.height) + 1,
-                level,
-                rest: right.rest,
-            })
-        }
-        Suffix::Assign(op) => {
-            let right = expression(alloc, bytes, names, inner, 2, lexemes)?;
-            Ok(Found {
-                tree: build::assign(alloc, op, left.tree, right.tree)?,
-                height: left.height.max(right.height) + 1,
-                level: 2,
-                rest: right.rest,
-            })
-        }
-        Suffix::Choice => {
-            let middle = expression(alloc, bytes, names, inner, 1, lexemes)?;
-            let Some(rest) = behind_colon(middle.rest) else {
-                return Err(Parse::NoTree);
-            };
-            let last = expression(alloc, bytes, names, inner, 3, rest)?;
-            Ok(Found {
-                tree: build::choice(alloc, left.tree, middle.tree, last.tree)?,
-                height: left.height.max(middle.height.max(last.height)) + 1,
-                level: 3,
-                rest: last.rest,
-            })
-        }
-        Suffix::Index => {
-            let place = expression(alloc, bytes, names, inner, 1, lexemes)?;
-            let Some(rest) = behind_right_bracket(place.rest) else {
-                return Err(Parse::NoTree);
-            };
-            Ok(Found {
-                tree: build::index(alloc, left.tree, place.tree)?,
-                height: left.height.max(place.height) + 1,
-                level: 16,
-                rest,
-            })
-        }
-        Suffix::Call => {
-            let all = arguments(alloc, bytes, names, inner, lexemes)?;
-            Ok(Found {
-                tree: build::call(alloc, left.tree, all.list)?,
-                height: left.height.max(all.height) + 1,
-                level: 16,
-                rest: all.rest,
-            })
-        }
-        Suffix::Dot => {
-            let Some((member, rest)) = word_at(lexemes) else {
-                return Err(Parse::NoTree);
-            };
-            Ok(Found {
-                tree: build::dot(alloc, left.tree, member)?,
-                height: left.height + 1,
-                level: 16,
-                rest,
-            })
-        }
-        Suffix::Arrow => {
-            let Some((member, rest)) = word_at(lexemes) else {
-                return Err(Parse::NoTree);
-            };
-            Ok(Found {
-                tree: build::arrow(alloc, left.tree, member)?,
-                height: left.height + 1,
-                level: 16,
-                rest,
-            })
-        }
-        Suffix::Increment => Ok(Found {
-            tree: build::stepped(alloc, StepOp::IncAfter, left.tree)?,
-            height: left.height + 1,
-            level: 16,
-            rest: lexemes,
-        }),
-        Suffix::Decrement => Ok(Found {
-            tree: build::stepped(alloc, StepOp::DecAfter, left.tree)?,
-            height: left.height + 1,
-            level: 16,
-            rest: lexemes,
-        }),
+        Suffix::Binary(op) => binary_tail(alloc, bytes, names, inner, op, left, lexemes),
+        Suffix::Assign(op) => assign_tail(alloc, bytes, names, inner, op, left, lexemes),
+        Suffix::Choice => choice_tail(alloc, bytes, names, inner, left, lexemes),
+        Suffix::Index => index_tail(alloc, bytes, names, inner, left, lexemes),
+        Suffix::Call => call_tail(alloc, bytes, names, inner, left, lexemes),
+        Suffix::Dot => leaves::dot_tail(alloc, left, lexemes),
+        Suffix::Arrow => leaves::arrow_tail(alloc, left, lexemes),
+        Suffix::Increment => leaves::stepped_tail(alloc, StepOp::IncAfter, left, lexemes),
+        Suffix::Decrement => leaves::stepped_tail(alloc, StepOp::DecAfter, left, lexemes),
     }
+}
+
+/// An operand with a binary operator and its right operand, behind the operator.
+#[cycle(reader)]
+#[tactic(auto, unfolding(stk_grammar::specs::Reading::tail_at))]
+fn binary_tail<'a>(
+    alloc: Global,
+    bytes: &[u8],
+    names: &Names,
+    inner: usize,
+    op: BinaryOp,
+    left: Found<'a>,
+    lexemes: &'a [Lexeme],
+) -> Result<Found<'a>, Parse>
+    requires room { inner < 400 }
+    requires height { IsRead inner (view_expression left.tree) left.height left.level }
+    ensures value { Gives (λ x. (view_expression x.tree, x.rest.now)) result (tail_at (expression_at (named bytes.now names.now) inner) (Binary op) (view_expression left.entry.tree) lexemes.now) }
+    ensures height { IfOk result (λ x. IsRead (inner + 1) (view_expression x.tree) x.height x.level) }
+    ensures higher { IfOk result (λ x. left.entry.height < x.height) }
+{
+    let level = binary_level(op);
+    let right = expression(alloc, bytes, names, inner, level + 1, lexemes)?;
+    Ok(Found {
+        tree: build::binary(alloc, op, left.tree, right.tree)?,
+        height: left.height.max(right.height) + 1,
+        level,
+        rest: right.rest,
+    })
+}
+
+/// An operand with an assignment to it, behind the operator.
+#[cycle(reader)]
+#[tactic(auto, unfolding(stk_grammar::specs::Reading::tail_at))]
+fn assign_tail<'a>(
+    alloc: Global,
+    bytes: &[u8],
+    names: &Names,
+    inner: usize,
+    op: AssignOp,
+    left: Found<'a>,
+    lexemes: &'a [Lexeme],
+) -> Result<Found<'a>, Parse>
+    requires room { inner < 400 }
+    requires height { IsRead inner (view_expression left.tree) left.height left.level }
+    ensures value { Gives (λ x. (view_expression x.tree, x.rest.now)) result (tail_at (expression_at (named bytes.now names.now) inner) (Assign op) (view_expression left.entry.tree) lexemes.now) }
+    ensures height { IfOk result (λ x. IsRead (inner + 1) (view_expression x.tree) x.height x.level) }
+    ensures higher { IfOk result (λ x. left.entry.height < x.height) }
+{
+    let right = expression(alloc, bytes, names, inner, 2, lexemes)?;
+    Ok(Found {
+        tree: build::assign(alloc, op, left.tree, right.tree)?,
+        height: left.height.max(right.height) + 1,
+        level: 2,
+        rest: right.rest,
+    })
+}
+
+/// An operand with the choice that it makes, behind the `?`.
+#[cycle(reader)]
+#[tactic(auto, unfolding(stk_grammar::specs::Reading::tail_at))]
+fn choice_tail<'a>(
+    alloc: Global,
+    bytes: &[u8],
+    names: &Names,
+    inner: usize,
+    left: Found<'a>,
+    lexemes: &'a [Lexeme],
+) -> Result<Found<'a>, Parse>
+    requires room { inner < 400 }
+    requires height { IsRead inner (view_expression left.tree) left.height left.level }
+    ensures value { Gives (λ x. (view_expression x.tree, x.rest.now)) result (tail_at (expression_at (named bytes.now names.now) inner) Choice (view_expression left.entry.tree) lexemes.now) }
+    ensures height { IfOk result (λ x. IsRead (inner + 1) (view_expression x.tree) x.height x.level) }
+    ensures higher { IfOk result (λ x. left.entry.height < x.height) }
+{
+    let middle = expression(alloc, bytes, names, inner, 1, lexemes)?;
+    let Some(rest) = behind_colon(middle.rest) else {
+        return Err(Parse::NoTree);
+    };
+    let last = expression(alloc, bytes, names, inner, 3, rest)?;
+    Ok(Found {
+        tree: build::choice(alloc, left.tree, middle.tree, last.tree)?,
+        height: left.height.max(middle.height.max(last.height)) + 1,
+        level: 3,
+        rest: last.rest,
+    })
+}
+
+/// An operand with an index, behind the `[`.
+#[cycle(reader)]
+#[tactic(auto, unfolding(stk_grammar::specs::Reading::tail_at))]
+fn index_tail<'a>(
+    alloc: Global,
+    bytes: &[u8],
+    names: &Names,
+    inner: usize,
+    left: Found<'a>,
+    lexemes: &'a [Lexeme],
+) -> Result<Found<'a>, Parse>
+    requires room { inner < 400 }
+    requires height { IsRead inner (view_expression left.tree) left.height left.level }
+    ensures value { Gives (λ x. (view_expression x.tree, x.rest.now)) result (tail_at (expression_at (named bytes.now names.now) inner) Index (view_expression left.entry.tree) lexemes.now) }
+    ensures height { IfOk result (λ x. IsRead (inner + 1) (view_expression x.tree) x.height x.level) }
+    ensures higher { IfOk result (λ x. left.entry.height < x.height) }
+{
+    let place = expression(alloc, bytes, names, inner, 1, lexemes)?;
+    let Some(rest) = behind_right_bracket(place.rest) else {
+        return Err(Parse::NoTree);
+    };
+    Ok(Found {
+        tree: build::index(alloc, left.tree, place.tree)?,
+        height: left.height.max(place.height) + 1,
+        level: 16,
+        rest,
+    })
+}
+
+/// An operand with the arguments that it is called with, behind the `(`.
+#[cycle(reader)]
+#[tactic(auto, unfolding(stk_grammar::specs::Reading::tail_at))]
+fn call_tail<'a>(
+    alloc: Global,
+    bytes: &[u8],
+    names: &Names,
+    inner: usize,
+    left: Found<'a>,
+    lexemes: &'a [Lexeme],
+) -> Result<Found<'a>, Parse>
+    requires room { inner < 400 }
+    requires height { IsRead inner (view_expression left.tree) left.height left.level }
+    ensures value { Gives (λ x. (view_expression x.tree, x.rest.now)) result (tail_at (expression_at (named bytes.now names.now) inner) Call (view_expression left.entry.tree) lexemes.now) }
+    ensures height { IfOk result (λ x. IsRead (inner + 1) (view_expression x.tree) x.height x.level) }
+    ensures higher { IfOk result (λ x. left.entry.height < x.height) }
+{
+    let all = arguments(alloc, bytes, names, inner, lexemes)?;
+    Ok(Found {
+        tree: build::call(alloc, left.tree, all.list)?,
+        height: left.height.max(all.height) + 1,
+        level: 16,
+        rest: all.rest,
+    })
 }
 
 /// The arguments of a call, behind its `(`.

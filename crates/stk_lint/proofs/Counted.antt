@@ -9,9 +9,9 @@ use Rattle.stk_meaning.specs.declared.finding.Finding.{Finding}
 use Rattle.stk_meaning.specs.declared.finding.Finding.TheVariants.{Clear, Unstable, Undecided}
 use Rattle.stk_meaning.specs.Parts.{statement_candidates, part_candidates, parts_candidates, candidates}
 use Rattle.stk_small.specs.SmallForm.{IsSmallFunction}
-use Rattle.stk_lint.specs.declared.records.Counts.{Counts}
+use Rattle.stk_records.specs.declared.records.Counts.{Counts}
+use Rattle.stk_records.specs.Counts.{AreAtMost}
 use Rattle.stk_lint.specs.LawfulText.{Prints, unstable_count, IsUnitText, accepted, judged, skipped}
-use Rattle.stk_lint.specs.Judged.{AreAtMost}
 use Rattle.stk_lint.proofs.Findings.{length_same}
 
 -- ---- candidates are no more than tokens

@@ -15,7 +15,7 @@ use Rattle.stk_meaning.specs.Runs.{path}
 use Rattle.stk_meaning.specs.Parts.{conditions}
 use Rattle.stk_meaning.specs.Findings.{members, need, Answers, NoAnswer, IsFirstAnswer, IsMinimal, no_more, member, no_member, IsLawful}
 use Rattle.stk_meaning.proofs.HitLemmas.{found, finds}
-use Rattle.stk_lint.specs.Maps.{IsMap}
+use Rattle.stk_judge.specs.Maps.{IsMap}
 use Rattle.stk_lint.specs.LawfulText.{AreLawful}
 
 -- ---- the first map that passes

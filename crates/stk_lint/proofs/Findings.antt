@@ -6,12 +6,12 @@ use Rattle.stk_meaning.specs.declared.candidate.Candidate.{Candidate}
 use Rattle.stk_meaning.specs.declared.finding.Finding.{Finding}
 use Rattle.stk_meaning.specs.declared.finding.Finding.TheVariants.{Clear, Unstable, Undecided}
 use Rattle.stk_meaning.specs.Findings.{IsLawful}
-use Rattle.stk_lint.specs.declared.records.Counts.{Counts}
-use Rattle.stk_lint.specs.Records.{finding_text, findings_text}
+use Rattle.stk_records.specs.declared.records.Counts.{Counts}
+use Rattle.stk_records.specs.Records.{finding_text, findings_text}
 use Rattle.stk_meaning.specs.Parts.{candidates}
 use Rattle.stk_lint.specs.LawfulText.{AreLawful, unstable_count}
 use Rattle.stk_lint.specs.Judged.{AddsFindings, IsJudged}
-use Rattle.stk_lint.proofs.Joined.{joined}
+use Rattle.stk_records.proofs.Joined.{joined}
 
 count_more : (xs : List Finding) (x : Finding) → unstable_count (xs ++ x ∷ []) ≡ unstable_count xs + unstable_count (x ∷ [])
 count_more [] x = omega arith

@@ -8,10 +8,11 @@ use Rattle.stk_base.specs.Streams.{Appended, AppendedFront, IsFlushed}
 use Rattle.stk_lex.specs.declared.token.Token.{Token}
 use Rattle.stk_units.specs.declared.cutting.Piece.{Piece}
 use Rattle.stk_units.specs.Units.{AreJoined}
-use Rattle.stk_lint.specs.declared.records.Counts.{Counts}
-use Rattle.stk_lint.specs.Records.{summary_text}
-use Rattle.stk_lint.specs.LawfulText.{nothing_counted, counts_sum, status_of, tokens_of_piece, AreUnitTexts, no_unit, then_unit, IsLawfulText}
-use Rattle.stk_lint.specs.Judged.{AreAtMost, WroteUnit, WroteUnitFront, WroteUnits, WroteUnitsFront}
+use Rattle.stk_records.specs.declared.records.Counts.{Counts}
+use Rattle.stk_records.specs.Records.{summary_text}
+use Rattle.stk_records.specs.Counts.{nothing_counted, counts_sum, AreAtMost}
+use Rattle.stk_lint.specs.LawfulText.{status_of, tokens_of_piece, AreUnitTexts, no_unit, then_unit, IsLawfulText}
+use Rattle.stk_lint.specs.Judged.{WroteUnit, WroteUnitFront, WroteUnits, WroteUnitsFront}
 use Rattle.stk_lint.specs.Lint.{AreUnitsOf, TookText, TookFront}
 use Rattle.stk_lint.proofs.Counted.{unit_most}
 use Rattle.stk_lint.proofs.Units.{piece_some, joined_up, text_of_unit, texts_of_units}

@@ -1,10 +1,5 @@
-pub mod Joined
 pub mod Plain
 pub mod Findings
-pub mod MapOrder
-pub mod Search
-pub mod Deletion
-pub mod Needed
 pub mod Complete
 pub mod Exists
 pub mod Counted

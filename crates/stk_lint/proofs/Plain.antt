@@ -9,14 +9,15 @@ use Rattle.stk_tree.specs.Syntax.{ExprTree, DeclrTree, DeclrTrees, DeclarationTr
 use Rattle.stk_tree.specs.Syntax as s
 use Rattle.stk_lex.specs.declared.token.Token.{Token}
 use Rattle.stk_lexeme.specs.Lexemes.{lexemes_of, spans_of}
-use Rattle.stk_lint.specs.declared.records.Counts.{Counts}
-use Rattle.stk_lint.specs.LawfulText.{IsSkipped, IsUnitText, Prints, accepted, is_definition, judged, no_types, nothing_counted, one_skipped, skipped}
-use Rattle.stk_lint.specs.Records.{skip_text}
+use Rattle.stk_records.specs.declared.records.Counts.{Counts}
+use Rattle.stk_lint.specs.LawfulText.{IsSkipped, IsUnitText, Prints, accepted, is_definition, judged, no_types, one_skipped, skipped}
+use Rattle.stk_records.specs.Records.{skip_text}
 use Rattle.stk_lint.specs.Judged.{IsJudged, IsReadAs}
 use Rattle.stk_tree.specs.declared.node.Node.{Node}
 use Rattle.stk_stmt_grammar.proofs.LaidUnits.{one_laid_unit}
-use Rattle.stk_lint.specs.declared.records.Cause.{Cause}
-use Rattle.stk_lint.specs.declared.records.Cause.TheVariants.{OtherForm}
+use Rattle.stk_records.specs.declared.records.Cause.{Cause}
+use Rattle.stk_records.specs.declared.records.Cause.TheVariants.{OtherForm}
+use Rattle.stk_records.specs.Counts.{nothing_counted}
 use Rattle.stk_small.specs.SmallForm.{IsOperand, IsTermOperator, IsComparison, IsTerm, IsSum, IsCondition, IsReturn, IsTest, IsLocal, AreTests, AreParts, IsSmallFunction, IsSmall, is_small_number, is_decimal}
 use Rattle.stk_meaning.specs.Values.{compares, is_arithmetic}
 use Rattle.stk_meaning.specs.Forms.{IsPlainTerm, IsPlainTest, IsPlainLocal, IsPlainStatement, ArePlainParts, IsPlain}

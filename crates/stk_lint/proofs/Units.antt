@@ -19,10 +19,11 @@ use Rattle.stk_meaning.specs.Parts.{candidates}
 use Rattle.stk_small.specs.SmallForm.{IsSmall}
 use Rattle.stk_small.specs.SmallTests.{is_small}
 use Rattle.stk_small.proofs.FormTests.{small_found, small_tested}
-use Rattle.stk_lint.specs.declared.records.Cause.TheVariants.{NoTree, OtherForm}
-use Rattle.stk_lint.specs.declared.records.Counts.{Counts}
-use Rattle.stk_lint.specs.Records.{findings_text, skip_text}
-use Rattle.stk_lint.specs.LawfulText.{AreUnitTexts, IsSkipped, IsUnitText, accepted, counts_sum, judged, no_types, no_unit, nothing_counted, one_skipped, skipped, then_unit, tokens_of_piece}
+use Rattle.stk_records.specs.declared.records.Cause.TheVariants.{NoTree, OtherForm}
+use Rattle.stk_records.specs.declared.records.Counts.{Counts}
+use Rattle.stk_records.specs.Records.{findings_text, skip_text}
+use Rattle.stk_records.specs.Counts.{nothing_counted, counts_sum}
+use Rattle.stk_lint.specs.LawfulText.{AreUnitTexts, IsSkipped, IsUnitText, accepted, judged, no_types, no_unit, one_skipped, skipped, then_unit, tokens_of_piece}
 use Rattle.stk_lint.specs.Judged.{IsReadAs}
 use Rattle.stk_lint.proofs.Exists.{findings_of}
 use Rattle.stk_lint.proofs.Plain.{read_other}

@@ -10,8 +10,8 @@ use Rattle.stk_tree.specs.Layout.{unit_laid_out}
 use Rattle.stk_meaning.specs.declared.candidate.Candidate.{Candidate}
 use Rattle.stk_meaning.specs.declared.finding.Finding.{Finding}
 use Rattle.stk_meaning.specs.Parts.{candidates}
-use Rattle.stk_lint.specs.declared.records.Counts.{Counts}
-use Rattle.stk_lint.specs.Records.{findings_text}
+use Rattle.stk_records.specs.declared.records.Counts.{Counts}
+use Rattle.stk_records.specs.Records.{findings_text}
 use Rattle.stk_lint.specs.LawfulText.{AreLawful, unstable_count, one_judged, IsUnitOf, IsUnitText, AreUnitTexts}
 
 -- the records of lawful findings for these candidates were added to a text; so many of them are reports
@@ -32,14 +32,6 @@ pub record IsJudged (bytes : List ℕ) (f : FunctionTree) (text : List ℕ) (cou
 pub record IsReadAs (bytes : List ℕ) (tokens : List Token) (unit : UnitTree) : Type 0 where
   pub is : IsUnitOf bytes tokens unit
   pub laid_out : unit ≡ unit_laid_out (spans_of tokens) (bare_unit unit)
-
--- each count is at most n
-pub record AreAtMost (n : ℕ) (counts : Counts) : Type 0 where
-  pub functions : counts.functions ≤ n
-  pub candidates : counts.candidates ≤ n
-  pub unstable : counts.unstable ≤ n
-  pub undecided : counts.undecided ≤ n
-  pub skipped : counts.skipped ≤ n
 
 -- a sink took what is written of a unit
 pub record WroteUnit (bytes : List ℕ) (tokens : List Token) (before after : Option (List ℕ)) (counts : Counts) : Type 0 where

@@ -22,10 +22,11 @@ use Rattle.stk_meaning.specs.declared.finding.Finding.TheVariants.{Clear, Unstab
 use Rattle.stk_meaning.specs.Findings.{IsLawful}
 use Rattle.stk_meaning.specs.Parts.{candidates}
 use Rattle.stk_small.specs.SmallForm.{IsSmall}
-use Rattle.stk_lint.specs.declared.records.Cause.{Cause}
-use Rattle.stk_lint.specs.declared.records.Cause.TheVariants.{NoTree, OtherForm}
-use Rattle.stk_lint.specs.declared.records.Counts.{Counts}
-use Rattle.stk_lint.specs.Records.{findings_text, skip_text, summary_text}
+use Rattle.stk_records.specs.declared.records.Cause.{Cause}
+use Rattle.stk_records.specs.declared.records.Cause.TheVariants.{NoTree, OtherForm}
+use Rattle.stk_records.specs.declared.records.Counts.{Counts}
+use Rattle.stk_records.specs.Records.{findings_text, skip_text, summary_text}
+use Rattle.stk_records.specs.Counts.{nothing_counted, counts_sum}
 
 -- each candidate has a lawful finding
 abbrev pub AreLawful : List ℕ → FunctionTree → List Candidate → List Finding → Type 0
@@ -47,10 +48,6 @@ status_of (suc n) = Found
 
 -- ---- counts
 
--- nothing is counted yet
-abbrev pub nothing_counted : Counts
-nothing_counted = record { functions = 0; candidates = 0; unstable = 0; undecided = 0; skipped = 0 }
-
 -- the counts of a unit that is skipped
 abbrev pub one_skipped : Counts
 one_skipped = record { functions = 0; candidates = 0; unstable = 0; undecided = 0; skipped = 1 }
@@ -58,16 +55,6 @@ one_skipped = record { functions = 0; candidates = 0; unstable = 0; undecided = 
 -- the counts of a function with these findings
 abbrev pub one_judged : List Finding → Counts
 one_judged findings = record { functions = 1; candidates = length findings; unstable = unstable_count findings; undecided = 0; skipped = 0 }
-
--- the counts of two parts of a file together
-abbrev pub counts_sum : Counts → Counts → Counts
-counts_sum a b = record {
-  functions = a.functions + b.functions;
-  candidates = a.candidates + b.candidates;
-  unstable = a.unstable + b.unstable;
-  undecided = a.undecided + b.undecided;
-  skipped = a.skipped + b.skipped;
-}
 
 -- ---- units
 

@@ -4,16 +4,16 @@ ghost use Rattle.std.specs.Prelude.{◌≡◌, ◌↔◌, ◌⊎◌, ◌≤◌, 
 ghost use Rattle.stk_base.specs.Causes.{Rose, HasCause};
 ghost use Rattle.stk_base.specs.Streams.{Came, Appended, AppendedFront, IsFlushed};
 ghost use Rattle.stk_units.specs.Units.{AreJoined};
-ghost use Rattle.stk_lint.specs.Records.{summary_text};
+ghost use Rattle.stk_records.specs.Records.{summary_text};
 ghost use Rattle.stk_lint.specs.LawfulText.{status_of, tokens_of_piece};
 ghost use Rattle.stk_lint.specs.Judged.{WroteUnit, WroteUnitFront, WroteUnits, WroteUnitsFront};
 ghost use Rattle.stk_lint.specs.Lint.{IsWritten, IsUnread, fault_line, HasWritten, HasWrittenFront, IsSkimmedFrom, AreUnitsOf, TookText, TookFront, status_after};
 
-use crate::records::{Counts, add_summary};
 use crate::report::unit_text;
 use std::alloc::Global;
 use stk_base::{Failed, List, NoMemory, ReadAll, Sink, Source, Status, read_all, write_all};
 use stk_lex::{Places, Token, lex};
+use stk_records::{Counts, add_summary};
 use stk_units::{Piece, Skimmed, cut, skim};
 
 /// The most bytes that an input may have.

@@ -4,19 +4,19 @@ ghost use Rattle.std.specs.Prelude.{◌≡◌, ◌≤◌, ◌<◌, ◌∷◌, []
 ghost use Rattle.stk_tree.specs.View.{view_function, view_unit};
 ghost use Rattle.stk_meaning.specs.Forms.{IsPlain};
 ghost use Rattle.stk_meaning.specs.Parts.{conditions, candidates};
-ghost use Rattle.stk_lint.specs.Records.{function_nodes, skip_text};
-ghost use Rattle.stk_lint.specs.LawfulText.{unstable_count, nothing_counted, one_skipped, IsSkipped, IsUnitText};
+ghost use Rattle.stk_records.specs.Records.{function_nodes, skip_text};
+ghost use Rattle.stk_records.specs.Counts.{nothing_counted};
+ghost use Rattle.stk_lint.specs.LawfulText.{unstable_count, one_skipped, IsSkipped, IsUnitText};
 ghost use Rattle.stk_lint.specs.Judged.{AddsFindings, IsJudged, IsReadAs};
 
-use crate::judging::judge;
-use crate::nodes::nodes_of;
-use crate::records::{Cause, Counts, add_finding, add_skip};
 use std::alloc::Global;
 use stk_base::{Boxed, NoMemory};
 use stk_ctype::Names;
 use stk_expr::Parse;
+use stk_judge::judge;
 use stk_lex::{Places, Token};
 use stk_meaning::{Candidate, Condition, Finding, candidates_of, conditions_of};
+use stk_records::{Cause, Counts, add_finding, add_skip, nodes_of};
 use stk_small::is_small;
 use stk_stmt::unit;
 use stk_tree::{Function, Node, Unit};

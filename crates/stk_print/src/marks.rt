@@ -1,28 +1,90 @@
 //! The tokens of a tree's leaves.
-ghost use Rattle.std.specs.Prelude.{◌≡◌, ◌++◌, map, OnOk};
+ghost use Rattle.std.specs.Prelude.{◌≡◌, ◌++◌, ◌∷◌, [], map, OnOk};
 ghost use Rattle.stk_tree.specs.Tokens.{assign_mark, binary_mark, last_comma, more_tokens, optional_word, path_end, reserved, stars, storage_tokens, texts, unary_mark, word};
 ghost use Rattle.stk_tree.specs.View.{designators, view_designator};
+ghost use Rattle.stk_tree.specs.declared.fixed.Fixed.TheVariants as fixed;
+ghost use Rattle.stk_tree.specs.declared.fixed.Lexeme.TheVariants.{Leaf, Fixed as Token};
 
 use std::alloc::AllocError;
 use stk_base::{Class, Span};
 use stk_tree::{AssignOp, BinaryOp, Desig, Fixed, Lexeme, Storage, UnaryOp};
 
+/// Puts a reserved word or a mark.
+pub fn put_mark(out: &mut Vec<Lexeme>, mark: Fixed) -> Result<(), AllocError>
+    ensures { OnOk result (out.new.items ≡ out.old.items ++ Token mark ∷ []) }
+{
+    out.push(Lexeme::Fixed(mark))?;
+    Ok(())
+}
+
+/// Puts two marks.
+pub fn put_marks(out: &mut Vec<Lexeme>, first: Fixed, second: Fixed) -> Result<(), AllocError>
+    ensures { OnOk result (out.new.items ≡ out.old.items ++ Token first ∷ Token second ∷ []) }
+{
+    put_mark(out, first)?;
+    put_mark(out, second)
+}
+
+/// Puts a token whose text stands in the input.
+pub fn put_leaf(out: &mut Vec<Lexeme>, class: Class, at: Span) -> Result<(), AllocError>
+    ensures { OnOk result (out.new.items ≡ out.old.items ++ Leaf class at ∷ []) }
+{
+    out.push(Lexeme::Leaf(class, at))?;
+    Ok(())
+}
+
 /// Puts a word of the input.
 pub fn put_word(out: &mut Vec<Lexeme>, at: Span) -> Result<(), AllocError>
     ensures { OnOk result (out.new.items ≡ out.old.items ++ word at) }
 {
-    out.push(Lexeme::Leaf(Class::Word, at))?;
-    Ok(())
+    put_leaf(out, Class::Word, at)
+}
+
+/// Puts a reserved word or a mark, and a word of the input behind it.
+pub fn put_tag(out: &mut Vec<Lexeme>, mark: Fixed, at: Span) -> Result<(), AllocError>
+    ensures { OnOk result (out.new.items ≡ out.old.items ++ Token mark ∷ word at) }
+{
+    put_mark(out, mark)?;
+    put_word(out, at)
+}
+
+/// Puts `struct` or `enum`, the tag that may be missing, and `{`.
+pub fn put_opening(
+    out: &mut Vec<Lexeme>,
+    keyword: Fixed,
+    tag: Option<Span>,
+) -> Result<(), AllocError>
+    ensures { OnOk result (out.new.items ≡ out.old.items ++ Token keyword ∷ optional_word tag ++ Token fixed.LeftBrace ∷ []) }
+{
+    put_mark(out, keyword)?;
+    put_optional_word(out, tag)?;
+    put_mark(out, Fixed::LeftBrace)
+}
+
+/// Puts the comma that may stand before a brace, and the brace.
+pub fn put_closing(out: &mut Vec<Lexeme>, comma: bool) -> Result<(), AllocError>
+    ensures { OnOk result (out.new.items ≡ out.old.items ++ last_comma comma ++ Token fixed.RightBrace ∷ []) }
+{
+    put_last_comma(out, comma)?;
+    put_mark(out, Fixed::RightBrace)
+}
+
+/// Puts `(void)`.
+pub fn put_no_parameters(out: &mut Vec<Lexeme>) -> Result<(), AllocError>
+    ensures { OnOk result (out.new.items ≡ out.old.items ++ Token fixed.LeftParen ∷ Token fixed.Void ∷ Token fixed.RightParen ∷ []) }
+{
+    put_mark(out, Fixed::LeftParen)?;
+    put_marks(out, Fixed::Void, Fixed::RightParen)
 }
 
 /// Puts a name that may be missing.
 pub fn put_optional_word(out: &mut Vec<Lexeme>, name: Option<Span>) -> Result<(), AllocError>
     ensures { OnOk result (out.new.items ≡ out.old.items ++ optional_word name) }
 {
-    if let Some(at) = name {
-        put_word(out, at)?;
+    match name {
+        None => Ok(()),
+        Some(at) => put_word(out, at),
     }
-    Ok(())
 }
 
 /// Puts string literals in a row.
@@ -56,13 +118,14 @@ pub fn put_stars(out: &mut Vec<Lexeme>, count: u32) -> Result<(), AllocError>
 }
 
 /// Puts the comma that may stand before a brace.
-pub fn put_last_comma(out: &mut Vec<Lexeme>, comma: bool) -> Result<(), AllocError>
+fn put_last_comma(out: &mut Vec<Lexeme>, comma: bool) -> Result<(), AllocError>
     ensures { OnOk result (out.new.items ≡ out.old.items ++ last_comma comma) }
 {
     if comma {
-        out.push(Lexeme::Fixed(Fixed::Comma))?;
+        put_mark(out, Fixed::Comma)
+    } else {
+        Ok(())
     }
-    Ok(())
 }
 
 /// Puts the `, ...` that may end a parameter list.
@@ -70,10 +133,10 @@ pub fn put_more(out: &mut Vec<Lexeme>, more: bool) -> Result<(), AllocError>
     ensures { OnOk result (out.new.items ≡ out.old.items ++ more_tokens more) }
 {
     if more {
-        out.push(Lexeme::Fixed(Fixed::Comma))?;
-        out.push(Lexeme::Fixed(Fixed::Ellipsis))?;
+        put_marks(out, Fixed::Comma, Fixed::Ellipsis)
+    } else {
+        Ok(())
     }
-    Ok(())
 }
 
 /// Puts the `=` after designators, where there are any.
@@ -81,12 +144,9 @@ pub fn put_path_end(out: &mut Vec<Lexeme>, path: &[Desig]) -> Result<(), AllocEr
     ensures { OnOk result (out.new.items ≡ out.old.items ++ path_end (designators (map view_designator path.now))) }
 {
     match path {
-        [] => {}
-        [_, _rest @ ..] => {
-            out.push(Lexeme::Fixed(Fixed::Assign))?;
-        }
+        [] => Ok(()),
+        [_, _rest @ ..] => put_mark(out, Fixed::Assign),
     }
-    Ok(())
 }
 
 /// Puts the storage word, which may be missing.
@@ -94,18 +154,11 @@ pub fn put_storage(out: &mut Vec<Lexeme>, storage: Option<Storage>) -> Result<()
     ensures { OnOk result (out.new.items ≡ out.old.items ++ storage_tokens storage) }
 {
     match storage {
-        None => {}
-        Some(Storage::Typedef) => {
-            out.push(Lexeme::Fixed(Fixed::Typedef))?;
-        }
-        Some(Storage::Extern) => {
-            out.push(Lexeme::Fixed(Fixed::Extern))?;
-        }
-        Some(Storage::Static) => {
-            out.push(Lexeme::Fixed(Fixed::Static))?;
-        }
+        None => Ok(()),
+        Some(Storage::Typedef) => put_mark(out, Fixed::Typedef),
+        Some(Storage::Extern) => put_mark(out, Fixed::Extern),
+        Some(Storage::Static) => put_mark(out, Fixed::Static),
     }
-    Ok(())
 }
 
 /// The mark of a unary operator.

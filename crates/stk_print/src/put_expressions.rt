@@ -1,14 +1,17 @@
 //! The tokens of an expression and of what it holds.
-ghost use Rattle.std.specs.Prelude.{◌≡◌, ◌++◌, map, OnOk};
-ghost use Rattle.stk_tree.specs.Tokens.{base_form_tokens, base_tokens, declarator_tokens, declarators_tokens, designator_tokens, designators_tokens, dimension_tokens, dimensions_tokens, enumerator_tokens, enumerators_tokens, expression_form_tokens, expression_tokens, expressions_tokens, initialiser_tokens, item_tokens, items_tokens, member_tokens, members_tokens, parameter_tokens, parameters_tokens, step_tokens, tail_tokens, type_name_tokens};
+ghost use Rattle.std.specs.Prelude.{◌≡◌, ◌++◌, ◌∷◌, [], map, OnOk};
+ghost use Rattle.stk_tree.specs.Tokens.{base_form_tokens, base_tokens, declarator_tokens, declarators_tokens, designator_tokens, designators_tokens, dimension_tokens, dimensions_tokens, enumerator_tokens, enumerators_tokens, expression_form_tokens, expression_tokens, expressions_tokens, initialiser_tokens, item_tokens, items_tokens, last_comma, member_tokens, members_tokens, more_tokens, optional_word, parameter_tokens, parameters_tokens, step_tokens, tail_tokens, type_name_tokens, word};
+ghost use Rattle.stk_tree.specs.declared.fixed.Fixed.TheVariants as fixed;
+ghost use Rattle.stk_tree.specs.declared.fixed.Lexeme.TheVariants.{Fixed as Token};
 ghost use Rattle.stk_tree.specs.View.{declarators, designators, dimensions, enumerators, expressions, items, members, parameters, view_base, view_base_form, view_declarator, view_designator, view_dimension, view_enumerator, view_expression, view_expression_form, view_initialiser, view_item, view_member, view_parameter, view_tail, view_type_name};
 
 use crate::marks::{
-    assign_mark, binary_mark, put_last_comma, put_more, put_optional_word, put_path_end, put_stars,
-    put_texts, put_word, put_words, unary_mark,
+    assign_mark, binary_mark, put_closing, put_leaf, put_mark, put_marks, put_more,
+    put_no_parameters, put_opening, put_optional_word, put_path_end, put_stars, put_tag, put_texts,
+    put_word, put_words, unary_mark,
 };
 use std::alloc::AllocError;
-use stk_base::Class;
+use stk_base::{Class, Span};
 use stk_tree::{
     Base, BaseForm, Declr, Desig, Dimension, Enumr, Expr, ExprForm, Fixed, Init, Item, Lexeme,
     Member, Param, StepOp, Tail, TypeName,
@@ -28,7 +31,7 @@ fn put_expressions(out: &mut Vec<Lexeme>, list: &[Expr]) -> Result<(), AllocErro
     if let [first, rest @ ..] = list {
         put_expression(out, first)?;
         for argument in rest {
-            out.push(Lexeme::Fixed(Fixed::Comma))?;
+            put_mark(out, Fixed::Comma)?;
             put_expression(out, argument)?;
         }
     }
@@ -40,87 +43,117 @@ fn put_expression_form(out: &mut Vec<Lexeme>, x: &ExprForm) -> Result<(), AllocE
     ensures { OnOk result (out.new.items ≡ out.old.items ++ expression_form_tokens (view_expression_form x.now)) }
 {
     match x {
-        ExprForm::Name(at) => {
-            put_word(out, *at)?;
-        }
-        ExprForm::Number(at) => {
-            out.push(Lexeme::Leaf(Class::Number, *at))?;
-        }
-        ExprForm::Character(at) => {
-            out.push(Lexeme::Leaf(Class::Character, *at))?;
-        }
-        ExprForm::Text(parts) => {
-            put_texts(out, parts.as_slice())?;
-        }
-        ExprForm::Paren(e) => {
-            out.push(Lexeme::Fixed(Fixed::LeftParen))?;
-            put_expression(out, e.get())?;
-            out.push(Lexeme::Fixed(Fixed::RightParen))?;
-        }
+        ExprForm::Name(at) => put_word(out, *at),
+        ExprForm::Number(at) => put_leaf(out, Class::Number, *at),
+        ExprForm::Character(at) => put_leaf(out, Class::Character, *at),
+        ExprForm::Text(parts) => put_texts(out, parts.as_slice()),
+        ExprForm::Paren(e) => put_bracketed(out, Fixed::LeftParen, e.get(), Fixed::RightParen),
         ExprForm::Index(a, b) => {
-            put_expression(out, a.get())?;
-            out.push(Lexeme::Fixed(Fixed::LeftBracket))?;
-            put_expression(out, b.get())?;
-            out.push(Lexeme::Fixed(Fixed::RightBracket))?;
+            put_before(out, a.get(), Fixed::LeftBracket)?;
+            put_before(out, b.get(), Fixed::RightBracket)
         }
         ExprForm::Call(f, list) => {
-            put_expression(out, f.get())?;
-            out.push(Lexeme::Fixed(Fixed::LeftParen))?;
-            put_expressions(out, list.as_slice())?;
-            out.push(Lexeme::Fixed(Fixed::RightParen))?;
+            put_before(out, f.get(), Fixed::LeftParen)?;
+            put_arguments(out, list.as_slice())
         }
-        ExprForm::Dot(e, name) => {
-            put_expression(out, e.get())?;
-            out.push(Lexeme::Fixed(Fixed::Dot))?;
-            put_word(out, *name)?;
-        }
-        ExprForm::Arrow(e, name) => {
-            put_expression(out, e.get())?;
-            out.push(Lexeme::Fixed(Fixed::Arrow))?;
-            put_word(out, *name)?;
-        }
-        ExprForm::Step(op, e) => {
-            put_step(out, *op, e.get())?;
-        }
-        ExprForm::Unary(op, e) => {
-            out.push(Lexeme::Fixed(unary_mark(*op)))?;
-            put_expression(out, e.get())?;
-        }
-        ExprForm::SizeExpr(e) => {
-            out.push(Lexeme::Fixed(Fixed::Sizeof))?;
-            put_expression(out, e.get())?;
-        }
-        ExprForm::SizeName(t) => {
-            out.push(Lexeme::Fixed(Fixed::Sizeof))?;
-            out.push(Lexeme::Fixed(Fixed::LeftParen))?;
-            put_type_name(out, t)?;
-            out.push(Lexeme::Fixed(Fixed::RightParen))?;
-        }
+        ExprForm::Dot(e, name) => put_member_of(out, e.get(), Fixed::Dot, *name),
+        ExprForm::Arrow(e, name) => put_member_of(out, e.get(), Fixed::Arrow, *name),
+        ExprForm::Step(op, e) => put_step(out, *op, e.get()),
+        ExprForm::Unary(op, e) => put_behind(out, unary_mark(*op), e.get()),
+        ExprForm::SizeExpr(e) => put_behind(out, Fixed::Sizeof, e.get()),
+        ExprForm::SizeName(t) => put_size(out, t),
         ExprForm::Cast(t, e) => {
-            out.push(Lexeme::Fixed(Fixed::LeftParen))?;
-            put_type_name(out, t)?;
-            out.push(Lexeme::Fixed(Fixed::RightParen))?;
-            put_expression(out, e.get())?;
+            put_type(out, t)?;
+            put_expression(out, e.get())
         }
         ExprForm::Binary(op, a, b) => {
-            put_expression(out, a.get())?;
-            out.push(Lexeme::Fixed(binary_mark(*op)))?;
-            put_expression(out, b.get())?;
+            put_before(out, a.get(), binary_mark(*op))?;
+            put_expression(out, b.get())
         }
         ExprForm::Choice(a, b, c) => {
-            put_expression(out, a.get())?;
-            out.push(Lexeme::Fixed(Fixed::Question))?;
-            put_expression(out, b.get())?;
-            out.push(Lexeme::Fixed(Fixed::Colon))?;
-            put_expression(out, c.get())?;
+            put_before(out, a.get(), Fixed::Question)?;
+            put_before(out, b.get(), Fixed::Colon)?;
+            put_expression(out, c.get())
         }
         ExprForm::Assign(op, a, b) => {
-            put_expression(out, a.get())?;
-            out.push(Lexeme::Fixed(assign_mark(*op)))?;
-            put_expression(out, b.get())?;
+            put_before(out, a.get(), assign_mark(*op))?;
+            put_expression(out, b.get())
         }
     }
-    Ok(())
+}
+
+/// Puts an expression and a mark.
+#[cycle(put)]
+fn put_before(out: &mut Vec<Lexeme>, x: &Expr, mark: Fixed) -> Result<(), AllocError>
+    ensures { OnOk result (out.new.items ≡ out.old.items ++ expression_tokens (view_expression x.now) ++ Token mark ∷ []) }
+{
+    put_expression(out, x)?;
+    put_mark(out, mark)
+}
+
+/// Puts a mark and an expression.
+#[cycle(put)]
+fn put_behind(out: &mut Vec<Lexeme>, mark: Fixed, x: &Expr) -> Result<(), AllocError>
+    ensures { OnOk result (out.new.items ≡ out.old.items ++ Token mark ∷ expression_tokens (view_expression x.now)) }
+{
+    put_mark(out, mark)?;
+    put_expression(out, x)
+}
+
+/// Puts an expression between two marks.
+#[cycle(put)]
+fn put_bracketed(
+    out: &mut Vec<Lexeme>,
+    left: Fixed,
+    x: &Expr,
+    right: Fixed,
+) -> Result<(), AllocError>
+    ensures { OnOk result (out.new.items ≡ out.old.items ++ Token left ∷ expression_tokens (view_expression x.now) ++ Token right ∷ []) }
+{
+    put_behind(out, left, x)?;
+    put_mark(out, right)
+}
+
+/// Puts arguments and the parenthesis behind them.
+#[cycle(put)]
+fn put_arguments(out: &mut Vec<Lexeme>, list: &[Expr]) -> Result<(), AllocError>
+    ensures { OnOk result (out.new.items ≡ out.old.items ++ expressions_tokens (expressions (map view_expression list.now)) ++ Token fixed.RightParen ∷ []) }
+{
+    put_expressions(out, list)?;
+    put_mark(out, Fixed::RightParen)
+}
+
+/// Puts `whole.member` or `whole->member`.
+#[cycle(put)]
+fn put_member_of(
+    out: &mut Vec<Lexeme>,
+    whole: &Expr,
+    mark: Fixed,
+    member: Span,
+) -> Result<(), AllocError>
+    ensures { OnOk result (out.new.items ≡ out.old.items ++ expression_tokens (view_expression whole.now) ++ Token mark ∷ word member) }
+{
+    put_before(out, whole, mark)?;
+    put_word(out, member)
+}
+
+/// Puts a type name in parentheses.
+#[cycle(put)]
+fn put_type(out: &mut Vec<Lexeme>, x: &TypeName) -> Result<(), AllocError>
+    ensures { OnOk result (out.new.items ≡ out.old.items ++ Token fixed.LeftParen ∷ type_name_tokens (view_type_name x.now) ++ Token fixed.RightParen ∷ []) }
+{
+    put_mark(out, Fixed::LeftParen)?;
+    put_type_name(out, x)?;
+    put_mark(out, Fixed::RightParen)
+}
+
+/// Puts `sizeof (type)`.
+#[cycle(put)]
+fn put_size(out: &mut Vec<Lexeme>, x: &TypeName) -> Result<(), AllocError>
+    ensures { OnOk result (out.new.items ≡ out.old.items ++ Token fixed.Sizeof ∷ Token fixed.LeftParen ∷ type_name_tokens (view_type_name x.now) ++ Token fixed.RightParen ∷ []) }
+{
+    put_mark(out, Fixed::Sizeof)?;
+    put_type(out, x)
 }
 
 #[cycle(put)]
@@ -128,24 +161,11 @@ fn put_step(out: &mut Vec<Lexeme>, op: StepOp, x: &Expr) -> Result<(), AllocErro
     ensures { OnOk result (out.new.items ≡ out.old.items ++ step_tokens op (expression_tokens (view_expression x.now))) }
 {
     match op {
-        StepOp::IncBefore => {
-            out.push(Lexeme::Fixed(Fixed::PlusPlus))?;
-            put_expression(out, x)?;
-        }
-        StepOp::DecBefore => {
-            out.push(Lexeme::Fixed(Fixed::MinusMinus))?;
-            put_expression(out, x)?;
-        }
-        StepOp::IncAfter => {
-            put_expression(out, x)?;
-            out.push(Lexeme::Fixed(Fixed::PlusPlus))?;
-        }
-        StepOp::DecAfter => {
-            put_expression(out, x)?;
-            out.push(Lexeme::Fixed(Fixed::MinusMinus))?;
-        }
+        StepOp::IncBefore => put_behind(out, Fixed::PlusPlus, x),
+        StepOp::DecBefore => put_behind(out, Fixed::MinusMinus, x),
+        StepOp::IncAfter => put_before(out, x, Fixed::PlusPlus),
+        StepOp::DecAfter => put_before(out, x, Fixed::MinusMinus),
     }
-    Ok(())
 }
 
 #[cycle(put)]
@@ -161,12 +181,10 @@ fn put_type_name(out: &mut Vec<Lexeme>, x: &TypeName) -> Result<(), AllocError>
 fn put_dimension(out: &mut Vec<Lexeme>, x: &Dimension) -> Result<(), AllocError>
     ensures { OnOk result (out.new.items ≡ out.old.items ++ dimension_tokens (view_dimension x.now)) }
 {
-    out.push(Lexeme::Fixed(Fixed::LeftBracket))?;
-    if let Dimension::Sized(e) = x {
-        put_expression(out, e)?;
+    match x {
+        Dimension::Open => put_marks(out, Fixed::LeftBracket, Fixed::RightBracket),
+        Dimension::Sized(e) => put_bracketed(out, Fixed::LeftBracket, e, Fixed::RightBracket),
     }
-    out.push(Lexeme::Fixed(Fixed::RightBracket))?;
-    Ok(())
 }
 
 #[cycle(put)]
@@ -191,37 +209,38 @@ fn put_base_form(out: &mut Vec<Lexeme>, x: &BaseForm) -> Result<(), AllocError>
     ensures { OnOk result (out.new.items ≡ out.old.items ++ base_form_tokens (view_base_form x.now)) }
 {
     match x {
-        BaseForm::Words(words) => {
-            put_words(out, words.as_slice())?;
-        }
-        BaseForm::StructRef(tag) => {
-            out.push(Lexeme::Fixed(Fixed::Struct))?;
-            put_word(out, *tag)?;
-        }
-        BaseForm::StructDef(tag, list) => {
-            out.push(Lexeme::Fixed(Fixed::Struct))?;
-            put_optional_word(out, *tag)?;
-            out.push(Lexeme::Fixed(Fixed::LeftBrace))?;
-            put_members(out, list.as_slice())?;
-            out.push(Lexeme::Fixed(Fixed::RightBrace))?;
-        }
-        BaseForm::EnumRef(tag) => {
-            out.push(Lexeme::Fixed(Fixed::Enum))?;
-            put_word(out, *tag)?;
-        }
-        BaseForm::EnumDef(tag, list, comma) => {
-            out.push(Lexeme::Fixed(Fixed::Enum))?;
-            put_optional_word(out, *tag)?;
-            out.push(Lexeme::Fixed(Fixed::LeftBrace))?;
-            put_enumerators(out, list.as_slice())?;
-            put_last_comma(out, *comma)?;
-            out.push(Lexeme::Fixed(Fixed::RightBrace))?;
-        }
-        BaseForm::Named(name) => {
-            put_word(out, *name)?;
-        }
+        BaseForm::Words(words) => put_words(out, words.as_slice()),
+        BaseForm::StructRef(tag) => put_tag(out, Fixed::Struct, *tag),
+        BaseForm::StructDef(tag, list) => put_struct(out, *tag, list.as_slice()),
+        BaseForm::EnumRef(tag) => put_tag(out, Fixed::Enum, *tag),
+        BaseForm::EnumDef(tag, list, comma) => put_enum(out, *tag, list.as_slice(), *comma),
+        BaseForm::Named(name) => put_word(out, *name),
     }
-    Ok(())
+}
+
+/// Puts a `struct` with its members.
+#[cycle(put)]
+fn put_struct(out: &mut Vec<Lexeme>, tag: Option<Span>, list: &[Member]) -> Result<(), AllocError>
+    ensures { OnOk result (out.new.items ≡ out.old.items ++ Token fixed.Struct ∷ optional_word tag ++ Token fixed.LeftBrace ∷ members_tokens (members (map view_member list.now)) ++ Token fixed.RightBrace ∷ []) }
+{
+    put_opening(out, Fixed::Struct, tag)?;
+    put_members(out, list)?;
+    put_mark(out, Fixed::RightBrace)
+}
+
+/// Puts an `enum` with its enumerators.
+#[cycle(put)]
+fn put_enum(
+    out: &mut Vec<Lexeme>,
+    tag: Option<Span>,
+    list: &[Enumr],
+    comma: bool,
+) -> Result<(), AllocError>
+    ensures { OnOk result (out.new.items ≡ out.old.items ++ Token fixed.Enum ∷ optional_word tag ++ Token fixed.LeftBrace ∷ enumerators_tokens (enumerators (map view_enumerator list.now)) ++ last_comma comma ++ Token fixed.RightBrace ∷ []) }
+{
+    put_opening(out, Fixed::Enum, tag)?;
+    put_enumerators(out, list)?;
+    put_closing(out, comma)
 }
 
 #[cycle(put)]
@@ -230,8 +249,7 @@ fn put_member(out: &mut Vec<Lexeme>, x: &Member) -> Result<(), AllocError>
 {
     put_base(out, &x.base)?;
     put_declarators(out, x.list.as_slice())?;
-    out.push(Lexeme::Fixed(Fixed::Semicolon))?;
-    Ok(())
+    put_mark(out, Fixed::Semicolon)
 }
 
 #[cycle(put)]
@@ -249,11 +267,10 @@ fn put_enumerator(out: &mut Vec<Lexeme>, x: &Enumr) -> Result<(), AllocError>
     ensures { OnOk result (out.new.items ≡ out.old.items ++ enumerator_tokens (view_enumerator x.now)) }
 {
     put_word(out, x.name)?;
-    if let Some(e) = &x.value {
-        out.push(Lexeme::Fixed(Fixed::Assign))?;
-        put_expression(out, e)?;
+    match &x.value {
+        None => Ok(()),
+        Some(e) => put_behind(out, Fixed::Assign, e),
     }
-    Ok(())
 }
 
 #[cycle(put)]
@@ -263,7 +280,7 @@ fn put_enumerators(out: &mut Vec<Lexeme>, list: &[Enumr]) -> Result<(), AllocErr
     if let [first, rest @ ..] = list {
         put_enumerator(out, first)?;
         for x in rest {
-            out.push(Lexeme::Fixed(Fixed::Comma))?;
+            put_mark(out, Fixed::Comma)?;
             put_enumerator(out, x)?;
         }
     }
@@ -277,11 +294,19 @@ pub fn put_declarator(out: &mut Vec<Lexeme>, x: &Declr) -> Result<(), AllocError
     put_stars(out, x.stars)?;
     put_optional_word(out, x.name)?;
     put_tail(out, &x.tail)?;
-    if let Some(init) = &x.init {
-        out.push(Lexeme::Fixed(Fixed::Assign))?;
-        put_initialiser(out, init)?;
+    match &x.init {
+        None => Ok(()),
+        Some(init) => put_start_value(out, init),
     }
-    Ok(())
+}
+
+/// Puts `=` and an initialiser.
+#[cycle(put)]
+fn put_start_value(out: &mut Vec<Lexeme>, x: &Init) -> Result<(), AllocError>
+    ensures { OnOk result (out.new.items ≡ out.old.items ++ Token fixed.Assign ∷ initialiser_tokens (view_initialiser x.now)) }
+{
+    put_mark(out, Fixed::Assign)?;
+    put_initialiser(out, x)
 }
 
 #[cycle(put)]
@@ -291,7 +316,7 @@ pub fn put_declarators(out: &mut Vec<Lexeme>, list: &[Declr]) -> Result<(), Allo
     if let [first, rest @ ..] = list {
         put_declarator(out, first)?;
         for x in rest {
-            out.push(Lexeme::Fixed(Fixed::Comma))?;
+            put_mark(out, Fixed::Comma)?;
             put_declarator(out, x)?;
         }
     }
@@ -303,26 +328,22 @@ fn put_tail(out: &mut Vec<Lexeme>, x: &Tail) -> Result<(), AllocError>
     ensures { OnOk result (out.new.items ≡ out.old.items ++ tail_tokens (view_tail x.now)) }
 {
     match x {
-        Tail::Arrays(list) => {
-            put_dimensions(out, list.as_slice())?;
-        }
-        Tail::Unspecified => {
-            out.push(Lexeme::Fixed(Fixed::LeftParen))?;
-            out.push(Lexeme::Fixed(Fixed::RightParen))?;
-        }
-        Tail::NoParams => {
-            out.push(Lexeme::Fixed(Fixed::LeftParen))?;
-            out.push(Lexeme::Fixed(Fixed::Void))?;
-            out.push(Lexeme::Fixed(Fixed::RightParen))?;
-        }
-        Tail::Params(list, more) => {
-            out.push(Lexeme::Fixed(Fixed::LeftParen))?;
-            put_parameters(out, list.as_slice())?;
-            put_more(out, *more)?;
-            out.push(Lexeme::Fixed(Fixed::RightParen))?;
-        }
+        Tail::Arrays(list) => put_dimensions(out, list.as_slice()),
+        Tail::Unspecified => put_marks(out, Fixed::LeftParen, Fixed::RightParen),
+        Tail::NoParams => put_no_parameters(out),
+        Tail::Params(list, more) => put_some_parameters(out, list.as_slice(), *more),
     }
-    Ok(())
+}
+
+/// Puts parameters in parentheses.
+#[cycle(put)]
+fn put_some_parameters(out: &mut Vec<Lexeme>, list: &[Param], more: bool) -> Result<(), AllocError>
+    ensures { OnOk result (out.new.items ≡ out.old.items ++ Token fixed.LeftParen ∷ parameters_tokens (parameters (map view_parameter list.now)) ++ more_tokens more ++ Token fixed.RightParen ∷ []) }
+{
+    put_mark(out, Fixed::LeftParen)?;
+    put_parameters(out, list)?;
+    put_more(out, more)?;
+    put_mark(out, Fixed::RightParen)
 }
 
 #[cycle(put)]
@@ -340,7 +361,7 @@ fn put_parameters(out: &mut Vec<Lexeme>, list: &[Param]) -> Result<(), AllocErro
     if let [first, rest @ ..] = list {
         put_parameter(out, first)?;
         for x in rest {
-            out.push(Lexeme::Fixed(Fixed::Comma))?;
+            put_mark(out, Fixed::Comma)?;
             put_parameter(out, x)?;
         }
     }
@@ -352,17 +373,19 @@ fn put_initialiser(out: &mut Vec<Lexeme>, x: &Init) -> Result<(), AllocError>
     ensures { OnOk result (out.new.items ≡ out.old.items ++ initialiser_tokens (view_initialiser x.now)) }
 {
     match x {
-        Init::Plain(e) => {
-            put_expression(out, e)?;
-        }
-        Init::Braces(list, comma) => {
-            out.push(Lexeme::Fixed(Fixed::LeftBrace))?;
-            put_items(out, list.as_slice())?;
-            put_last_comma(out, *comma)?;
-            out.push(Lexeme::Fixed(Fixed::RightBrace))?;
-        }
+        Init::Plain(e) => put_expression(out, e),
+        Init::Braces(list, comma) => put_braces(out, list.as_slice(), *comma),
     }
-    Ok(())
+}
+
+/// Puts items in braces.
+#[cycle(put)]
+fn put_braces(out: &mut Vec<Lexeme>, list: &[Item], comma: bool) -> Result<(), AllocError>
+    ensures { OnOk result (out.new.items ≡ out.old.items ++ Token fixed.LeftBrace ∷ items_tokens (items (map view_item list.now)) ++ last_comma comma ++ Token fixed.RightBrace ∷ []) }
+{
+    put_mark(out, Fixed::LeftBrace)?;
+    put_items(out, list)?;
+    put_closing(out, comma)
 }
 
 #[cycle(put)]
@@ -381,7 +404,7 @@ fn put_items(out: &mut Vec<Lexeme>, list: &[Item]) -> Result<(), AllocError>
     if let [first, rest @ ..] = list {
         put_item(out, first)?;
         for x in rest {
-            out.push(Lexeme::Fixed(Fixed::Comma))?;
+            put_mark(out, Fixed::Comma)?;
             put_item(out, x)?;
         }
     }
@@ -393,17 +416,9 @@ fn put_designator(out: &mut Vec<Lexeme>, x: &Desig) -> Result<(), AllocError>
     ensures { OnOk result (out.new.items ≡ out.old.items ++ designator_tokens (view_designator x.now)) }
 {
     match x {
-        Desig::Dot(name) => {
-            out.push(Lexeme::Fixed(Fixed::Dot))?;
-            put_word(out, *name)?;
-        }
-        Desig::At(e) => {
-            out.push(Lexeme::Fixed(Fixed::LeftBracket))?;
-            put_expression(out, e)?;
-            out.push(Lexeme::Fixed(Fixed::RightBracket))?;
-        }
+        Desig::Dot(name) => put_tag(out, Fixed::Dot, *name),
+        Desig::At(e) => put_bracketed(out, Fixed::LeftBracket, e, Fixed::RightBracket),
     }
-    Ok(())
 }
 
 #[cycle(put)]

@@ -5,7 +5,7 @@ ghost use Rattle.stk_tree.specs.View.{given_expression, labels, parts, sections,
 ghost use Rattle.stk_tree.specs.declared.fixed.Fixed.TheVariants as fixed;
 ghost use Rattle.stk_tree.specs.declared.fixed.Lexeme.TheVariants.{Fixed as Token};
 
-use crate::marks::put_storage;
+use crate::marks::{put_mark, put_marks, put_storage};
 use crate::put_expressions::{put_base, put_declarator, put_declarators, put_expression};
 use std::alloc::{AllocError, Global};
 use stk_base::NoMemory;
@@ -16,10 +16,10 @@ use stk_tree::{
 fn put_optional(out: &mut Vec<Lexeme>, x: &Option<Expr>) -> Result<(), AllocError>
     ensures { OnOk result (out.new.items ≡ out.old.items ++ optional_tokens (given_expression x.now)) }
 {
-    if let Some(e) = x {
-        put_expression(out, e)?;
+    match x {
+        None => Ok(()),
+        Some(e) => put_expression(out, e),
     }
-    Ok(())
 }
 
 fn put_declaration(out: &mut Vec<Lexeme>, x: &Declaration) -> Result<(), AllocError>
@@ -28,40 +28,46 @@ fn put_declaration(out: &mut Vec<Lexeme>, x: &Declaration) -> Result<(), AllocEr
     put_storage(out, x.storage)?;
     put_base(out, &x.base)?;
     put_declarators(out, x.list.as_slice())?;
-    out.push(Lexeme::Fixed(Fixed::Semicolon))?;
-    Ok(())
+    put_mark(out, Fixed::Semicolon)
+}
+
+/// Puts an expression that may be missing, and a mark.
+fn put_optional_before(
+    out: &mut Vec<Lexeme>,
+    x: &Option<Expr>,
+    mark: Fixed,
+) -> Result<(), AllocError>
+    ensures { OnOk result (out.new.items ≡ out.old.items ++ optional_tokens (given_expression x.now) ++ Token mark ∷ []) }
+{
+    put_optional(out, x)?;
+    put_mark(out, mark)
 }
 
 fn put_start(out: &mut Vec<Lexeme>, x: &Start) -> Result<(), AllocError>
     ensures { OnOk result (out.new.items ≡ out.old.items ++ start_tokens (view_start x.now)) }
 {
     match x {
-        Start::Local(d) => {
-            put_declaration(out, d)?;
-        }
-        Start::Plain(e) => {
-            put_optional(out, e)?;
-            out.push(Lexeme::Fixed(Fixed::Semicolon))?;
-        }
+        Start::Local(d) => put_declaration(out, d),
+        Start::Plain(e) => put_optional_before(out, e, Fixed::Semicolon),
     }
-    Ok(())
 }
 
 fn put_label(out: &mut Vec<Lexeme>, x: &Label) -> Result<(), AllocError>
     ensures { OnOk result (out.new.items ≡ out.old.items ++ label_tokens (view_label x.now)) }
 {
     match x {
-        Label::Default => {
-            out.push(Lexeme::Fixed(Fixed::Default))?;
-            out.push(Lexeme::Fixed(Fixed::Colon))?;
-        }
-        Label::Case(e) => {
-            out.push(Lexeme::Fixed(Fixed::Case))?;
-            put_expression(out, e)?;
-            out.push(Lexeme::Fixed(Fixed::Colon))?;
-        }
+        Label::Default => put_marks(out, Fixed::Default, Fixed::Colon),
+        Label::Case(e) => put_case(out, e),
     }
-    Ok(())
+}
+
+/// Puts `case e:`.
+fn put_case(out: &mut Vec<Lexeme>, e: &Expr) -> Result<(), AllocError>
+    ensures { OnOk result (out.new.items ≡ out.old.items ++ Token fixed.Case ∷ expression_tokens (view_expression e.now) ++ Token fixed.Colon ∷ []) }
+{
+    put_mark(out, Fixed::Case)?;
+    put_expression(out, e)?;
+    put_mark(out, Fixed::Colon)
 }
 
 fn put_labels(out: &mut Vec<Lexeme>, list: &[Label]) -> Result<(), AllocError>
@@ -77,11 +83,9 @@ fn put_labels(out: &mut Vec<Lexeme>, list: &[Label]) -> Result<(), AllocError>
 fn put_test(out: &mut Vec<Lexeme>, word: Fixed, e: &Expr) -> Result<(), AllocError>
     ensures { OnOk result (out.new.items ≡ out.old.items ++ Token word ∷ Token fixed.LeftParen ∷ expression_tokens (view_expression e.now) ++ Token fixed.RightParen ∷ []) }
 {
-    out.push(Lexeme::Fixed(word))?;
-    out.push(Lexeme::Fixed(Fixed::LeftParen))?;
+    put_marks(out, word, Fixed::LeftParen)?;
     put_expression(out, e)?;
-    out.push(Lexeme::Fixed(Fixed::RightParen))?;
-    Ok(())
+    put_mark(out, Fixed::RightParen)
 }
 
 #[cycle(put_statement)]
@@ -106,66 +110,97 @@ fn put_statement_form(out: &mut Vec<Lexeme>, x: &StmtForm) -> Result<(), AllocEr
     ensures { OnOk result (out.new.items ≡ out.old.items ++ statement_form_tokens (view_statement_form x.now)) }
 {
     match x {
-        StmtForm::Block(list) => {
-            out.push(Lexeme::Fixed(Fixed::LeftBrace))?;
-            put_parts(out, list.as_slice())?;
-            out.push(Lexeme::Fixed(Fixed::RightBrace))?;
-        }
-        StmtForm::Plain(e) => {
-            put_optional(out, e)?;
-            out.push(Lexeme::Fixed(Fixed::Semicolon))?;
-        }
+        StmtForm::Block(list) => put_block(out, list.as_slice()),
+        StmtForm::Plain(e) => put_optional_before(out, e, Fixed::Semicolon),
         StmtForm::If(e, body, None) => {
             put_test(out, Fixed::If, e)?;
-            put_statement(out, body.get())?;
+            put_statement(out, body.get())
         }
         StmtForm::If(e, body, Some(other)) => {
             put_test(out, Fixed::If, e)?;
             put_statement(out, body.get())?;
-            out.push(Lexeme::Fixed(Fixed::Else))?;
-            put_statement(out, other.get())?;
+            put_else(out, other.get())
         }
         StmtForm::Switch(e, list) => {
             put_test(out, Fixed::Switch, e)?;
-            out.push(Lexeme::Fixed(Fixed::LeftBrace))?;
-            put_sections(out, list.as_slice())?;
-            out.push(Lexeme::Fixed(Fixed::RightBrace))?;
+            put_switch_body(out, list.as_slice())
         }
         StmtForm::While(e, body) => {
             put_test(out, Fixed::While, e)?;
-            put_statement(out, body.get())?;
+            put_statement(out, body.get())
         }
-        StmtForm::Do(body, e) => {
-            out.push(Lexeme::Fixed(Fixed::Do))?;
-            put_statement(out, body.get())?;
-            put_test(out, Fixed::While, e)?;
-            out.push(Lexeme::Fixed(Fixed::Semicolon))?;
-        }
+        StmtForm::Do(body, e) => put_do(out, body.get(), e),
         StmtForm::For(start, test, step, body) => {
-            out.push(Lexeme::Fixed(Fixed::For))?;
-            out.push(Lexeme::Fixed(Fixed::LeftParen))?;
-            put_start(out, start)?;
-            put_optional(out, test)?;
-            out.push(Lexeme::Fixed(Fixed::Semicolon))?;
-            put_optional(out, step)?;
-            out.push(Lexeme::Fixed(Fixed::RightParen))?;
-            put_statement(out, body.get())?;
+            put_for_head(out, start, test, step)?;
+            put_statement(out, body.get())
         }
-        StmtForm::Break => {
-            out.push(Lexeme::Fixed(Fixed::Break))?;
-            out.push(Lexeme::Fixed(Fixed::Semicolon))?;
-        }
-        StmtForm::Continue => {
-            out.push(Lexeme::Fixed(Fixed::Continue))?;
-            out.push(Lexeme::Fixed(Fixed::Semicolon))?;
-        }
-        StmtForm::Return(e) => {
-            out.push(Lexeme::Fixed(Fixed::Return))?;
-            put_optional(out, e)?;
-            out.push(Lexeme::Fixed(Fixed::Semicolon))?;
-        }
+        StmtForm::Break => put_marks(out, Fixed::Break, Fixed::Semicolon),
+        StmtForm::Continue => put_marks(out, Fixed::Continue, Fixed::Semicolon),
+        StmtForm::Return(e) => put_return(out, e),
     }
-    Ok(())
+}
+
+/// Puts parts in braces.
+#[cycle(put_statement)]
+fn put_block(out: &mut Vec<Lexeme>, list: &[Part]) -> Result<(), AllocError>
+    ensures { OnOk result (out.new.items ≡ out.old.items ++ Token fixed.LeftBrace ∷ parts_tokens (parts (map view_part list.now)) ++ Token fixed.RightBrace ∷ []) }
+{
+    put_mark(out, Fixed::LeftBrace)?;
+    put_parts(out, list)?;
+    put_mark(out, Fixed::RightBrace)
+}
+
+/// Puts `else` and a statement.
+#[cycle(put_statement)]
+fn put_else(out: &mut Vec<Lexeme>, x: &Stmt) -> Result<(), AllocError>
+    ensures { OnOk result (out.new.items ≡ out.old.items ++ Token fixed.Else ∷ statement_tokens (view_statement x.now)) }
+{
+    put_mark(out, Fixed::Else)?;
+    put_statement(out, x)
+}
+
+/// Puts the sections of a `switch` in braces.
+#[cycle(put_statement)]
+fn put_switch_body(out: &mut Vec<Lexeme>, list: &[Section]) -> Result<(), AllocError>
+    ensures { OnOk result (out.new.items ≡ out.old.items ++ Token fixed.LeftBrace ∷ sections_tokens (sections (map view_section list.now)) ++ Token fixed.RightBrace ∷ []) }
+{
+    put_mark(out, Fixed::LeftBrace)?;
+    put_sections(out, list)?;
+    put_mark(out, Fixed::RightBrace)
+}
+
+/// Puts a `do` with its test.
+#[cycle(put_statement)]
+fn put_do(out: &mut Vec<Lexeme>, body: &Stmt, e: &Expr) -> Result<(), AllocError>
+    ensures { OnOk result (out.new.items ≡ out.old.items ++ Token fixed.Do ∷ statement_tokens (view_statement body.now) ++ Token fixed.While ∷ Token fixed.LeftParen ∷ expression_tokens (view_expression e.now) ++ Token fixed.RightParen ∷ Token fixed.Semicolon ∷ []) }
+{
+    put_mark(out, Fixed::Do)?;
+    put_statement(out, body)?;
+    put_test(out, Fixed::While, e)?;
+    put_mark(out, Fixed::Semicolon)
+}
+
+/// Puts `for` and what stands in its parentheses.
+fn put_for_head(
+    out: &mut Vec<Lexeme>,
+    start: &Start,
+    test: &Option<Expr>,
+    step: &Option<Expr>,
+) -> Result<(), AllocError>
+    ensures { OnOk result (out.new.items ≡ out.old.items ++ Token fixed.For ∷ Token fixed.LeftParen ∷ start_tokens (view_start start.now) ++ optional_tokens (given_expression test.now) ++ Token fixed.Semicolon ∷ optional_tokens (given_expression step.now) ++ Token fixed.RightParen ∷ []) }
+{
+    put_marks(out, Fixed::For, Fixed::LeftParen)?;
+    put_start(out, start)?;
+    put_optional_before(out, test, Fixed::Semicolon)?;
+    put_optional_before(out, step, Fixed::RightParen)
+}
+
+/// Puts a `return`.
+fn put_return(out: &mut Vec<Lexeme>, e: &Option<Expr>) -> Result<(), AllocError>
+    ensures { OnOk result (out.new.items ≡ out.old.items ++ Token fixed.Return ∷ optional_tokens (given_expression e.now) ++ Token fixed.Semicolon ∷ []) }
+{
+    put_mark(out, Fixed::Return)?;
+    put_optional_before(out, e, Fixed::Semicolon)
 }
 
 #[cycle(put_statement)]
@@ -219,17 +254,10 @@ fn put_unit(out: &mut Vec<Lexeme>, x: &Unit) -> Result<(), AllocError>
     ensures { OnOk result (out.new.items ≡ out.old.items ++ unit_tokens (view_unit x.now)) }
 {
     match x {
-        Unit::Empty(_) => {
-            out.push(Lexeme::Fixed(Fixed::Semicolon))?;
-        }
-        Unit::Declares(_, d) => {
-            put_declaration(out, d)?;
-        }
-        Unit::Defines(_, f) => {
-            put_function(out, f)?;
-        }
+        Unit::Empty(_) => put_mark(out, Fixed::Semicolon),
+        Unit::Declares(_, d) => put_declaration(out, d),
+        Unit::Defines(_, f) => put_function(out, f),
     }
-    Ok(())
 }
 
 /// The tokens that a unit prints, in order.

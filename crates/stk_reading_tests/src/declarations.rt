@@ -154,68 +154,68 @@ static FRONTS: [Row; 6] = [
 ];
 
 /// A name or a number; other expressions have their tests with the reader of expressions.
-fn add_value(bytes: &[u8], e: &Expr, out: &mut Vec<u8>) -> Result<(), NoMemory> {
+fn add_value(bytes: &[u8], e: &Expr, out: &mut Vec<u8>) {
     match &e.form {
         ExprForm::Name(at) | ExprForm::Number(at) => add(out, at.text(bytes)),
         _ => add(out, b"?"),
     }
 }
 
-fn add_optional(bytes: &[u8], at: Option<Span>, out: &mut Vec<u8>) -> Result<(), NoMemory> {
+fn add_optional(bytes: &[u8], at: Option<Span>, out: &mut Vec<u8>) {
     match at {
-        None => Ok(()),
+        None => {}
         Some(at) => add(out, at.text(bytes)),
     }
 }
 
-fn add_part(bytes: &[u8], part: &Dimension, out: &mut Vec<u8>) -> Result<(), NoMemory> {
-    add(out, b"[")?;
+fn add_part(bytes: &[u8], part: &Dimension, out: &mut Vec<u8>) {
+    add(out, b"[");
     if let Dimension::Sized(e) = part {
-        add_value(bytes, e, out)?;
+        add_value(bytes, e, out);
     }
     add(out, b"]")
 }
 
-fn add_designator(bytes: &[u8], part: &Desig, out: &mut Vec<u8>) -> Result<(), NoMemory> {
+fn add_designator(bytes: &[u8], part: &Desig, out: &mut Vec<u8>) {
     match part {
         Desig::Dot(at) => {
-            add(out, b".")?;
+            add(out, b".");
             add(out, at.text(bytes))
         }
         Desig::At(e) => {
-            add(out, b"[")?;
-            add_value(bytes, e, out)?;
+            add(out, b"[");
+            add_value(bytes, e, out);
             add(out, b"]")
         }
     }
 }
 
 #[cycle(initial)]
-fn add_item(bytes: &[u8], item: &Item, room: u32, out: &mut Vec<u8>) -> Result<(), NoMemory> {
+fn add_item(bytes: &[u8], item: &Item, room: u32, out: &mut Vec<u8>) {
     for part in item.path.as_slice() {
-        add_designator(bytes, part, out)?;
+        add_designator(bytes, part, out);
     }
     if item.path.len() > 0 {
-        add(out, b"=")?;
+        add(out, b"=");
     }
     add_initial(bytes, &item.init, room, out)
 }
 
 /// An initialiser, as far as `room` goes.
 #[cycle(initial)]
-fn add_initial(bytes: &[u8], init: &Init, room: u32, out: &mut Vec<u8>) -> Result<(), NoMemory> {
+fn add_initial(bytes: &[u8], init: &Init, room: u32, out: &mut Vec<u8>) {
     match init {
         Init::Plain(e) => add_value(bytes, e, out),
         Init::Braces(list, comma) => {
             let mut between: &[u8] = b"{";
             if list.len() == 0 {
-                add(out, between)?;
+                add(out, between);
             }
             for item in list.as_slice() {
-                add(out, between)?;
+                add(out, between);
                 between = b",";
                 if room > 0 {
-                    add_item(bytes, item, room - 1, out)?;
+                    add_item(bytes, item, room - 1, out);
                 }
             }
             add(out, if *comma { b",,}" } else { b"}" })
@@ -224,60 +224,58 @@ fn add_initial(bytes: &[u8], init: &Init, room: u32, out: &mut Vec<u8>) -> Resul
 }
 
 /// A base without braces.
-fn add_bare_base(bytes: &[u8], form: &BaseForm, out: &mut Vec<u8>) -> Result<(), NoMemory> {
+fn add_bare_base(bytes: &[u8], form: &BaseForm, out: &mut Vec<u8>) {
     match form {
         BaseForm::Words(words) => {
             let mut between: &[u8] = b"";
             for word in words.as_slice() {
-                add(out, between)?;
-                add(out, spelling(*word))?;
+                add(out, between);
+                add(out, spelling(*word));
                 between = b" ";
             }
-            Ok(())
         }
         BaseForm::StructRef(tag) => {
-            add(out, b"struct ")?;
+            add(out, b"struct ");
             add(out, tag.text(bytes))
         }
         BaseForm::EnumRef(tag) => {
-            add(out, b"enum ")?;
+            add(out, b"enum ");
             add(out, tag.text(bytes))
         }
         BaseForm::Named(at) => {
-            add(out, b"#")?;
+            add(out, b"#");
             add(out, at.text(bytes))
         }
         _ => add(out, b"!"),
     }
 }
 
-fn add_parameter(bytes: &[u8], param: &Param, out: &mut Vec<u8>) -> Result<(), NoMemory> {
-    add_bare_base(bytes, &param.base.form, out)?;
-    add(out, b"<")?;
-    add_name(bytes, &param.declr, out)?;
+fn add_parameter(bytes: &[u8], param: &Param, out: &mut Vec<u8>) {
+    add_bare_base(bytes, &param.base.form, out);
+    add(out, b"<");
+    add_name(bytes, &param.declr, out);
     if let Tail::Arrays(list) = &param.declr.tail {
         for part in list.as_slice() {
-            add_part(bytes, part, out)?;
+            add_part(bytes, part, out);
         }
     }
     add(out, b">")
 }
 
-fn add_tail(bytes: &[u8], tail: &Tail, out: &mut Vec<u8>) -> Result<(), NoMemory> {
+fn add_tail(bytes: &[u8], tail: &Tail, out: &mut Vec<u8>) {
     match tail {
         Tail::Arrays(list) => {
             for part in list.as_slice() {
-                add_part(bytes, part, out)?;
+                add_part(bytes, part, out);
             }
-            Ok(())
         }
         Tail::Unspecified => add(out, b"()"),
         Tail::NoParams => add(out, b"(void)"),
         Tail::Params(list, more) => {
             let mut between: &[u8] = b"(";
             for param in list.as_slice() {
-                add(out, between)?;
-                add_parameter(bytes, param, out)?;
+                add(out, between);
+                add_parameter(bytes, param, out);
                 between = b",";
             }
             add(out, if *more { b",...)" } else { b")" })
@@ -285,64 +283,63 @@ fn add_tail(bytes: &[u8], tail: &Tail, out: &mut Vec<u8>) -> Result<(), NoMemory
     }
 }
 
-fn add_name(bytes: &[u8], declr: &Declr, out: &mut Vec<u8>) -> Result<(), NoMemory> {
+fn add_name(bytes: &[u8], declr: &Declr, out: &mut Vec<u8>) {
     for _ in 0..declr.stars {
-        add(out, b"*")?;
+        add(out, b"*");
     }
     add_optional(bytes, declr.name, out)
 }
 
-fn add_declarator(bytes: &[u8], declr: &Declr, out: &mut Vec<u8>) -> Result<(), NoMemory> {
-    add(out, b"<")?;
-    add_name(bytes, declr, out)?;
-    add_tail(bytes, &declr.tail, out)?;
+fn add_declarator(bytes: &[u8], declr: &Declr, out: &mut Vec<u8>) {
+    add(out, b"<");
+    add_name(bytes, declr, out);
+    add_tail(bytes, &declr.tail, out);
     if let Some(init) = &declr.init {
-        add(out, b"=")?;
-        add_initial(bytes, init, 400, out)?;
+        add(out, b"=");
+        add_initial(bytes, init, 400, out);
     }
     add(out, b">")
 }
 
-fn add_enumerator(bytes: &[u8], part: &Enumr, out: &mut Vec<u8>) -> Result<(), NoMemory> {
-    add(out, part.name.text(bytes))?;
+fn add_enumerator(bytes: &[u8], part: &Enumr, out: &mut Vec<u8>) {
+    add(out, part.name.text(bytes));
     if let Some(value) = &part.value {
-        add(out, b"=")?;
-        add_value(bytes, value, out)?;
+        add(out, b"=");
+        add_value(bytes, value, out);
     }
-    Ok(())
 }
 
 #[cycle(base)]
-fn add_member(bytes: &[u8], member: &Member, room: u32, out: &mut Vec<u8>) -> Result<(), NoMemory> {
-    add_base(bytes, &member.base.form, room, out)?;
+fn add_member(bytes: &[u8], member: &Member, room: u32, out: &mut Vec<u8>) {
+    add_base(bytes, &member.base.form, room, out);
     for declr in member.list.as_slice() {
-        add_declarator(bytes, declr, out)?;
+        add_declarator(bytes, declr, out);
     }
     add(out, b";")
 }
 
 /// A base, as far as `room` goes.
 #[cycle(base)]
-fn add_base(bytes: &[u8], form: &BaseForm, room: u32, out: &mut Vec<u8>) -> Result<(), NoMemory> {
+fn add_base(bytes: &[u8], form: &BaseForm, room: u32, out: &mut Vec<u8>) {
     match form {
         BaseForm::StructDef(tag, list) => {
-            add(out, b"struct ")?;
-            add_optional(bytes, *tag, out)?;
-            add(out, b"{")?;
+            add(out, b"struct ");
+            add_optional(bytes, *tag, out);
+            add(out, b"{");
             for member in list.as_slice() {
                 if room > 0 {
-                    add_member(bytes, member, room - 1, out)?;
+                    add_member(bytes, member, room - 1, out);
                 }
             }
             add(out, b"}")
         }
         BaseForm::EnumDef(tag, list, comma) => {
-            add(out, b"enum ")?;
-            add_optional(bytes, *tag, out)?;
+            add(out, b"enum ");
+            add_optional(bytes, *tag, out);
             let mut between: &[u8] = b"{";
             for part in list.as_slice() {
-                add(out, between)?;
-                add_enumerator(bytes, part, out)?;
+                add(out, between);
+                add_enumerator(bytes, part, out);
                 between = b",";
             }
             add(out, if *comma { b",,}" } else { b"}" })
@@ -360,13 +357,12 @@ fn storage_text(storage: Option<Storage>) -> &'static [u8] {
     }
 }
 
-fn shape(bytes: &[u8], tree: &Declaration, out: &mut Vec<u8>) -> Result<(), NoMemory> {
-    add(out, storage_text(tree.storage))?;
-    add_base(bytes, &tree.base.form, 400, out)?;
+fn shape(bytes: &[u8], tree: &Declaration, out: &mut Vec<u8>) {
+    add(out, storage_text(tree.storage));
+    add_base(bytes, &tree.base.form, 400, out);
     for declr in tree.list.as_slice() {
-        add_declarator(bytes, declr, out)?;
+        add_declarator(bytes, declr, out);
     }
-    Ok(())
 }
 
 /// The lexemes of a text; none of one that is too long.
@@ -394,7 +390,7 @@ fn read(
     };
     match found {
         Ok((tree, end)) => {
-            shape(bytes, &tree, &mut out)?;
+            shape(bytes, &tree, &mut out);
             Ok((out, end))
         }
         Err(Parse::NoTree) => Ok((out, 0)),

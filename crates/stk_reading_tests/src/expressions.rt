@@ -173,23 +173,22 @@ fn step_text(op: StepOp) -> &'static [u8] {
     }
 }
 
-fn base_shape(bytes: &[u8], form: &BaseForm, out: &mut Vec<u8>) -> Result<(), NoMemory> {
+fn base_shape(bytes: &[u8], form: &BaseForm, out: &mut Vec<u8>) {
     match form {
         BaseForm::Words(words) => {
             let mut between: &[u8] = b"";
             for word in words.as_slice() {
-                add(out, between)?;
-                add(out, spelling(*word))?;
+                add(out, between);
+                add(out, spelling(*word));
                 between = b" ";
             }
-            Ok(())
         }
         BaseForm::StructRef(tag) => {
-            add(out, b"struct ")?;
+            add(out, b"struct ");
             add(out, tag.text(bytes))
         }
         BaseForm::EnumRef(tag) => {
-            add(out, b"enum ")?;
+            add(out, b"enum ");
             add(out, tag.text(bytes))
         }
         BaseForm::Named(at) => add(out, at.text(bytes)),
@@ -199,50 +198,43 @@ fn base_shape(bytes: &[u8], form: &BaseForm, out: &mut Vec<u8>) -> Result<(), No
 
 /// A type name: its base, its `*`, and the shapes of its sizes.
 #[cycle(shape)]
-fn type_shape(bytes: &[u8], name: &TypeName, room: u32, out: &mut Vec<u8>) -> Result<(), NoMemory> {
+fn type_shape(bytes: &[u8], name: &TypeName, room: u32, out: &mut Vec<u8>) {
     if room == 0 {
-        return Ok(());
+        return;
     }
-    base_shape(bytes, &name.base.form, out)?;
+    base_shape(bytes, &name.base.form, out);
     for _ in 0..name.stars {
-        add(out, b"*")?;
+        add(out, b"*");
     }
     for part in name.arrays.as_slice() {
-        add(out, b"[")?;
+        add(out, b"[");
         if let Dimension::Sized(size) = part {
-            shape(bytes, size, room - 1, out)?;
+            shape(bytes, size, room - 1, out);
         }
-        add(out, b"]")?;
+        add(out, b"]");
     }
-    Ok(())
 }
 
 /// A node in braces: its operator, and the shapes of its operands.
 #[cycle(shape)]
-fn node_shape(
-    bytes: &[u8],
-    mark: &[u8],
-    operands: &[&Expr],
-    room: u32,
-    out: &mut Vec<u8>,
-) -> Result<(), NoMemory> {
+fn node_shape(bytes: &[u8], mark: &[u8], operands: &[&Expr], room: u32, out: &mut Vec<u8>) {
     if room == 0 {
-        return Ok(());
+        return;
     }
-    add(out, b"{")?;
-    add(out, mark)?;
+    add(out, b"{");
+    add(out, mark);
     for operand in operands {
-        add(out, b" ")?;
-        shape(bytes, operand, room - 1, out)?;
+        add(out, b" ");
+        shape(bytes, operand, room - 1, out);
     }
     add(out, b"}")
 }
 
 /// What a tree is, as far as `room` goes.
 #[cycle(shape)]
-fn shape(bytes: &[u8], e: &Expr, room: u32, out: &mut Vec<u8>) -> Result<(), NoMemory> {
+fn shape(bytes: &[u8], e: &Expr, room: u32, out: &mut Vec<u8>) {
     if room == 0 {
-        return Ok(());
+        return;
     }
     let inner = room - 1;
     match &e.form {
@@ -251,22 +243,21 @@ fn shape(bytes: &[u8], e: &Expr, room: u32, out: &mut Vec<u8>) -> Result<(), NoM
         }
         ExprForm::Text(parts) => {
             for part in parts.as_slice() {
-                add(out, part.text(bytes))?;
+                add(out, part.text(bytes));
             }
-            Ok(())
         }
         ExprForm::Paren(x) => {
-            add(out, b"(")?;
-            shape(bytes, x.get(), inner, out)?;
+            add(out, b"(");
+            shape(bytes, x.get(), inner, out);
             add(out, b")")
         }
         ExprForm::Index(x, y) => node_shape(bytes, b"[]", &[x.get(), y.get()], inner, out),
         ExprForm::Call(f, list) => {
-            add(out, b"{() ")?;
-            shape(bytes, f.get(), inner, out)?;
+            add(out, b"{() ");
+            shape(bytes, f.get(), inner, out);
             for argument in list.as_slice() {
-                add(out, b" ")?;
-                shape(bytes, argument, inner, out)?;
+                add(out, b" ");
+                shape(bytes, argument, inner, out);
             }
             add(out, b"}")
         }
@@ -278,15 +269,15 @@ fn shape(bytes: &[u8], e: &Expr, room: u32, out: &mut Vec<u8>) -> Result<(), NoM
         }
         ExprForm::SizeExpr(x) => node_shape(bytes, b"sizeof", &[x.get()], inner, out),
         ExprForm::SizeName(y) => {
-            add(out, b"{sizeof ")?;
-            type_shape(bytes, y, inner, out)?;
+            add(out, b"{sizeof ");
+            type_shape(bytes, y, inner, out);
             add(out, b"}")
         }
         ExprForm::Cast(y, x) => {
-            add(out, b"{")?;
-            type_shape(bytes, y, inner, out)?;
-            add(out, b" ")?;
-            shape(bytes, x.get(), inner, out)?;
+            add(out, b"{");
+            type_shape(bytes, y, inner, out);
+            add(out, b" ");
+            shape(bytes, x.get(), inner, out);
             add(out, b"}")
         }
         ExprForm::Binary(op, x, y) => {
@@ -304,21 +295,14 @@ fn shape(bytes: &[u8], e: &Expr, room: u32, out: &mut Vec<u8>) -> Result<(), NoM
 }
 
 #[cycle(shape)]
-fn member_shape(
-    bytes: &[u8],
-    mark: &[u8],
-    e: &Expr,
-    member: &[u8],
-    room: u32,
-    out: &mut Vec<u8>,
-) -> Result<(), NoMemory> {
+fn member_shape(bytes: &[u8], mark: &[u8], e: &Expr, member: &[u8], room: u32, out: &mut Vec<u8>) {
     if room == 0 {
-        return Ok(());
+        return;
     }
-    add(out, mark)?;
-    shape(bytes, e, room - 1, out)?;
-    add(out, b" ")?;
-    add(out, member)?;
+    add(out, mark);
+    shape(bytes, e, room - 1, out);
+    add(out, b" ");
+    add(out, member);
     add(out, b"}")
 }
 
@@ -337,7 +321,7 @@ fn read(
     }
     match expr(alloc, bytes, list, &names, at, level) {
         Ok((tree, end)) => {
-            shape(bytes, &tree, 900, &mut out)?;
+            shape(bytes, &tree, 900, &mut out);
             Ok((out, end))
         }
         Err(Parse::NoTree) => Ok((out, 0)),

@@ -110,38 +110,38 @@ static UNITS: [Row; 20] = [
 ];
 
 /// The text of an expression that may be missing.
-fn add_expression(out: &mut Vec<u8>, bytes: &[u8], value: &Option<Expr>) -> Result<(), NoMemory> {
+fn add_expression(out: &mut Vec<u8>, bytes: &[u8], value: &Option<Expr>) {
     match value {
-        None => Ok(()),
+        None => {}
         Some(e) => add(out, e.node.span.text(bytes)),
     }
 }
 
 /// The declarators of a declaration, in parentheses.
-fn add_declaration(out: &mut Vec<u8>, bytes: &[u8], tree: &Declaration) -> Result<(), NoMemory> {
+fn add_declaration(out: &mut Vec<u8>, bytes: &[u8], tree: &Declaration) {
     let mut between: &[u8] = b"(";
     for declr in tree.list.as_slice() {
-        add(out, between)?;
-        add(out, declr.node.span.text(bytes))?;
+        add(out, between);
+        add(out, declr.node.span.text(bytes));
         between = b",";
     }
     if tree.list.as_slice().is_empty() {
-        add(out, between)?;
+        add(out, between);
     }
     add(out, b")")
 }
 
-fn add_label(out: &mut Vec<u8>, bytes: &[u8], label: &Label) -> Result<(), NoMemory> {
+fn add_label(out: &mut Vec<u8>, bytes: &[u8], label: &Label) {
     match label {
         Label::Default => add(out, b"default:"),
         Label::Case(e) => {
-            add(out, e.node.span.text(bytes))?;
+            add(out, e.node.span.text(bytes));
             add(out, b":")
         }
     }
 }
 
-fn add_start(out: &mut Vec<u8>, bytes: &[u8], start: &Start) -> Result<(), NoMemory> {
+fn add_start(out: &mut Vec<u8>, bytes: &[u8], start: &Start) {
     match start {
         Start::Local(tree) => add_declaration(out, bytes, tree),
         Start::Plain(e) => add_expression(out, bytes, e),
@@ -149,7 +149,7 @@ fn add_start(out: &mut Vec<u8>, bytes: &[u8], start: &Start) -> Result<(), NoMem
 }
 
 #[cycle(shape)]
-fn add_part(out: &mut Vec<u8>, bytes: &[u8], part: &Part, room: usize) -> Result<(), NoMemory> {
+fn add_part(out: &mut Vec<u8>, bytes: &[u8], part: &Part, room: usize) {
     match part {
         Part::Local(tree) => add_declaration(out, bytes, tree),
         Part::Run(statement) => add_statement(out, bytes, statement, room),
@@ -157,87 +157,75 @@ fn add_part(out: &mut Vec<u8>, bytes: &[u8], part: &Part, room: usize) -> Result
 }
 
 #[cycle(shape)]
-fn add_section(
-    out: &mut Vec<u8>,
-    bytes: &[u8],
-    section: &Section,
-    room: usize,
-) -> Result<(), NoMemory> {
-    add(out, b"[")?;
+fn add_section(out: &mut Vec<u8>, bytes: &[u8], section: &Section, room: usize) {
+    add(out, b"[");
     for label in section.labels.as_slice() {
-        add_label(out, bytes, label)?;
+        add_label(out, bytes, label);
     }
     for statement in section.body.as_slice() {
-        add_statement(out, bytes, statement, room)?;
+        add_statement(out, bytes, statement, room);
     }
     add(out, b"]")
 }
 
 #[cycle(shape)]
-fn add_headed(
-    out: &mut Vec<u8>,
-    bytes: &[u8],
-    word: &[u8],
-    test: &Expr,
-    body: &Stmt,
-    room: usize,
-) -> Result<(), NoMemory> {
-    add(out, word)?;
-    add(out, test.node.span.text(bytes))?;
+fn add_headed(out: &mut Vec<u8>, bytes: &[u8], word: &[u8], test: &Expr, body: &Stmt, room: usize) {
+    add(out, word);
+    add(out, test.node.span.text(bytes));
     add_statement(out, bytes, body, room)
 }
 
 #[cycle(shape)]
-fn add_form(out: &mut Vec<u8>, bytes: &[u8], form: &StmtForm, room: usize) -> Result<(), NoMemory> {
+fn add_form(out: &mut Vec<u8>, bytes: &[u8], form: &StmtForm, room: usize) {
     match form {
         StmtForm::Block(list) => {
-            add(out, b"{")?;
+            add(out, b"{");
             for part in list.as_slice() {
-                add_part(out, bytes, part, room)?;
+                add_part(out, bytes, part, room);
             }
             add(out, b"}")
         }
         StmtForm::Plain(e) => {
-            add_expression(out, bytes, e)?;
+            add_expression(out, bytes, e);
             add(out, b";")
         }
         StmtForm::If(test, then, None) => { add_headed(out, bytes, b"if ", test, then.get(), room) }
         StmtForm::If(test, then, Some(other)) => {
-            add_headed(out, bytes, b"if ", test, then.get(), room)?;
-            add(out, b" else ")?;
+            add_headed(out, bytes, b"if ", test, then.get(), room);
+            add(out, b" else ");
             add_statement(out, bytes, other.get(), room)
         }
         StmtForm::Switch(e, list) => {
-            add(out, b"switch ")?;
-            add(out, e.node.span.text(bytes))?;
-            add(out, b"{")?;
+            add(out, b"switch ");
+            add(out, e.node.span.text(bytes));
+            add(out, b"{");
             for section in list.as_slice() {
-                add_section(out, bytes, section, room)?;
+                add_section(out, bytes, section, room);
             }
             add(out, b"}")
         }
         StmtForm::While(test, body) => { add_headed(out, bytes, b"while ", test, body.get(), room) }
         StmtForm::Do(body, test) => {
-            add(out, b"do ")?;
-            add_statement(out, bytes, body.get(), room)?;
-            add(out, b" ")?;
+            add(out, b"do ");
+            add_statement(out, bytes, body.get(), room);
+            add(out, b" ");
             add(out, test.node.span.text(bytes))
         }
         StmtForm::For(start, test, step, body) => {
-            add(out, b"for ")?;
-            add_start(out, bytes, start)?;
-            add(out, b"|")?;
-            add_expression(out, bytes, test)?;
-            add(out, b"|")?;
-            add_expression(out, bytes, step)?;
-            add(out, b"|")?;
+            add(out, b"for ");
+            add_start(out, bytes, start);
+            add(out, b"|");
+            add_expression(out, bytes, test);
+            add(out, b"|");
+            add_expression(out, bytes, step);
+            add(out, b"|");
             add_statement(out, bytes, body.get(), room)
         }
         StmtForm::Break => add(out, b"break"),
         StmtForm::Continue => add(out, b"continue"),
         StmtForm::Return(None) => add(out, b"return"),
         StmtForm::Return(Some(e)) => {
-            add(out, b"return ")?;
+            add(out, b"return ");
             add(out, e.node.span.text(bytes))
         }
     }
@@ -245,26 +233,21 @@ fn add_form(out: &mut Vec<u8>, bytes: &[u8], form: &StmtForm, room: usize) -> Re
 
 /// A statement in brackets; nothing of one that is nested deeper than there is room.
 #[cycle(shape)]
-fn add_statement(
-    out: &mut Vec<u8>,
-    bytes: &[u8],
-    statement: &Stmt,
-    room: usize,
-) -> Result<(), NoMemory> {
+fn add_statement(out: &mut Vec<u8>, bytes: &[u8], statement: &Stmt, room: usize) {
     if room == 0 {
-        return Ok(());
+        return;
     }
-    add(out, b"[")?;
-    add_form(out, bytes, &statement.form, room - 1)?;
+    add(out, b"[");
+    add_form(out, bytes, &statement.form, room - 1);
     add(out, b"]")
 }
 
-fn add_unit(out: &mut Vec<u8>, bytes: &[u8], unit: &Unit) -> Result<(), NoMemory> {
+fn add_unit(out: &mut Vec<u8>, bytes: &[u8], unit: &Unit) {
     match unit {
         Unit::Empty(_) => add(out, b";"),
         Unit::Declares(_, tree) => add_declaration(out, bytes, tree),
         Unit::Defines(_, function) => {
-            add(out, function.declr.node.span.text(bytes))?;
+            add(out, function.declr.node.span.text(bytes));
             add_statement(out, bytes, &function.body, 50)
         }
     }
@@ -285,7 +268,7 @@ fn shape(alloc: Global, text: &[u8], headed: bool) -> Result<Vec<u8>, NoMemory> 
     };
     match found {
         Ok(tree) => {
-            add_unit(&mut out, text, tree.get())?;
+            add_unit(&mut out, text, tree.get());
             Ok(out)
         }
         Err(Parse::NoTree) => Ok(out),
@@ -296,8 +279,8 @@ fn shape(alloc: Global, text: &[u8], headed: bool) -> Result<Vec<u8>, NoMemory> 
 /// `int f()` with a body.
 fn with_body(alloc: Global, body: &str) -> Result<Vec<u8>, NoMemory> {
     let mut text = Vec::new(alloc);
-    add(&mut text, b"int f() ")?;
-    add(&mut text, body.as_bytes())?;
+    add(&mut text, b"int f() ");
+    add(&mut text, body.as_bytes());
     Ok(text)
 }
 
@@ -309,8 +292,8 @@ fn has_body(alloc: Global, body: &str, wanted: &str) -> Result<bool, NoMemory> {
         return Ok(found.is_empty());
     }
     let mut whole = Vec::new(alloc);
-    add(&mut whole, b"f()")?;
-    add(&mut whole, wanted.as_bytes())?;
+    add(&mut whole, b"f()");
+    add(&mut whole, wanted.as_bytes());
     Ok(found.as_slice() == whole.as_slice())
 }
 
@@ -350,7 +333,7 @@ fn reads_heads(rt: HostRuntime) -> Result<(), Fail> {
 /// Whether a function whose body returns a name in so many parentheses is read.
 fn is_read(alloc: Global, count: usize) -> Result<bool, NoMemory> {
     let mut text = Vec::new(alloc);
-    add(&mut text, b"int f(int x) { return ")?;
+    add(&mut text, b"int f(int x) { return ");
     for _ in 0..count {
         text.push(b'(')?;
     }
@@ -358,7 +341,7 @@ fn is_read(alloc: Global, count: usize) -> Result<bool, NoMemory> {
     for _ in 0..count {
         text.push(b')')?;
     }
-    add(&mut text, b"; }")?;
+    add(&mut text, b"; }");
     let found = shape(alloc, text.as_slice(), false)?;
     Ok(!found.is_empty())
 }

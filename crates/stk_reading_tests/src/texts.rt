@@ -4,10 +4,9 @@ use stk_base::{List, NoMemory};
 use stk_ctype::{CType, IntKind, NameEntry, Names, Symbol};
 use stk_lex::{Token, lex};
 
-/// Puts a text behind another.
-pub fn add(out: &mut Vec<u8>, text: &[u8]) -> Result<(), NoMemory> {
-    out.extend_from_slice(text)?;
-    Ok(())
+/// Puts a text behind another. Where there is no memory for it, it is left out, and then the test that wants it fails.
+pub fn add(out: &mut Vec<u8>, text: &[u8]) {
+    let _ = out.extend_from_slice(text);
 }
 
 /// The tokens of a text; none of one that is too long.

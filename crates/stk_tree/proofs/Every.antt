@@ -1,6 +1,6 @@
 -- Every reserved word and mark stands in the list of all.
-use Rattle.std.proofs.Common.{◌≡◌, ◌≢◌, ◌<◌, ◌∙◌, ℕ, List, Option, Some, None, IfNone, length, get_or, refl, ap, arith}
-use Rattle.stk_tree.specs.Spelling.{every, spelling_of}
+use Rattle.std.proofs.Common.{◌≡◌, ◌<◌, ℕ, length, get_or, refl, arith}
+use Rattle.stk_tree.specs.Spelling.{every}
 use Rattle.stk_tree.specs.declared.fixed.Fixed.{Fixed}
 use Rattle.stk_tree.specs.declared.fixed.Fixed.TheVariants as fixed
 
@@ -343,9 +343,3 @@ stands_before fixed.AmpersandAssign = omega arith
 stands_before fixed.CaretAssign = omega arith
 stands_before fixed.PipeAssign = omega arith
 stands_before fixed.Comma = omega arith
-
--- what none of the list has as its text, no word or mark has
-pub missed : (list : List Fixed) (text : List ℕ) (r : Option Fixed) → list ≡ every →
-    IfNone r ((k : ℕ) (other : Fixed) → k < length list → spelling_of (get_or list k other) ≢ text) → IfNone r ((f : Fixed) → spelling_of f ≢ text)
-missed list text None e p = λ f q. p (place f) f (rw e (stands_before f)) (rw e (ap spelling_of (stands f f) ∙ q))
-missed list text (Some g) e p = p

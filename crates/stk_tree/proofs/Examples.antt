@@ -1,7 +1,7 @@
 -- Examples, by which the definitions can be checked: what some trees print, how high they are, where they are well placed, and a function's layout.
 use Rattle.std.proofs.Common.{◌≡◌, ℕ, ◌+◌, true, false, List, [], ◌∷◌, Some, None, refl}
 use Rattle.stk_base.specs.declared.span.Span.{Span}
-use Rattle.stk_base.specs.declared.token.Class.TheVariants.{Word, Number, Character, Text}
+use Rattle.stk_base.specs.declared.token.Class.TheVariants.{Word, Number}
 use Rattle.stk_tree.specs.declared.node.Node.{Node}
 use Rattle.stk_tree.specs.declared.fixed.Lexeme.{Lexeme}
 use Rattle.stk_tree.specs.declared.fixed.Lexeme.TheVariants.{Leaf, Fixed as Token}
@@ -10,7 +10,7 @@ use Rattle.stk_tree.specs.declared.expression.BinaryOp.TheVariants as binary
 use Rattle.stk_tree.specs.declared.expression.AssignOp.TheVariants as assign
 use Rattle.stk_tree.specs.declared.expression.UnaryOp.TheVariants as unary
 use Rattle.stk_tree.specs.declared.expression.StepOp.TheVariants as step
-use Rattle.stk_tree.specs.Height.{expression_height, statement_height, declarator_height, initialiser_height, unit_height}
+use Rattle.stk_tree.specs.Height.{expression_height, declarator_height, initialiser_height, unit_height}
 use Rattle.stk_tree.specs.Layout.{unit_laid_out}
 use Rattle.stk_tree.specs.Nodes.{unit_nodes}
 use Rattle.stk_tree.specs.Placed.{expression_placed, statement_placed, tail_placed, type_name_placed, unit_placed}

@@ -3,7 +3,7 @@ use Rattle.std.specs.Prelude.{ℕ, ◌+◌, Bool, true, false, not, ◌&&◌, Li
 use Rattle.stk_tree.specs.declared.fixed.Fixed.{Fixed}
 use Rattle.stk_tree.specs.declared.fixed.Fixed.TheVariants as fixed
 use Rattle.stk_tree.specs.declared.declaration.Storage.{Storage}
-use Rattle.stk_tree.specs.declared.declaration.Storage.TheVariants.{Typedef, Extern, Static}
+use Rattle.stk_tree.specs.declared.declaration.Storage.TheVariants.{Static}
 use Rattle.stk_tree.specs.declared.expression.StepOp.{StepOp}
 use Rattle.stk_tree.specs.declared.expression.StepOp.TheVariants.{IncBefore, DecBefore, IncAfter, DecAfter}
 use Rattle.stk_tree.specs.declared.expression.BinaryOp.{BinaryOp}

@@ -1,5 +1,5 @@
 -- How each reserved word and each mark is spelled (C11 6.4.1, 6.4.6, and the words that GNU C adds).
-use Rattle.std.specs.Prelude.{ℕ, List, [], ◌∷◌, codes}
+use Rattle.std.specs.Prelude.{ℕ, Bool, List, [], ◌∷◌, codes, get_or, nat_eq}
 use Rattle.stk_tree.specs.declared.fixed.Fixed.{Fixed}
 use Rattle.stk_tree.specs.declared.fixed.Fixed.TheVariants as fixed
 
@@ -139,3 +139,7 @@ every =
     fixed.Assign ∷ fixed.StarAssign ∷ fixed.SlashAssign ∷ fixed.PercentAssign ∷ fixed.PlusAssign ∷ fixed.MinusAssign ∷
     fixed.LeftShiftAssign ∷ fixed.RightShiftAssign ∷ fixed.AmpersandAssign ∷ fixed.CaretAssign ∷ fixed.PipeAssign ∷
     fixed.Comma ∷ []
+
+-- whether a reserved word or mark begins with a byte
+abbrev pub begins : ℕ → Fixed → Bool
+begins byte f = nat_eq (get_or (spelling_of f) 0 0) byte

@@ -22,6 +22,12 @@ decreases-size l = 16 * l.inner + 13
 abbrev pub decreases-paren : goal.decreases-paren
 decreases-paren l = 16 * l.inner + 12
 
+abbrev pub decreases-cast : goal.decreases-cast
+decreases-cast l = 16 * l.inner + 11
+
+abbrev pub decreases-enclosed : goal.decreases-enclosed
+decreases-enclosed l = 16 * l.inner + 11
+
 abbrev pub decreases-before : goal.decreases-before
 decreases-before l = 16 * l.inner + 11
 
@@ -36,6 +42,21 @@ decreases-array_part l = 16 * l.inner + 8
 
 abbrev pub decreases-tail : goal.decreases-tail
 decreases-tail l = 16 * l.inner + 8
+
+abbrev pub decreases-binary_tail : goal.decreases-binary_tail
+decreases-binary_tail l = 16 * l.inner + 7
+
+abbrev pub decreases-assign_tail : goal.decreases-assign_tail
+decreases-assign_tail l = 16 * l.inner + 7
+
+abbrev pub decreases-choice_tail : goal.decreases-choice_tail
+decreases-choice_tail l = 16 * l.inner + 7
+
+abbrev pub decreases-index_tail : goal.decreases-index_tail
+decreases-index_tail l = 16 * l.inner + 7
+
+abbrev pub decreases-call_tail : goal.decreases-call_tail
+decreases-call_tail l = 16 * l.inner + 7
 
 abbrev pub decreases-arguments : goal.decreases-arguments
 decreases-arguments l = 16 * l.inner + 4

@@ -1,5 +1,5 @@
 use Rattle.std.proofs.Common.{ap}
-use Rattle.stk_lint.specs.declared.records.Counts.{Counts}
+use Rattle.stk_records.specs.declared.records.Counts.{Counts}
 use Rattle.stk_lint.proofs.Plain.{text_skipped}
 use Rattle.stk_lint.proofs.report.skipped.Goals as goal
 

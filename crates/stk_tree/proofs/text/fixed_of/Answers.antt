@@ -1,5 +1,5 @@
-use Rattle.stk_tree.proofs.Every.{missed}
+use Rattle.stk_tree.proofs.Firsts.{missed}
 use Rattle.stk_tree.proofs.text.fixed_of.Goals as goal
 
-pub returns-clause-missing : goal.returns-clause-missing
-returns-clause-missing c = missed c.all_fixed.result.now c.args.text.now c.among.result c.all_fixed.ensures c.among.ensures.missing
+pub returns-in-len1-up-clause-missing : goal.returns-in-len1-up-clause-missing
+returns-in-len1-up-clause-missing c = missed c.beginning_with.result.now c.args.text.now c.among.result c.beginning_with.ensures c.among.ensures.missing

@@ -1,0 +1,4 @@
+pub mod MapOrder
+pub mod Search
+pub mod Deletion
+pub mod Needed
