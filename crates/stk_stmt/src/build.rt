@@ -1,6 +1,7 @@
 //! Nodes of trees. Their records are all alike: a tree is laid out as a whole, once its unit is read.
 //!
-//! A statement is put in a box as soon as it is made, since it isn't dropped where it stands.
+//! A statement is put in a box as soon as it is made, since it isn't dropped where it stands; and an expression stays in its box
+//! until the statement that holds it is made, since to drop the box is one step, and to drop the expression is many.
 
 ghost use Rattle.std.specs.Prelude.{◌≡◌, IfOk, map};
 ghost use Rattle.stk_tree.specs.Syntax as s;
@@ -38,6 +39,16 @@ pub fn made(alloc: Global, form: StmtForm) -> Result<Boxed<Stmt>, AllocError>
     )
 }
 
+/// An expression out of its box, where there is one.
+pub fn opened(value: Option<Boxed<Expr>>) -> Option<Expr>
+    ensures { given_expression result ≡ given_expression value }
+{
+    match value {
+        None => None,
+        Some(e) => Some(e.into_inner()),
+    }
+}
+
 /// `{ parts }`
 pub fn block(list: List<Part>) -> StmtForm
     ensures { view_statement_form result ≡ s.block (parts (map view_part list)) }
@@ -46,52 +57,64 @@ pub fn block(list: List<Part>) -> StmtForm
 }
 
 /// `[e] ;`
-pub fn plain(value: Option<Expr>) -> StmtForm
+pub fn plain(value: Option<Boxed<Expr>>) -> StmtForm
     ensures { view_statement_form result ≡ s.expression_statement (given_expression value) }
 {
-    StmtForm::Plain(value)
+    StmtForm::Plain(opened(value))
 }
 
 /// An `if` without `else`.
-pub fn lone_if(test: Expr, then: Boxed<Stmt>) -> StmtForm
+pub fn lone_if(test: Boxed<Expr>, then: Boxed<Stmt>) -> StmtForm
     ensures { view_statement_form result ≡ s.if_statement (view_expression test) (view_statement then) s.no_statement }
 {
-    StmtForm::If(test, then, None)
+    StmtForm::If(test.into_inner(), then, None)
 }
 
-/// An `if` with an `else`.
-pub fn if_else(test: Expr, then: Boxed<Stmt>, other: Boxed<Stmt>) -> StmtForm
+/// An `if` with an `else`, whose test is out of its box.
+fn if_form(test: Expr, then: Boxed<Stmt>, other: Boxed<Stmt>) -> StmtForm
     ensures { view_statement_form result ≡ s.if_statement (view_expression test) (view_statement then) (s.some_statement (view_statement other)) }
 {
     StmtForm::If(test, then, Some(other))
 }
 
+/// An `if` with an `else`.
+pub fn if_else(test: Boxed<Expr>, then: Boxed<Stmt>, other: Boxed<Stmt>) -> StmtForm
+    ensures { view_statement_form result ≡ s.if_statement (view_expression test) (view_statement then) (s.some_statement (view_statement other)) }
+{
+    if_form(test.into_inner(), then, other)
+}
+
 /// `switch (e) { sections }`
-pub fn switch(value: Expr, list: List<Section>) -> StmtForm
+pub fn switch(value: Boxed<Expr>, list: List<Section>) -> StmtForm
     ensures { view_statement_form result ≡ s.switch_statement (view_expression value) (sections (map view_section list)) }
 {
-    StmtForm::Switch(value, list)
+    StmtForm::Switch(value.into_inner(), list)
 }
 
 /// `while (e) statement`
-pub fn while_loop(test: Expr, body: Boxed<Stmt>) -> StmtForm
+pub fn while_loop(test: Boxed<Expr>, body: Boxed<Stmt>) -> StmtForm
     ensures { view_statement_form result ≡ s.while_statement (view_expression test) (view_statement body) }
 {
-    StmtForm::While(test, body)
+    StmtForm::While(test.into_inner(), body)
 }
 
 /// `do statement while (e) ;`
-pub fn do_loop(body: Boxed<Stmt>, test: Expr) -> StmtForm
+pub fn do_loop(body: Boxed<Stmt>, test: Boxed<Expr>) -> StmtForm
     ensures { view_statement_form result ≡ s.do_statement (view_statement body) (view_expression test) }
 {
-    StmtForm::Do(body, test)
+    StmtForm::Do(body, test.into_inner())
 }
 
 /// `for (start [e] ; [e]) statement`
-pub fn for_loop(start: Start, test: Option<Expr>, step: Option<Expr>, body: Boxed<Stmt>) -> StmtForm
+pub fn for_loop(
+    start: Boxed<Start>,
+    test: Option<Boxed<Expr>>,
+    step: Option<Boxed<Expr>>,
+    body: Boxed<Stmt>,
+) -> StmtForm
     ensures { view_statement_form result ≡ s.for_statement (view_start start) (given_expression test) (given_expression step) (view_statement body) }
 {
-    StmtForm::For(start, test, step, body)
+    StmtForm::For(start.into_inner(), opened(test), opened(step), body)
 }
 
 /// `break ;`
@@ -109,10 +132,10 @@ pub fn continue_form() -> StmtForm
 }
 
 /// `return [e] ;`
-pub fn return_form(value: Option<Expr>) -> StmtForm
+pub fn return_form(value: Option<Boxed<Expr>>) -> StmtForm
     ensures { view_statement_form result ≡ s.return_statement (given_expression value) }
 {
-    StmtForm::Return(value)
+    StmtForm::Return(opened(value))
 }
 
 /// A declaration as a part of a block.

@@ -6,8 +6,10 @@ ghost use Rattle.stk_decl_grammar.specs.Reading.{declaration_at, front_at};
 ghost use Rattle.stk_stmt_grammar.specs.Reading.{begins_local, start_at};
 ghost use Rattle.stk_expr.specs.Gives.{Gives, named};
 
+use crate::build::opened;
 use crate::expressions::ended;
 use std::alloc::Global;
+use stk_base::Boxed;
 use stk_ctype::Names;
 use stk_decl::{LeadingDeclaration, declaration_within, front_within};
 use stk_expr::{Parse, begins_type};
@@ -58,14 +60,14 @@ pub fn start<'a>(
     names: &Names,
     room: usize,
     lexemes: &'a [Lexeme],
-) -> Result<(Start, &'a [Lexeme]), Parse>
+) -> Result<(Boxed<Start>, &'a [Lexeme]), Parse>
     requires { room ≤ 400 }
     ensures { Gives (λ x. (view_start x.0, x.1.now)) result (start_at (named bytes.now names.now) room lexemes.now) }
 {
     if begins_local(bytes, names, lexemes) {
         let found = declaration(alloc, bytes, names, false, room, lexemes)?;
-        return Ok((Start::Local(found.tree), found.rest));
+        return Ok((Boxed::new(alloc, Start::Local(found.tree))?, found.rest));
     }
     let (found, rest) = ended(alloc, bytes, names, room, lexemes)?;
-    Ok((Start::Plain(found), rest))
+    Ok((Boxed::new(alloc, Start::Plain(opened(found)))?, rest))
 }

@@ -7,6 +7,7 @@ ghost use Rattle.stk_stmt_grammar.specs.Reading.{closed_at, condition_at, ended_
 ghost use Rattle.stk_expr.specs.Gives.{Gives, named};
 
 use std::alloc::Global;
+use stk_base::Boxed;
 use stk_ctype::Names;
 use stk_expr::{Leading, Parse, expression};
 use stk_grammar::{behind_left_paren, behind_right_paren, behind_semicolon};
@@ -36,7 +37,7 @@ pub fn condition<'a>(
     names: &Names,
     room: usize,
     lexemes: &'a [Lexeme],
-) -> Result<(Expr, &'a [Lexeme]), Parse>
+) -> Result<(Boxed<Expr>, &'a [Lexeme]), Parse>
     requires { room ≤ 400 }
     ensures { Gives (λ x. (view_expression x.0, x.1.now)) result (condition_at (named bytes.now names.now) room lexemes.now) }
 {
@@ -47,7 +48,7 @@ pub fn condition<'a>(
     let Some(rest) = behind_right_paren(found.rest) else {
         return Err(Parse::NoTree);
     };
-    Ok((found.tree.into_inner(), rest))
+    Ok((found.tree, rest))
 }
 
 /// `[e] ;`
@@ -58,7 +59,7 @@ pub fn ended<'a>(
     names: &Names,
     room: usize,
     lexemes: &'a [Lexeme],
-) -> Result<(Option<Expr>, &'a [Lexeme]), Parse>
+) -> Result<(Option<Boxed<Expr>>, &'a [Lexeme]), Parse>
     requires { room ≤ 400 }
     ensures { Gives (λ x. (given_expression x.0, x.1.now)) result (ended_at (named bytes.now names.now) room lexemes.now) }
 {
@@ -69,7 +70,7 @@ pub fn ended<'a>(
     let Some(rest) = behind_semicolon(found.rest) else {
         return Err(Parse::NoTree);
     };
-    Ok((Some(found.tree.into_inner()), rest))
+    Ok((Some(found.tree), rest))
 }
 
 /// `[e] )`
@@ -80,7 +81,7 @@ pub fn closed<'a>(
     names: &Names,
     room: usize,
     lexemes: &'a [Lexeme],
-) -> Result<(Option<Expr>, &'a [Lexeme]), Parse>
+) -> Result<(Option<Boxed<Expr>>, &'a [Lexeme]), Parse>
     requires { room ≤ 400 }
     ensures { Gives (λ x. (given_expression x.0, x.1.now)) result (closed_at (named bytes.now names.now) room lexemes.now) }
 {
@@ -91,5 +92,5 @@ pub fn closed<'a>(
     let Some(rest) = behind_right_paren(found.rest) else {
         return Err(Parse::NoTree);
     };
-    Ok((Some(found.tree.into_inner()), rest))
+    Ok((Some(found.tree), rest))
 }

@@ -26,8 +26,8 @@ use stk_tree::{Expr, Lexeme, Part, Section, Stmt};
 /// The test, the step and the body of a `for`, and the tokens behind it.
 #[derive(Drop)]
 struct ForParts<'a> {
-    test: Option<Expr>,
-    step: Option<Expr>,
+    test: Option<Boxed<Expr>>,
+    step: Option<Boxed<Expr>>,
     body: Boxed<Stmt>,
     rest: &'a [Lexeme],
 }
@@ -149,7 +149,7 @@ fn if_rest<'a>(
     bytes: &[u8],
     names: &Names,
     inner: usize,
-    test: Expr,
+    test: Boxed<Expr>,
     then: Boxed<Stmt>,
     lexemes: &'a [Lexeme],
 ) -> Result<(Boxed<Stmt>, &'a [Lexeme]), Parse>
