@@ -7,7 +7,7 @@
 set -eu
 . "$(dirname "$0")/program.sh"
 ending=$said
-build_program declbench stk_base stk_lex stk_ctype stk_tree stk_lexeme stk_layout stk_grammar stk_expr stk_decl_grammar stk_decl <<'PROGRAM'
+build_program declbench stk_base stk_lex stk_ctype stk_tree stk_lexeme stk_tree_layout stk_grammar stk_expr stk_decl_grammar stk_decl <<'PROGRAM'
 //! Reads the input as a declaration at file scope.
 #![tactic(auto)]
 

@@ -6,7 +6,7 @@
 set -eu
 . "$(dirname "$0")/program.sh"
 ending=$said
-build_program exprbench stk_base stk_lex stk_ctype stk_tree stk_lexeme stk_layout stk_grammar stk_expr <<'END'
+build_program exprbench stk_base stk_lex stk_ctype stk_tree stk_lexeme stk_tree_layout stk_grammar stk_expr <<'END'
 //! Reads the input as an expression.
 #![tactic(auto)]
 

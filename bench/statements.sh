@@ -6,7 +6,7 @@
 # them were read. No word is a typedef name.
 set -eu
 . "$(dirname "$0")/program.sh"
-build_program stmtbench stk_base stk_lex stk_units stk_ctype stk_tree stk_lexeme stk_layout stk_grammar stk_expr stk_decl_grammar stk_decl stk_stmt_grammar stk_stmt <<'PROGRAM'
+build_program stmtbench stk_base stk_lex stk_units stk_ctype stk_tree stk_lexeme stk_tree_layout stk_grammar stk_expr stk_decl_grammar stk_decl stk_stmt_grammar stk_stmt <<'PROGRAM'
 //! Reads the units of the input.
 #![tactic(auto)]
 

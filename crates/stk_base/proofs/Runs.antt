@@ -33,7 +33,7 @@ pub record HasWritten (before now : Option (List ℕ)) (flushed_before flushed_n
   pub parts : bytes ≡ front ++ rest
   pub appended : Appended before now front
   pub flushed : flushed_now ≡ flushed_before
-  pub later : faults_before ≤ faults_now
+  pub faults : faults_now ≡ faults_before
 
 -- a piece that has more bytes than the limit leaves room for brings a list over the limit
 pub brings_over : (items piece : List ℕ) (count limit : ℕ) → count ≤ length piece → limit - length items < count → limit < length (items ++ take count piece)
@@ -45,13 +45,13 @@ stays_within items piece count limit within fits few = simp (length-append, leng
 
 -- one write more, which took n bytes of the rest
 pub wrote_more : (before now later : Option (List ℕ)) (fl fl' fl'' fa fa' fa'' n : ℕ) (bytes rest rest' : List ℕ) → HasWritten before now fl fl' fa fa' bytes rest
-    → rest' ≡ drop n rest → Appended now later (take n rest) → fl'' ≡ fl' → fa' ≤ fa'' → HasWritten before later fl fl'' fa fa'' bytes rest'
-wrote_more before now later fl fl' fl'' fa fa' fa'' n bytes rest rest' so_far left took same more = record {
+    → rest' ≡ drop n rest → Appended now later (take n rest) → fl'' ≡ fl' → fa'' ≡ fa' → HasWritten before later fl fl'' fa fa'' bytes rest'
+wrote_more before now later fl fl' fl'' fa fa' fa'' n bytes rest rest' so_far left took same none = record {
   front = so_far.front ++ take n rest;
   parts = so_far.parts ∙ ap (λ xs. so_far.front ++ xs) (sym (take-append-drop n rest)) ∙ sym (append_assoc so_far.front (take n rest) (drop n rest)) ∙ ap (λ xs. so_far.front ++ take n rest ++ xs) (sym left);
   appended = appended_more before now later so_far.front (take n rest) so_far.appended took;
   flushed = same ∙ so_far.flushed;
-  later = omega (arith, so_far.later, more);
+  faults = none ∙ so_far.faults;
 }
 
 -- who answers want of memory doesn't answer that there was too much

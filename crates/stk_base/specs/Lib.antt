@@ -5,3 +5,4 @@ pub mod Status
 pub mod Causes
 pub mod Streams
 pub mod MemoryStreams
+pub mod Limits

@@ -14,9 +14,9 @@ IsSpent left = (bytes : List ℕ) → left ≡ Some bytes → bytes ≡ []
 abbrev pub Appended : Option (List ℕ) → Option (List ℕ) → List ℕ → Type 0
 Appended before after bytes = after ≡ option_map (λ taken. taken ++ bytes) before
 
--- a sink took some front of these bytes and nothing else
-abbrev pub AppendedFront : Option (List ℕ) → Option (List ℕ) → List ℕ → Type 0
-AppendedFront before after bytes = (front rest : List ℕ) × (bytes ≡ front ++ rest) × Appended before after front
+-- a sink took some prefix of these bytes and nothing else
+abbrev pub AppendedPrefix : Option (List ℕ) → Option (List ℕ) → List ℕ → Type 0
+AppendedPrefix before after bytes = (front rest : List ℕ) × (bytes ≡ front ++ rest) × Appended before after front
 
 -- all that a sink took is flushed
 abbrev pub IsFlushed : Option (List ℕ) → ℕ → Type 0

@@ -4,6 +4,7 @@
 
 mod boxed;
 mod failures;
+mod limits;
 mod list;
 mod mem_sink;
 mod mem_source;
@@ -15,6 +16,7 @@ mod token;
 
 pub use boxed::Boxed;
 pub use failures::{Failed, NoMemory};
+pub use limits::MOST_BYTES;
 pub use list::List;
 pub use mem_sink::MemSink;
 pub use mem_source::MemSource;

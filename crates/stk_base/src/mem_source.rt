@@ -66,7 +66,7 @@ impl Source for MemSource {
     ghost faults = { λ s. s.faults };
 
     /// As `Source::read` says; it fails exactly where the number of the call is among the failing ones. The numbers of
-    /// calls and of faults stop at the last value of a u64. With no failing call it counts no fault.
+    /// calls and of faults stop at the last value of a u64.
     fn read(&mut self, piece: &mut [u8]) -> Result<usize, Failed>
         ensures bound { IfOk result (λ n. n ≤ length piece.old) }
         ensures bytes { IfOk result (λ n. Came (Some self.old.left) (Some self.new.left) (take n piece.new)) }

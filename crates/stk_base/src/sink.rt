@@ -2,7 +2,7 @@
 ghost use Rattle.std.specs.Prelude.{◌≡◌, ◌≤◌, ◌<◌, ℕ, List, length, take, IfOk, OnOk, OnErr};
 ghost use Rattle.std.specs.Prelude.{Option};
 ghost use Rattle.stk_base.specs.Causes.{HasCause};
-ghost use Rattle.stk_base.specs.Streams.{Appended, AppendedFront, IsFlushed};
+ghost use Rattle.stk_base.specs.Streams.{Appended, AppendedPrefix, IsFlushed};
 
 use crate::Failed;
 
@@ -19,7 +19,7 @@ pub trait Sink {
     ghost faults: { Self → ℕ };
 
     /// Takes bytes from the front of `piece`, and answers how many: at least 1 of a piece that isn't empty. `Failed`
-    /// comes only where the sink counted a fault, and then it took nothing. What is flushed stays as it was.
+    /// comes exactly where the sink counted a fault, and then it took nothing. What is flushed stays as it was.
     fn write(&mut self, piece: &[u8]) -> Result<usize, Failed>
         ensures bound { IfOk result (λ n. n ≤ length piece.now) }
         ensures some { IfOk result (λ n. 0 < length piece.now → 0 < n) }
@@ -28,7 +28,7 @@ pub trait Sink {
         ensures flushed { flushed self.new ≡ flushed self.old }
         ensures cause { HasCause (faults self.old) (faults self.new) result };
 
-    /// Flushes all that the sink took. `Failed` comes only where the sink counted a fault, and leaves what is flushed.
+    /// Flushes all that the sink took. `Failed` comes exactly where the sink counted a fault, and leaves what is flushed.
     fn flush(&mut self) -> Result<(), Failed>
         ensures taken { taken self.new ≡ taken self.old }
         ensures flushed { OnOk result (IsFlushed (taken self.new) (flushed self.new)) }
@@ -36,11 +36,11 @@ pub trait Sink {
         ensures cause { HasCause (faults self.old) (faults self.new) result };
 }
 
-/// Writes all of `bytes` to a sink, in as many calls as it takes. `Failed` comes only where the sink counted a fault:
-/// then it took a front of `bytes`. It flushes nothing and takes no memory.
+/// Writes all of `bytes` to a sink, in as many calls as it takes, up to the first that fails. `Failed` comes exactly
+/// where the sink counted a fault: then it took a prefix of `bytes`. It flushes nothing and takes no memory.
 pub fn write_all<K: Sink>(sink: &mut K, bytes: &[u8]) -> Result<(), Failed>
     ensures all { OnOk result (Appended (K.taken sink.old) (K.taken sink.new) bytes.now) }
-    ensures front { OnErr result (AppendedFront (K.taken sink.old) (K.taken sink.new) bytes.now) }
+    ensures prefix { OnErr result (AppendedPrefix (K.taken sink.old) (K.taken sink.new) bytes.now) }
     ensures flushed { K.flushed sink.new ≡ K.flushed sink.old }
     ensures cause { HasCause (K.faults sink.old) (K.faults sink.new) result }
 {

@@ -17,8 +17,8 @@ pub trait Source {
     ghost faults: { Self → ℕ };
 
     /// Reads up to `piece.len()` bytes into the front of `piece`, and answers how many. 0 for a piece that isn't empty
-    /// says that nothing is left. `Failed` comes only where the source counted a fault, and leaves what was left; what
-    /// the piece then holds isn't said.
+    /// says that nothing is left; no answer but `Failed` counts a fault. `Failed` comes only where the source counted
+    /// one, and leaves what was left; what the piece then holds isn't said.
     fn read(&mut self, piece: &mut [u8]) -> Result<usize, Failed>
         ensures bound { IfOk result (λ n. n ≤ length piece.old) }
         ensures bytes { IfOk result (λ n. Came (left self.old) (left self.new) (take n piece.new)) }
@@ -61,8 +61,9 @@ pub const READ_PIECE: usize = 16_384;
 /// afterwards. After any other answer what is left is a suffix of what was left, and `came` below is what lies before it.
 ///
 /// `TooLarge` comes exactly where more than `limit` bytes came before the end and before any failed call; it then stops
-/// at once, so that at most one piece more had come. `ReadFault` comes only where the source counted a fault, and
-/// `NoMemory` where an allocation was refused: then at most `limit` bytes had come. `limit` is below 2 to the 32.
+/// at once, so that at most one piece more had come. `ReadFault` comes only where the source counted a fault, and no
+/// other answer where it did: the first failed call is the last one. `NoMemory` comes where an allocation was refused:
+/// then at most `limit` bytes had come. `limit` is below 2 to the 32.
 pub fn read_all<S: Source>(alloc: Global, source: &mut S, limit: u64) -> Result<Vec<u8>, ReadAll>
     requires { limit < 2 ^ 32 }
     ensures whole { IfOk result (λ bytes. Came (S.left source.old) (S.left source.new) bytes.items) }
@@ -73,6 +74,7 @@ pub fn read_all<S: Source>(alloc: Global, source: &mut S, limit: u64) -> Result<
     ensures too_large { (came : List ℕ) × Came (S.left source.old) (S.left source.new) came
         × (IsErrOf result ReadAll.TooLarge ↔ (limit < length came)) × (length came ≤ limit + READ_PIECE) }
     ensures fault { IsErrOf result ReadAll.ReadFault → Rose (S.faults source.old) (S.faults source.new) }
+    ensures no_fault { IsErrOf result ReadAll.ReadFault ⊎ (S.faults source.new ≡ S.faults source.old) }
     ensures later { S.faults source.old ≤ S.faults source.new }
 
     // What the answer is over a source that tells its bytes and doesn't fail.
@@ -101,6 +103,7 @@ fn gather<S: Source>(
     ensures too_large { (came : List ℕ) × Came (S.left source.old) (S.left source.new) came
         × (IsErrOf result ReadAll.TooLarge ↔ (limit < length came)) × (length came ≤ limit + length piece.old) }
     ensures fault { IsErrOf result ReadAll.ReadFault → Rose (S.faults source.old) (S.faults source.new) }
+    ensures no_fault { IsErrOf result ReadAll.ReadFault ⊎ (S.faults source.new ≡ S.faults source.old) }
     ensures later { S.faults source.old ≤ S.faults source.new }
 {
     let mut bytes = Vec::new(alloc);

@@ -8,20 +8,21 @@ use Rattle.stk_tree.specs.Syntax.{DeclarationTree}
 use Rattle.stk_tree.specs.Syntax as s
 use Rattle.stk_tree.specs.Layout.{laid_declaration}
 use Rattle.stk_tree.specs.Tokens.{base_tokens, declaration_tokens, declarators_tokens, storage_tokens}
-use Rattle.stk_layout.proofs.LaidHeights.{declaration_height-laid}
-use Rattle.stk_layout.proofs.LaidPlaces.{base_placed-laid, declarator_placed-laid, file_placed-laid, function_declarator-laid, is_bare-laid, local_placed-laid}
-use Rattle.stk_layout.proofs.LaidTokens.{base_tokens-laid, declaration_tokens-laid, declarators_tokens-laid}
-use Rattle.stk_grammar.proofs.LaidBare.{bare_base-laid, bare_declarators-laid}
+use Rattle.stk_tree_layout.proofs.LaidNestings.{declaration_nesting-laid}
+use Rattle.stk_tree_layout.proofs.LaidPlaces.{base_placed-laid, declarator_placed-laid, file_placed-laid, function_declarator-laid, is_unbraced-laid, local_placed-laid}
+use Rattle.stk_tree_layout.proofs.LaidTokens.{base_tokens-laid, declaration_tokens-laid, declarators_tokens-laid}
+use Rattle.stk_grammar.proofs.LaidUnlaid.{unlaid_base-laid, unlaid_declarators-laid}
 use Rattle.stk_grammar.proofs.LaidFits.{base_fits-laid, declarators_fits-laid}
-use Rattle.stk_decl_grammar.specs.Bare.{bare_declaration}
-use Rattle.stk_decl_grammar.specs.Declarations.{IsDeclaration, IsFront, declaration_fits, declaration_placed, front_placed, front_tokens}
+use Rattle.stk_tree.specs.Unlaid.{unlaid_declaration}
+use Rattle.stk_tree.specs.Fits.{declaration_fits}
+use Rattle.stk_decl_grammar.specs.Declarations.{IsDeclaration, IsFront, declaration_placed, front_placed, front_tokens}
 
 module _ (set : ℕ → ℕ → ℕ → Node) where
   fits : (named : Span → Bool) (d : DeclarationTree) (n t : ℕ) → declaration_fits named (laid_declaration set n t d) ≡ declaration_fits named d
   fits named (s.declaration word b ds) n t = rw (base_fits-laid set named b _ _, declarators_fits-laid set named ds _ _) refl
 
-  bare : (d : DeclarationTree) (n t : ℕ) → bare_declaration (laid_declaration set n t d) ≡ bare_declaration d
-  bare (s.declaration word b ds) n t = rw (bare_base-laid set b _ _, bare_declarators-laid set ds _ _) refl
+  unlaid : (d : DeclarationTree) (n t : ℕ) → unlaid_declaration (laid_declaration set n t d) ≡ unlaid_declaration d
+  unlaid (s.declaration word b ds) n t = rw (unlaid_base-laid set b _ _, unlaid_declarators-laid set ds _ _) refl
 
   placed : (file : Bool) (d : DeclarationTree) (n t : ℕ) → declaration_placed file (laid_declaration set n t d) ≡ declaration_placed file d
   placed true d n t = file_placed-laid set d n t
@@ -33,7 +34,7 @@ module _ (set : ℕ → ℕ → ℕ → Node) where
   placed_front : (d : DeclarationTree) (n t : ℕ) → front_placed (laid_declaration set n t d) ≡ front_placed d
   placed_front (s.declaration word b s.no_declarators) n t = refl
   placed_front (s.declaration word b (s.then_declarator d s.no_declarators)) n t =
-      rw (is_bare-laid set b _ _, base_placed-laid set b _ _, function_declarator-laid set d _ _, declarator_placed-laid set d _ _) refl
+      rw (is_unbraced-laid set b _ _, base_placed-laid set b _ _, function_declarator-laid set d _ _, declarator_placed-laid set d _ _) refl
   placed_front (s.declaration word b (s.then_declarator d (s.then_declarator e es))) n t = refl
 
   pub laid_is : (named : Span → Bool) (file : Bool) (ts : List Lexeme) (from to : ℕ) (d : DeclarationTree) (n t : ℕ) → IsDeclaration named file ts from to d
@@ -43,7 +44,7 @@ module _ (set : ℕ → ℕ → ℕ → Node) where
     tokens = h.tokens ∙ sym (declaration_tokens-laid set d n t);
     placed = placed file d n t ∙ h.placed;
     fits = fits named d n t ∙ h.fits;
-    height = rw (declaration_height-laid set d n t) h.height;
+    nesting = rw (declaration_nesting-laid set d n t) h.nesting;
   }
 
   pub laid_front_is : (named : Span → Bool) (ts : List Lexeme) (from to : ℕ) (d : DeclarationTree) (n t : ℕ) → IsFront named ts from to d → IsFront named ts from to (laid_declaration set n t d)
@@ -52,13 +53,13 @@ module _ (set : ℕ → ℕ → ℕ → Node) where
     tokens = h.tokens ∙ sym (front_text d n t);
     placed = placed_front d n t ∙ h.placed;
     fits = fits named d n t ∙ h.fits;
-    height = rw (declaration_height-laid set d n t) h.height;
+    nesting = rw (declaration_nesting-laid set d n t) h.nesting;
     body = h.body;
   }
 
-  -- a bare tree that is laid out is the layout of the bare tree
-  pub laid_bare : (d e : DeclarationTree) (n t : ℕ) → bare_declaration d ≡ d → e ≡ laid_declaration set n t d → e ≡ laid_declaration set n t (bare_declaration e)
-  laid_bare d e n t is q = q ∙ ap (laid_declaration set n t) (sym (ap bare_declaration q ∙ bare d n t ∙ is))
+  -- a unlaid tree that is laid out is the layout of the unlaid tree
+  pub laid_unlaid : (d e : DeclarationTree) (n t : ℕ) → unlaid_declaration d ≡ d → e ≡ laid_declaration set n t d → e ≡ laid_declaration set n t (unlaid_declaration e)
+  laid_unlaid d e n t is q = q ∙ ap (laid_declaration set n t) (sym (ap unlaid_declaration q ∙ unlaid d n t ∙ is))
 
 slice_width : (ts : List Lexeme) (from to : ℕ) (xs : List Lexeme) → from ≤ to → to ≤ length ts → take (to - from) (drop from ts) ≡ xs → from + length xs ≤ length ts
 slice_width ts from to xs low high e =

@@ -1,7 +1,7 @@
 -- The turns of the readers' loops over rows, once for all rows.
 use Rattle.std.proofs.Common.{◌≡◌, ℕ, zero, suc, ◌+◌, ◌-◌, ◌<◌, ◌≤◌, max, Bool, true, false, List, [], ◌∷◌, ◌++◌, length, map, Option, Some, None, refl, sym, ap, ◌∙◌, arith}
 use Rattle.stk_tree.specs.declared.fixed.Lexeme.{Lexeme}
-use Rattle.stk_tree.specs.Height.{designator_height, designators_height, parameter_height, parameters_height}
+use Rattle.stk_tree.specs.Nesting.{designator_nesting, designators_nesting, parameter_nesting, parameters_nesting}
 use Rattle.stk_tree.specs.Syntax.{DeclrTree, DeclrTrees, DesigTree, DesigTrees, DimensionTree, DimensionTrees, EnumrTree, EnumrTrees, ItemTree, ItemTrees, MemberTree, MemberTrees, ParamTree, ParamTrees, TailTree}
 use Rattle.stk_tree.specs.Syntax as s
 use Rattle.stk_tree.specs.View.{chained}
@@ -311,23 +311,23 @@ turn_end t b next o e h = sym e ∙ ap (λ t. Some (t, next)) h
 pub pushed_first : {A B : Type 0} (f : A → B) (items new : List A) (x : A) → items ≡ [] → new ≡ items ++ (x ∷ []) → map f new ≡ f x ∷ []
 pushed_first f items new x e h = ap (map f) (h ∙ ap (λ xs. xs ++ (x ∷ [])) e)
 
--- ---- heights of rows with one more element
+-- ---- nestings of rows with one more element
 
-pub parameters_height-push : (xs : List ParamTree) (x : ParamTree)
-    → parameters_height (chained s.then_parameter s.no_parameters (xs ++ (x ∷ []))) ≡ max (parameters_height (chained s.then_parameter s.no_parameters xs)) (parameter_height x)
-parameters_height-push [] x = omega arith
-parameters_height-push (y ∷ ys) x = omega (arith, parameters_height-push ys x)
+pub parameters_nesting-push : (xs : List ParamTree) (x : ParamTree)
+    → parameters_nesting (chained s.then_parameter s.no_parameters (xs ++ (x ∷ []))) ≡ max (parameters_nesting (chained s.then_parameter s.no_parameters xs)) (parameter_nesting x)
+parameters_nesting-push [] x = omega arith
+parameters_nesting-push (y ∷ ys) x = omega (arith, parameters_nesting-push ys x)
 
-designators_height-push : (xs : List DesigTree) (x : DesigTree)
-    → designators_height (chained s.then_designator s.no_designators (xs ++ (x ∷ []))) ≡ max (designators_height (chained s.then_designator s.no_designators xs)) (designator_height x + suc (length xs))
-designators_height-push [] x = omega arith
-designators_height-push (y ∷ ys) x = omega (arith, designators_height-push ys x)
+designators_nesting-push : (xs : List DesigTree) (x : DesigTree)
+    → designators_nesting (chained s.then_designator s.no_designators (xs ++ (x ∷ []))) ≡ max (designators_nesting (chained s.then_designator s.no_designators xs)) (designator_nesting x + suc (length xs))
+designators_nesting-push [] x = omega arith
+designators_nesting-push (y ∷ ys) x = omega (arith, designators_nesting-push ys x)
 
 length_map : {A B : Type 0} (f : A → B) (xs : List A) → length (map f xs) ≡ length xs
 length_map f [] = refl
 length_map f (x ∷ xs) = ap suc (length_map f xs)
 
-pub designators_height-items : {A : Type 0} (f : A → DesigTree) (items : List A) (x : DesigTree)
-    → designators_height (chained s.then_designator s.no_designators (map f items ++ (x ∷ []))) ≡ max (designators_height (chained s.then_designator s.no_designators (map f items))) (designator_height x + suc (length items))
-designators_height-items f items x =
-    designators_height-push (map f items) x ∙ ap (λ n. max (designators_height (chained s.then_designator s.no_designators (map f items))) (designator_height x + suc n)) (length_map f items)
+pub designators_nesting-items : {A : Type 0} (f : A → DesigTree) (items : List A) (x : DesigTree)
+    → designators_nesting (chained s.then_designator s.no_designators (map f items ++ (x ∷ []))) ≡ max (designators_nesting (chained s.then_designator s.no_designators (map f items))) (designator_nesting x + suc (length items))
+designators_nesting-items f items x =
+    designators_nesting-push (map f items) x ∙ ap (λ n. max (designators_nesting (chained s.then_designator s.no_designators (map f items))) (designator_nesting x + suc n)) (length_map f items)

@@ -5,10 +5,10 @@ use Rattle.stk_base.specs.declared.span.Span.{Span}
 use Rattle.stk_tree.specs.declared.fixed.Fixed.{Fixed}
 use Rattle.stk_tree.specs.declared.fixed.Lexeme.{Lexeme}
 use Rattle.stk_tree.specs.declared.fixed.Lexeme.TheVariants.{Fixed as Token}
-use Rattle.stk_tree.specs.Height.{declarator_height, maybe_initialiser_height, tail_height}
+use Rattle.stk_tree.specs.Nesting.{declarator_nesting, maybe_initialiser_nesting, tail_nesting}
 use Rattle.stk_tree.specs.Syntax.{DeclrTree, MaybeInitTree, ParamTree, TailTree}
 use Rattle.stk_tree.specs.Syntax as s
-use Rattle.stk_grammar.specs.Bare.{no_node}
+use Rattle.stk_tree.specs.Unlaid.{no_node}
 use Rattle.stk_grammar.specs.Reading.{◌>>=◌, Found, behind_right_paren, stars_at}
 use Rattle.stk_decl_grammar.specs.Reading.{Reader, behind_void, declarator_at, declarator_behind, declarator_name_behind, declared_tail_at, enumerator_at, enumerators_at, full_base_at, full_base_from, full_base_on, initial_at, low_declarator, member_at, members_at, more_parameters_at, name_at, parameter_tail_at, parameters_from}
 use Rattle.stk_expr.specs.declared.parse.Parse.{Parse}
@@ -73,19 +73,19 @@ behind_initial : (named : Span → Bool) (inner : ℕ) (file : Bool) (count : �
 behind_initial named inner file count at rest t more i tail init =
     behind_tail named inner file count at rest (t, more) tail ∙ ap (λ (o : Found MaybeInitTree). o >>= with_initial inner count at t) init
 
-pub declarator_high : (named : Span → Bool) (inner : ℕ) (file : Bool) (count : ℕ) (at : Span) (rest : List Lexeme) (t : TailTree) (more : List Lexeme) (i : MaybeInitTree) (end : List Lexeme) (height : ℕ)
-    → declared_tail_at named inner file rest ≡ Some (t, more) → initial_at named inner more ≡ Some (i, end) → height ≡ tail_height t → inner < height + count
+pub declarator_high : (named : Span → Bool) (inner : ℕ) (file : Bool) (count : ℕ) (at : Span) (rest : List Lexeme) (t : TailTree) (more : List Lexeme) (i : MaybeInitTree) (end : List Lexeme) (nesting : ℕ)
+    → declared_tail_at named inner file rest ≡ Some (t, more) → initial_at named inner more ≡ Some (i, end) → nesting ≡ tail_nesting t → inner < nesting + count
     → declarator_behind named inner file count (at, rest) ≡ None
-declarator_high named inner file count at rest t more i end height tail init high over =
-    let more_than : suc inner < declarator_height (s.declarator no_node count (Some at) t i) = omega arith in
-    behind_initial named inner file count at rest t more (i, end) tail init ∙ rw (lt-leb (declarator_height (s.declarator no_node count (Some at) t i)) (suc inner) more_than) refl
+declarator_high named inner file count at rest t more i end nesting tail init high over =
+    let more_than : suc inner < declarator_nesting (s.declarator no_node count (Some at) t i) = omega arith in
+    behind_initial named inner file count at rest t more (i, end) tail init ∙ rw (lt-leb (declarator_nesting (s.declarator no_node count (Some at) t i)) (suc inner) more_than) refl
 
-pub declarator_low : (named : Span → Bool) (inner : ℕ) (file : Bool) (count : ℕ) (at : Span) (rest : List Lexeme) (t : TailTree) (more : List Lexeme) (i : MaybeInitTree) (end : List Lexeme) (height : ℕ)
-    → declared_tail_at named inner file rest ≡ Some (t, more) → initial_at named inner more ≡ Some (i, end) → height ≡ tail_height t → height + count ≤ inner → maybe_initialiser_height i ≤ inner
+pub declarator_low : (named : Span → Bool) (inner : ℕ) (file : Bool) (count : ℕ) (at : Span) (rest : List Lexeme) (t : TailTree) (more : List Lexeme) (i : MaybeInitTree) (end : List Lexeme) (nesting : ℕ)
+    → declared_tail_at named inner file rest ≡ Some (t, more) → initial_at named inner more ≡ Some (i, end) → nesting ≡ tail_nesting t → nesting + count ≤ inner → maybe_initialiser_nesting i ≤ inner
     → declarator_behind named inner file count (at, rest) ≡ Some (s.declarator no_node count (Some at) t i, end)
-declarator_low named inner file count at rest t more i end height tail init high low low_init =
-    let within : declarator_height (s.declarator no_node count (Some at) t i) ≤ suc inner = omega arith in
-    behind_initial named inner file count at rest t more (i, end) tail init ∙ rw (le-leb (declarator_height (s.declarator no_node count (Some at) t i)) (suc inner) within) refl
+declarator_low named inner file count at rest t more i end nesting tail init high low low_init =
+    let within : declarator_nesting (s.declarator no_node count (Some at) t i) ≤ suc inner = omega arith in
+    behind_initial named inner file count at rest t more (i, end) tail init ∙ rw (le-leb (declarator_nesting (s.declarator no_node count (Some at) t i)) (suc inner) within) refl
 
 -- ---- a base
 

@@ -1,22 +1,23 @@
 //! Bases with braces (C11 6.7.2).
 
 ghost use Rattle.std.specs.Prelude.{◌≡◌, ◌≤◌, ◌<◌, map};
+ghost use Rattle.stk_tree.specs.Nesting.{most_nesting};
 ghost use Rattle.stk_tree.specs.View.{enumerators, given_expression, members, view_base_form, view_enumerator, view_member};
 ghost use Rattle.stk_decl_grammar.specs.Reading.{enum_behind, enumerator_at, enumerators_at, full_base_at, full_base_on, member_at, members_at, optional_word_at, struct_behind, value_at};
-ghost use Rattle.stk_expr.specs.Gives.{Gives, named};
+ghost use Rattle.stk_ctype.specs.Names.{named};
+ghost use Rattle.stk_expr.specs.Gives.{Gives};
 
 use crate::build;
 use crate::declarators::{Place, declarators};
-use crate::expressions::stopped;
-use crate::fronts::{basic_base, name_at};
+use crate::fronts::name_at;
 use crate::turns::{Turn, brace_turn};
 use std::alloc::Global;
 use stk_base::{Class, List};
 use stk_ctype::Names;
 use stk_decl_grammar::optional_word_at;
-use stk_expr::{Parse, is_named};
+use stk_expr::{Parse, bases, basic_base, is_named, stopped};
 use stk_grammar::{behind_assign, behind_left_brace, behind_right_brace};
-use stk_tree::{BaseForm, Enumr, Expr, Fixed, Lexeme, Member};
+use stk_tree::{BaseForm, Enumr, Expr, Fixed, Lexeme, Member, levels};
 
 /// The value that may be given to an enumerator, with its `=`.
 fn value<'a>(
@@ -26,13 +27,13 @@ fn value<'a>(
     room: usize,
     lexemes: &'a [Lexeme],
 ) -> Result<(Option<Expr>, &'a [Lexeme]), Parse>
-    requires { room ≤ 400 }
+    requires { room ≤ most_nesting }
     ensures { Gives (λ x. (given_expression x.0, x.1.now)) result (value_at (named bytes.now names.now) room lexemes.now) }
 {
     let Some(next) = behind_assign(lexemes) else {
         return Ok((None, lexemes));
     };
-    let found = stopped(alloc, bytes, names, room, 3, next)?;
+    let found = stopped(alloc, bytes, names, room, levels::CONDITIONAL, next)?;
     Ok((Some(found.tree.into_inner()), found.rest))
 }
 
@@ -45,7 +46,7 @@ fn enumerator<'a>(
     room: usize,
     lexemes: &'a [Lexeme],
 ) -> Result<(Enumr, &'a [Lexeme]), Parse>
-    requires { room ≤ 400 }
+    requires { room ≤ most_nesting }
     ensures { Gives (λ x. (view_enumerator x.0, x.1.now)) result (enumerator_at (named bytes.now names.now) room lexemes.now) }
 {
     let Some((name, rest)) = name_at(bytes, names, lexemes) else {
@@ -65,7 +66,7 @@ fn enumerators<'a>(
     room: usize,
     lexemes: &'a [Lexeme],
 ) -> Result<(List<Enumr>, bool, &'a [Lexeme]), Parse>
-    requires { room ≤ 400 }
+    requires { room ≤ most_nesting }
     ensures { Gives (λ x. ((enumerators (map view_enumerator x.0), x.1), x.2.now)) result (enumerators_at (enumerator_at (named bytes.now names.now) room) lexemes.now) }
 {
     let (first, mut rest) = enumerator(alloc, bytes, names, room, lexemes)?;
@@ -93,7 +94,7 @@ fn enum_base<'a>(
     room: usize,
     lexemes: &'a [Lexeme],
 ) -> Result<(BaseForm, &'a [Lexeme]), Parse>
-    requires { room ≤ 400 }
+    requires { room ≤ most_nesting }
     ensures { Gives (λ x. (view_base_form x.0, x.1.now)) result (enum_behind (enumerators_at (enumerator_at (named bytes.now names.now) room)) (optional_word_at lexemes.now)) }
 {
     let (tag, rest) = optional_word_at(lexemes);
@@ -103,7 +104,7 @@ fn enum_base<'a>(
     }
     match tag {
         None => Err(Parse::NoTree),
-        Some(tag) => Ok((build::enum_ref(tag), rest)),
+        Some(tag) => Ok((bases::enum_ref(tag), rest)),
     }
 }
 
@@ -116,7 +117,7 @@ fn member<'a>(
     room: usize,
     lexemes: &'a [Lexeme],
 ) -> Result<(Member, &'a [Lexeme]), Parse>
-    requires { room < 400 }
+    requires { room < most_nesting }
     ensures { Gives (λ x. (view_member x.0, x.1.now)) result (member_at (named bytes.now names.now) room (full_base_at (named bytes.now names.now) room) lexemes.now) }
 {
     let (form, rest) = full_base(alloc, bytes, names, room, lexemes)?;
@@ -134,7 +135,7 @@ fn members<'a>(
     room: usize,
     lexemes: &'a [Lexeme],
 ) -> Result<(List<Member>, &'a [Lexeme]), Parse>
-    requires { room < 400 }
+    requires { room < most_nesting }
     ensures { Gives (λ x. (members (map view_member x.0), x.1.now)) result (members_at (member_at (named bytes.now names.now) room (full_base_at (named bytes.now names.now) room)) lexemes.now) }
 {
     let (first, mut rest) = member(alloc, bytes, names, room, lexemes)?;
@@ -160,7 +161,7 @@ fn struct_base<'a>(
     room: usize,
     lexemes: &'a [Lexeme],
 ) -> Result<(BaseForm, &'a [Lexeme]), Parse>
-    requires { room < 400 }
+    requires { room < most_nesting }
     ensures { Gives (λ x. (view_base_form x.0, x.1.now)) result (struct_behind (members_at (member_at (named bytes.now names.now) room (full_base_at (named bytes.now names.now) room))) (optional_word_at lexemes.now)) }
 {
     let (tag, rest) = optional_word_at(lexemes);
@@ -170,7 +171,7 @@ fn struct_base<'a>(
     }
     match tag {
         None => Err(Parse::NoTree),
-        Some(tag) => Ok((build::struct_ref(tag), rest)),
+        Some(tag) => Ok((bases::struct_ref(tag), rest)),
     }
 }
 
@@ -184,7 +185,7 @@ fn reserved_base<'a>(
     word: Fixed,
     lexemes: &'a [Lexeme],
 ) -> Result<(BaseForm, &'a [Lexeme]), Parse>
-    requires { room < 400 }
+    requires { room < most_nesting }
     ensures { Gives (λ x. (view_base_form x.0, x.1.now)) result (full_base_on (members_at (member_at (named bytes.now names.now) room (full_base_at (named bytes.now names.now) room))) (enumerators_at (enumerator_at (named bytes.now names.now) room)) word lexemes.now) }
 {
     match word {
@@ -194,7 +195,7 @@ fn reserved_base<'a>(
     }
 }
 
-/// A base that may have braces, of at most the height `room`.
+/// A base that may have braces, of at most the nesting `room`.
 #[cycle(base)]
 #[tactic(auto, unfolding(stk_decl_grammar::specs::Reading::full_base_at))]
 pub fn full_base<'a>(
@@ -204,7 +205,7 @@ pub fn full_base<'a>(
     room: usize,
     lexemes: &'a [Lexeme],
 ) -> Result<(BaseForm, &'a [Lexeme]), Parse>
-    requires { room ≤ 400 }
+    requires { room ≤ most_nesting }
     ensures { Gives (λ x. (view_base_form x.0, x.1.now)) result (full_base_at (named bytes.now names.now) room lexemes.now) }
 {
     if room == 0 {
@@ -216,7 +217,7 @@ pub fn full_base<'a>(
     match lexeme {
         Lexeme::Leaf(Class::Word, at) => {
             if is_named(bytes, names, *at) {
-                Ok((build::named(*at), rest))
+                Ok((bases::named(*at), rest))
             } else {
                 Err(Parse::NoTree)
             }

@@ -3,38 +3,14 @@
 ghost use Rattle.std.specs.Prelude.{◌≡◌, map};
 ghost use Rattle.stk_tree.specs.Syntax as s;
 ghost use Rattle.stk_tree.specs.View.{declarators, designators, dimensions, enumerators, given_expression, items, members, parameters, view_base_form, view_declaration, view_declarator, view_designator, view_dimension, view_enumerator, view_expression, view_initialiser, view_item, view_member, view_parameter, view_tail};
-ghost use Rattle.stk_grammar.specs.Bare.{no_node};
+ghost use Rattle.stk_tree.specs.Unlaid.{no_node};
 ghost use Rattle.stk_decl.specs.Given.{given_initialiser};
 
 use stk_base::{Boxed, List, Span};
 use stk_tree::{
     Base, BaseForm, Declaration, Declr, Desig, Dimension, Enumr, Expr, Fixed, Init, Item, Member,
-    Node, Param, Storage, Tail,
+    Param, Storage, Tail, no_node,
 };
-
-/// The record of a node that isn't laid out yet.
-fn no_node() -> Node
-    ensures { result ≡ no_node }
-{
-    Node {
-        number: 0,
-        span: Span { from: 0, to: 0 },
-    }
-}
-
-/// Basic words.
-pub fn words(list: List<Fixed>) -> BaseForm
-    ensures { view_base_form result ≡ s.words list }
-{
-    BaseForm::Words(list)
-}
-
-/// `struct tag`
-pub fn struct_ref(tag: Span) -> BaseForm
-    ensures { view_base_form result ≡ s.struct_ref tag }
-{
-    BaseForm::StructRef(tag)
-}
 
 /// `struct [tag] { members }`
 pub fn struct_def(tag: Option<Span>, list: List<Member>) -> BaseForm
@@ -43,25 +19,11 @@ pub fn struct_def(tag: Option<Span>, list: List<Member>) -> BaseForm
     BaseForm::StructDef(tag, list)
 }
 
-/// `enum tag`
-pub fn enum_ref(tag: Span) -> BaseForm
-    ensures { view_base_form result ≡ s.enum_ref tag }
-{
-    BaseForm::EnumRef(tag)
-}
-
 /// `enum [tag] { enumerators [,] }`
 pub fn enum_def(tag: Option<Span>, list: List<Enumr>, comma: bool) -> BaseForm
     ensures { view_base_form result ≡ s.enum_def tag (enumerators (map view_enumerator list)) comma }
 {
     BaseForm::EnumDef(tag, list, comma)
-}
-
-/// A typedef name.
-pub fn named(at: Span) -> BaseForm
-    ensures { view_base_form result ≡ s.named at }
-{
-    BaseForm::Named(at)
 }
 
 /// The members of one base.
@@ -95,7 +57,7 @@ pub fn declarator(stars: u32, name: Option<Span>, tail: Tail, init: Option<Init>
     ensures { view_declarator result ≡ s.declarator no_node stars name (view_tail tail) (given_initialiser init) }
 {
     match init {
-        None => bare_declarator(stars, name, tail),
+        None => uninitialised_declarator(stars, name, tail),
         Some(init) => Declr {
             node: no_node(),
             stars,
@@ -107,7 +69,7 @@ pub fn declarator(stars: u32, name: Option<Span>, tail: Tail, init: Option<Init>
 }
 
 /// A declarator without an initialiser.
-pub fn bare_declarator(stars: u32, name: Option<Span>, tail: Tail) -> Declr
+pub fn uninitialised_declarator(stars: u32, name: Option<Span>, tail: Tail) -> Declr
     ensures { view_declarator result ≡ s.declarator no_node stars name (view_tail tail) s.no_initialiser }
 {
     Declr {
@@ -145,20 +107,6 @@ pub fn with_parameters(list: List<Param>, more: bool) -> Tail
     ensures { view_tail result ≡ s.with_parameters (parameters (map view_parameter list)) more }
 {
     Tail::Params(list, more)
-}
-
-/// `[e]`
-pub fn sized(size: Boxed<Expr>) -> Dimension
-    ensures { view_dimension result ≡ s.sized (view_expression size) }
-{
-    Dimension::Sized(size.into_inner())
-}
-
-/// `[]`
-pub fn open() -> Dimension
-    ensures { view_dimension result ≡ s.open_dimension }
-{
-    Dimension::Open
 }
 
 /// A parameter.

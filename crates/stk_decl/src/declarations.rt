@@ -1,20 +1,21 @@
 //! Declarations, and what stands before the body of a function (C11 6.7, 6.9.1).
 
 ghost use Rattle.std.specs.Prelude.{◌≡◌, ◌≤◌, map, true};
+ghost use Rattle.stk_tree.specs.Nesting.{most_nesting};
 ghost use Rattle.stk_tree.specs.Placed.{local_storage};
 ghost use Rattle.stk_tree.specs.View.{declarators, view_declaration, view_declarator};
 ghost use Rattle.stk_decl_grammar.specs.Reading.{declaration_at, declarator_at, file_behind, file_declarators_at, front_at, front_behind, local_behind, local_on, storage_at};
-ghost use Rattle.stk_expr.specs.Gives.{Gives, named};
+ghost use Rattle.stk_ctype.specs.Names.{named};
+ghost use Rattle.stk_expr.specs.Gives.{Gives};
 
 use crate::bases::full_base;
 use crate::build;
 use crate::declarators::{Place, declarators, function_declarator};
-use crate::fronts::base;
 use std::alloc::Global;
 use stk_base::List;
 use stk_ctype::Names;
 use stk_decl_grammar::{opens_body, storage_at};
-use stk_expr::Parse;
+use stk_expr::{Parse, base};
 use stk_grammar::behind_semicolon;
 use stk_tree::{Declaration, Declr, Lexeme, Storage};
 
@@ -26,7 +27,7 @@ fn file_declarators<'a>(
     room: usize,
     lexemes: &'a [Lexeme],
 ) -> Result<(List<Declr>, &'a [Lexeme]), Parse>
-    requires { room ≤ 400 }
+    requires { room ≤ most_nesting }
     ensures { Gives (λ x. (declarators (map view_declarator x.0), x.1.now)) result (file_declarators_at (declarator_at (named bytes.now names.now) room true) lexemes.now) }
 {
     if let Some(rest) = behind_semicolon(lexemes) {
@@ -35,7 +36,7 @@ fn file_declarators<'a>(
     declarators(alloc, bytes, names, Place::File, room, lexemes)
 }
 
-/// A declaration at file scope, of at most the height `room`.
+/// A declaration at file scope, of at most the nesting `room`.
 fn file_declaration<'a>(
     alloc: Global,
     bytes: &[u8],
@@ -43,7 +44,7 @@ fn file_declaration<'a>(
     room: usize,
     lexemes: &'a [Lexeme],
 ) -> Result<(Declaration, &'a [Lexeme]), Parse>
-    requires { room ≤ 400 }
+    requires { room ≤ most_nesting }
     ensures { Gives (λ x. (view_declaration x.0, x.1.now)) result (file_behind (named bytes.now names.now) room (storage_at lexemes.now)) }
 {
     let (storage, rest) = storage_at(lexemes);
@@ -59,7 +60,7 @@ fn is_local(storage: Option<Storage>) -> bool
     matches!(storage, None | Some(Storage::Static))
 }
 
-/// A declaration in a block, of at most the height `room`.
+/// A declaration in a block, of at most the nesting `room`.
 fn local_declaration<'a>(
     alloc: Global,
     bytes: &[u8],
@@ -67,7 +68,7 @@ fn local_declaration<'a>(
     room: usize,
     lexemes: &'a [Lexeme],
 ) -> Result<(Declaration, &'a [Lexeme]), Parse>
-    requires { room ≤ 400 }
+    requires { room ≤ most_nesting }
     ensures { Gives (λ x. (view_declaration x.0, x.1.now)) result (local_on (named bytes.now names.now) room (storage_at lexemes.now)) }
 {
     let (storage, rest) = storage_at(lexemes);
@@ -79,7 +80,7 @@ fn local_declaration<'a>(
     Ok((build::declaration(storage, form, list), rest))
 }
 
-/// A declaration with its `;`, of at most the height `room`: at file scope, or else in a block.
+/// A declaration with its `;`, of at most the nesting `room`: at file scope, or else in a block.
 #[tactic(auto, unfolding(stk_decl_grammar::specs::Reading::declaration_at))]
 pub fn declaration<'a>(
     alloc: Global,
@@ -89,7 +90,7 @@ pub fn declaration<'a>(
     room: usize,
     lexemes: &'a [Lexeme],
 ) -> Result<(Declaration, &'a [Lexeme]), Parse>
-    requires { room ≤ 400 }
+    requires { room ≤ most_nesting }
     ensures { Gives (λ x. (view_declaration x.0, x.1.now)) result (declaration_at (named bytes.now names.now) file room lexemes.now) }
 {
     if file {
@@ -101,7 +102,7 @@ pub fn declaration<'a>(
     local_declaration(alloc, bytes, names, room, lexemes)
 }
 
-/// A storage word, a base and the declarator of a function, of at most the height `room`.
+/// A storage word, a base and the declarator of a function, of at most the nesting `room`.
 fn head<'a>(
     alloc: Global,
     bytes: &[u8],
@@ -109,7 +110,7 @@ fn head<'a>(
     room: usize,
     lexemes: &'a [Lexeme],
 ) -> Result<(Declaration, &'a [Lexeme]), Parse>
-    requires { room ≤ 400 }
+    requires { room ≤ most_nesting }
     ensures { Gives (λ x. (view_declaration x.0, x.1.now)) result (front_behind (named bytes.now names.now) room (storage_at lexemes.now)) }
 {
     let (storage, rest) = storage_at(lexemes);
@@ -121,7 +122,7 @@ fn head<'a>(
     Ok((build::declaration(storage, form, list), rest))
 }
 
-/// What stands before the body of a function, of at most the height `room`, where the body's `{` follows.
+/// What stands before the body of a function, of at most the nesting `room`, where the body's `{` follows.
 #[tactic(auto, unfolding(stk_decl_grammar::specs::Reading::front_at))]
 pub fn function_front<'a>(
     alloc: Global,
@@ -130,7 +131,7 @@ pub fn function_front<'a>(
     room: usize,
     lexemes: &'a [Lexeme],
 ) -> Result<(Declaration, &'a [Lexeme]), Parse>
-    requires { room ≤ 400 }
+    requires { room ≤ most_nesting }
     ensures { Gives (λ x. (view_declaration x.0, x.1.now)) result (front_at (named bytes.now names.now) room lexemes.now) }
 {
     let (head, rest) = head(alloc, bytes, names, room, lexemes)?;

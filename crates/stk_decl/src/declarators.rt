@@ -1,10 +1,11 @@
 //! Declarators (C11 6.7.6), and declarators with a comma between each two.
 
 ghost use Rattle.std.specs.Prelude.{◌≡◌, ◌+◌, ◌≤◌, IfOk, length, map};
-ghost use Rattle.stk_tree.specs.Height.{tail_height};
+ghost use Rattle.stk_tree.specs.Nesting.{tail_nesting, most_nesting};
 ghost use Rattle.stk_tree.specs.View.{declarators, view_declarator, view_tail};
 ghost use Rattle.stk_decl_grammar.specs.Reading.{declarator_at, declarators_at, declared_tail_at, function_declarator_at};
-ghost use Rattle.stk_expr.specs.Gives.{Gives, named};
+ghost use Rattle.stk_ctype.specs.Names.{named};
+ghost use Rattle.stk_expr.specs.Gives.{Gives};
 ghost use Rattle.stk_decl.specs.Places.{declarator_in};
 
 use crate::arrays::{array_declarator, array_parts};
@@ -40,9 +41,9 @@ fn declared_tail<'a>(
     file: bool,
     lexemes: &'a [Lexeme],
 ) -> Result<FoundTail<'a>, Parse>
-    requires { room ≤ 400 }
+    requires { room ≤ most_nesting }
     ensures value { Gives (λ x. (view_tail x.tail, x.rest.now)) result (declared_tail_at (named bytes.now names.now) room file lexemes.now) }
-    ensures height { IfOk result (λ x. (x.height ≡ tail_height (view_tail x.tail)) × (x.height ≤ room + length lexemes.now)) }
+    ensures nesting { IfOk result (λ x. (x.nesting ≡ tail_nesting (view_tail x.tail)) × (x.nesting ≤ room + length lexemes.now)) }
 {
     if let Some(inside) = behind_left_paren(lexemes) {
         if !file {
@@ -53,12 +54,12 @@ fn declared_tail<'a>(
     let found = array_parts(alloc, bytes, names, room, lexemes)?;
     Ok(FoundTail {
         tail: build::arrays(found.list),
-        height: found.height,
+        nesting: found.nesting,
         rest: found.rest,
     })
 }
 
-/// A declarator with its initialiser, of at most the height `room`.
+/// A declarator with its initialiser, of at most the nesting `room`.
 #[tactic(auto, unfolding(stk_decl_grammar::specs::Reading::declarator_at))]
 fn declarator<'a>(
     alloc: Global,
@@ -68,7 +69,7 @@ fn declarator<'a>(
     file: bool,
     lexemes: &'a [Lexeme],
 ) -> Result<(Declr, &'a [Lexeme]), Parse>
-    requires { room ≤ 400 }
+    requires { room ≤ most_nesting }
     ensures { Gives (λ x. (view_declarator x.0, x.1.now)) result (declarator_at (named bytes.now names.now) room file lexemes.now) }
 {
     if room == 0 {
@@ -81,14 +82,14 @@ fn declarator<'a>(
     };
     let found = declared_tail(alloc, bytes, names, inner, file, rest)?;
     let (init, rest) = initial(alloc, bytes, names, inner, found.rest)?;
-    if found.height + stars > inner {
+    if found.nesting + stars > inner {
         return Err(Parse::NoTree);
     }
     let declr = build::declarator(stars as u32, Some(name), found.tail, init);
     Ok((declr, rest))
 }
 
-/// The declarator of a function, of at most the height `room`: a name with parameters.
+/// The declarator of a function, of at most the nesting `room`: a name with parameters.
 #[tactic(auto, unfolding(stk_decl_grammar::specs::Reading::function_declarator_at))]
 pub fn function_declarator<'a>(
     alloc: Global,
@@ -97,7 +98,7 @@ pub fn function_declarator<'a>(
     room: usize,
     lexemes: &'a [Lexeme],
 ) -> Result<(Declr, &'a [Lexeme]), Parse>
-    requires { room ≤ 400 }
+    requires { room ≤ most_nesting }
     ensures { Gives (λ x. (view_declarator x.0, x.1.now)) result (function_declarator_at (named bytes.now names.now) room lexemes.now) }
 {
     if room == 0 {
@@ -112,10 +113,10 @@ pub fn function_declarator<'a>(
         return Err(Parse::NoTree);
     };
     let found = parameter_tail(alloc, bytes, names, inner, inside)?;
-    if found.height + stars > inner {
+    if found.nesting + stars > inner {
         return Err(Parse::NoTree);
     }
-    let declr = build::bare_declarator(stars as u32, Some(name), found.tail);
+    let declr = build::uninitialised_declarator(stars as u32, Some(name), found.tail);
     Ok((declr, found.rest))
 }
 
@@ -128,7 +129,7 @@ fn declarator_in<'a>(
     room: usize,
     lexemes: &'a [Lexeme],
 ) -> Result<(Declr, &'a [Lexeme]), Parse>
-    requires { room ≤ 400 }
+    requires { room ≤ most_nesting }
     ensures { Gives (λ x. (view_declarator x.0, x.1.now)) result (declarator_in place (named bytes.now names.now) room lexemes.now) }
 {
     match place {
@@ -151,7 +152,7 @@ pub fn declarators<'a>(
     room: usize,
     lexemes: &'a [Lexeme],
 ) -> Result<(List<Declr>, &'a [Lexeme]), Parse>
-    requires { room ≤ 400 }
+    requires { room ≤ most_nesting }
     ensures { Gives (λ x. (declarators (map view_declarator x.0), x.1.now)) result (declarators_at (declarator_in place (named bytes.now names.now) room) lexemes.now) }
 {
     let (first, mut rest) = declarator_in(alloc, bytes, names, place, room, lexemes)?;

@@ -1,32 +1,31 @@
 //! Initialisers (C11 6.7.9).
 
 ghost use Rattle.std.specs.Prelude.{◌≡◌, ◌+◌, ◌≤◌, ◌<◌, suc, IfOk, length, map, option_map};
-ghost use Rattle.stk_tree.specs.Height.{designator_height, designators_height, maybe_initialiser_height};
+ghost use Rattle.stk_tree.specs.Nesting.{designator_nesting, designators_nesting, maybe_initialiser_nesting, most_nesting};
 ghost use Rattle.stk_tree.specs.View.{designators, items, view_designator, view_initialiser, view_item};
 ghost use Rattle.stk_decl_grammar.specs.Reading.{behind_path, designator_at, designators_at, initial_at, initialiser_at, item_at, items_at, path_at};
-ghost use Rattle.stk_expr.specs.Gives.{Gives, named};
+ghost use Rattle.stk_ctype.specs.Names.{named};
+ghost use Rattle.stk_expr.specs.Gives.{Gives};
 ghost use Rattle.stk_decl.specs.Given.{given_initialiser};
 
-use crate::arrays::higher;
 use crate::build;
-use crate::expressions::stopped;
 use crate::turns::{Turn, brace_turn};
 use std::alloc::Global;
 use stk_base::List;
 use stk_ctype::Names;
 use stk_decl_grammar::begins_designator;
-use stk_expr::Parse;
+use stk_expr::{Parse, higher, stopped};
 use stk_grammar::{
     behind_assign, behind_dot, behind_left_brace, behind_left_bracket, behind_right_brace,
     behind_right_bracket, word_at,
 };
-use stk_tree::{Desig, Init, Item, Lexeme};
+use stk_tree::{Desig, Init, Item, Lexeme, levels};
 
-/// A designator that was read, its height, and the tokens behind it.
+/// A designator that was read, its nesting, and the tokens behind it.
 #[derive(Drop)]
 struct FoundDesignator<'a> {
     part: Desig,
-    height: usize,
+    nesting: usize,
     rest: &'a [Lexeme],
 }
 
@@ -34,7 +33,7 @@ struct FoundDesignator<'a> {
 #[derive(Drop)]
 struct FoundDesignators<'a> {
     list: List<Desig>,
-    height: usize,
+    nesting: usize,
     rest: &'a [Lexeme],
 }
 
@@ -47,9 +46,9 @@ fn designator<'a>(
     room: usize,
     lexemes: &'a [Lexeme],
 ) -> Result<FoundDesignator<'a>, Parse>
-    requires { room ≤ 400 }
+    requires { room ≤ most_nesting }
     ensures value { Gives (λ x. (view_designator x.part, x.rest.now)) result (designator_at (named bytes.now names.now) room lexemes.now) }
-    ensures height { IfOk result (λ x. (x.height ≡ designator_height (view_designator x.part)) × (x.height ≤ room)) }
+    ensures nesting { IfOk result (λ x. (x.nesting ≡ designator_nesting (view_designator x.part)) × (x.nesting ≤ room)) }
 {
     if let Some(inside) = behind_dot(lexemes) {
         let Some((member, rest)) = word_at(inside) else {
@@ -57,20 +56,20 @@ fn designator<'a>(
         };
         return Ok(FoundDesignator {
             part: build::dot(member),
-            height: 0,
+            nesting: 0,
             rest,
         });
     }
     let Some(inside) = behind_left_bracket(lexemes) else {
         return Err(Parse::NoTree);
     };
-    let found = stopped(alloc, bytes, names, room, 3, inside)?;
+    let found = stopped(alloc, bytes, names, room, levels::CONDITIONAL, inside)?;
     let Some(rest) = behind_right_bracket(found.rest) else {
         return Err(Parse::NoTree);
     };
     Ok(FoundDesignator {
         part: build::at(found.tree),
-        height: found.height,
+        nesting: found.nesting,
         rest,
     })
 }
@@ -83,24 +82,24 @@ fn designators<'a>(
     room: usize,
     lexemes: &'a [Lexeme],
 ) -> Result<FoundDesignators<'a>, Parse>
-    requires { room ≤ 400 }
+    requires { room ≤ most_nesting }
     ensures value { Gives (λ x. (designators (map view_designator x.list), x.rest.now)) result (designators_at (designator_at (named bytes.now names.now) room) (suc (length lexemes.now)) lexemes.now) }
-    ensures height { IfOk result (λ x. x.height ≡ designators_height (designators (map view_designator x.list))) }
+    ensures nesting { IfOk result (λ x. x.nesting ≡ designators_nesting (designators (map view_designator x.list))) }
 {
     let mut list = Vec::new(alloc);
-    let mut height = 0;
+    let mut nesting = 0;
     let mut rest = lexemes;
     for turn in 0..lexemes.len() + 1 {
         if !begins_designator(rest) {
             return Ok(FoundDesignators {
                 list: List::from_vec(list),
-                height,
+                nesting,
                 rest,
             });
         }
         let found = designator(alloc, bytes, names, room, rest)?;
         list.push(found.part)?;
-        height = higher(height, found.height + turn + 1);
+        nesting = higher(nesting, found.nesting + turn + 1);
         rest = found.rest;
     }
     Err(Parse::NoTree)
@@ -116,7 +115,7 @@ fn behind_path<'a>(path: &List<Desig>, lexemes: &'a [Lexeme]) -> Option<&'a [Lex
     }
 }
 
-/// The designators of an item, with their `=`, of at most the height `room`.
+/// The designators of an item, with their `=`, of at most the nesting `room`.
 #[tactic(auto, unfolding(stk_decl_grammar::specs::Reading::path_at))]
 fn path<'a>(
     alloc: Global,
@@ -125,11 +124,11 @@ fn path<'a>(
     room: usize,
     lexemes: &'a [Lexeme],
 ) -> Result<(List<Desig>, &'a [Lexeme]), Parse>
-    requires { room ≤ 400 }
+    requires { room ≤ most_nesting }
     ensures { Gives (λ x. (designators (map view_designator x.0), x.1.now)) result (path_at (named bytes.now names.now) room lexemes.now) }
 {
     let found = designators(alloc, bytes, names, room, lexemes)?;
-    if found.height > room {
+    if found.nesting > room {
         return Err(Parse::NoTree);
     }
     let Some(rest) = behind_path(&found.list, found.rest) else {
@@ -147,7 +146,7 @@ fn item<'a>(
     room: usize,
     lexemes: &'a [Lexeme],
 ) -> Result<(Item, &'a [Lexeme]), Parse>
-    requires { room < 400 }
+    requires { room < most_nesting }
     ensures { Gives (λ x. (view_item x.0, x.1.now)) result (item_at (path_at (named bytes.now names.now) room) (initialiser_at (named bytes.now names.now) room) lexemes.now) }
 {
     let (path, rest) = path(alloc, bytes, names, room, lexemes)?;
@@ -166,7 +165,7 @@ fn items<'a>(
     room: usize,
     lexemes: &'a [Lexeme],
 ) -> Result<(List<Item>, bool, &'a [Lexeme]), Parse>
-    requires { room < 400 }
+    requires { room < most_nesting }
     ensures { Gives (λ x. ((items (map view_item x.0), x.1), x.2.now)) result (items_at (item_at (path_at (named bytes.now names.now) room) (initialiser_at (named bytes.now names.now) room)) lexemes.now) }
 {
     if let Some(rest) = behind_right_brace(lexemes) {
@@ -189,7 +188,7 @@ fn items<'a>(
     Err(Parse::NoTree)
 }
 
-/// An initialiser, of at most the height `room`.
+/// An initialiser, of at most the nesting `room`.
 #[cycle(initialiser)]
 #[tactic(auto, unfolding(stk_decl_grammar::specs::Reading::initialiser_at))]
 pub fn initialiser<'a>(
@@ -199,7 +198,7 @@ pub fn initialiser<'a>(
     room: usize,
     lexemes: &'a [Lexeme],
 ) -> Result<(Init, &'a [Lexeme]), Parse>
-    requires { room ≤ 400 }
+    requires { room ≤ most_nesting }
     ensures { Gives (λ x. (view_initialiser x.0, x.1.now)) result (initialiser_at (named bytes.now names.now) room lexemes.now) }
 {
     if room == 0 {
@@ -209,7 +208,7 @@ pub fn initialiser<'a>(
         let (list, comma, rest) = items(alloc, bytes, names, room - 1, inside)?;
         return Ok((build::braces(list, comma), rest));
     }
-    let found = stopped(alloc, bytes, names, room, 2, lexemes)?;
+    let found = stopped(alloc, bytes, names, room, levels::ASSIGNMENT, lexemes)?;
     Ok((build::plain(found.tree), found.rest))
 }
 
@@ -221,9 +220,9 @@ pub fn initial<'a>(
     room: usize,
     lexemes: &'a [Lexeme],
 ) -> Result<(Option<Init>, &'a [Lexeme]), Parse>
-    requires { room ≤ 400 }
+    requires { room ≤ most_nesting }
     ensures value { Gives (λ x. (given_initialiser x.0, x.1.now)) result (initial_at (named bytes.now names.now) room lexemes.now) }
-    ensures low { IfOk result (λ x. maybe_initialiser_height (given_initialiser x.0) ≤ room) }
+    ensures low { IfOk result (λ x. maybe_initialiser_nesting (given_initialiser x.0) ≤ room) }
 {
     let Some(next) = behind_assign(lexemes) else {
         return Ok((None, lexemes));

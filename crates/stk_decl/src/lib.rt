@@ -6,7 +6,6 @@ mod bases;
 mod build;
 mod declarations;
 mod declarators;
-mod expressions;
 mod fronts;
 mod initialisers;
 mod parameters;

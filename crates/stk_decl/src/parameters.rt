@@ -1,39 +1,39 @@
 //! The parameters of functions (C11 6.7.6.3).
 
 ghost use Rattle.std.specs.Prelude.{◌≡◌, ◌≤◌, IfOk, map};
-ghost use Rattle.stk_tree.specs.Height.{parameter_height, parameters_height, tail_height};
+ghost use Rattle.stk_tree.specs.Nesting.{parameter_nesting, parameters_nesting, tail_nesting, most_nesting};
 ghost use Rattle.stk_tree.specs.Syntax as s;
 ghost use Rattle.stk_tree.specs.View.{parameters, view_parameter, view_tail};
 ghost use Rattle.stk_decl_grammar.specs.Reading.{more_parameters_at, parameter_at, parameter_tail_at};
-ghost use Rattle.stk_expr.specs.Gives.{Gives, named};
+ghost use Rattle.stk_ctype.specs.Names.{named};
+ghost use Rattle.stk_expr.specs.Gives.{Gives};
 ghost use Rattle.stk_decl.specs.Rows.{first_of, paired};
 
-use crate::arrays::{array_declarator, higher};
+use crate::arrays::array_declarator;
 use crate::build;
-use crate::fronts::base;
 use crate::turns::{Turn, parameter_turn};
 use std::alloc::Global;
 use stk_base::List;
 use stk_ctype::Names;
 use stk_decl_grammar::behind_void;
-use stk_expr::Parse;
+use stk_expr::{Parse, base, higher};
 use stk_grammar::behind_right_paren;
 use stk_tree::{Lexeme, Param, Tail};
 
-/// A parameter that was read, its height, and the tokens behind it.
+/// A parameter that was read, its nesting, and the tokens behind it.
 #[derive(Drop)]
 struct FoundParameter<'a> {
     param: Param,
-    height: usize,
+    nesting: usize,
     rest: &'a [Lexeme],
 }
 
-/// Parameters that were read, whether `, ...` stands behind them, their greatest height, and the tokens behind them.
+/// Parameters that were read, whether `, ...` stands behind them, their greatest nesting, and the tokens behind them.
 #[derive(Drop)]
 struct FoundParameters<'a> {
     list: List<Param>,
     more: bool,
-    height: usize,
+    nesting: usize,
     rest: &'a [Lexeme],
 }
 
@@ -41,11 +41,11 @@ struct FoundParameters<'a> {
 #[derive(Drop)]
 pub struct FoundTail<'a> {
     pub tail: Tail,
-    pub height: usize,
+    pub nesting: usize,
     pub rest: &'a [Lexeme],
 }
 
-/// A parameter, of at most the height `room`.
+/// A parameter, of at most the nesting `room`.
 #[tactic(auto, unfolding(stk_decl_grammar::specs::Reading::parameter_at))]
 fn parameter<'a>(
     alloc: Global,
@@ -54,9 +54,9 @@ fn parameter<'a>(
     room: usize,
     lexemes: &'a [Lexeme],
 ) -> Result<FoundParameter<'a>, Parse>
-    requires { room ≤ 400 }
+    requires { room ≤ most_nesting }
     ensures value { Gives (λ x. (view_parameter x.param, x.rest.now)) result (parameter_at (named bytes.now names.now) room lexemes.now) }
-    ensures height { IfOk result (λ x. (x.height ≡ parameter_height (view_parameter x.param)) × (x.height ≤ room)) }
+    ensures nesting { IfOk result (λ x. (x.nesting ≡ parameter_nesting (view_parameter x.param)) × (x.nesting ≤ room)) }
 {
     if room == 0 {
         return Err(Parse::NoTree);
@@ -65,7 +65,7 @@ fn parameter<'a>(
     let found = array_declarator(alloc, bytes, names, room - 1, true, rest)?;
     Ok(FoundParameter {
         param: build::parameter(form, found.declr),
-        height: found.height + 1,
+        nesting: found.nesting + 1,
         rest: found.rest,
     })
 }
@@ -79,12 +79,12 @@ fn parameters<'a>(
     room: usize,
     lexemes: &'a [Lexeme],
 ) -> Result<FoundParameters<'a>, Parse>
-    requires { room ≤ 400 }
+    requires { room ≤ most_nesting }
     ensures value { Gives (λ x. ((parameters (map view_parameter x.list), x.more), x.rest.now)) result (first_of (paired s.then_parameter) (parameter_at (named bytes.now names.now) room) (more_parameters_at (parameter_at (named bytes.now names.now) room)) lexemes.now) }
-    ensures height { IfOk result (λ x. (x.height ≡ parameters_height (parameters (map view_parameter x.list))) × (x.height ≤ room)) }
+    ensures nesting { IfOk result (λ x. (x.nesting ≡ parameters_nesting (parameters (map view_parameter x.list))) × (x.nesting ≤ room)) }
 {
     let first = parameter(alloc, bytes, names, room, lexemes)?;
-    let mut height = first.height;
+    let mut nesting = first.nesting;
     let mut rest = first.rest;
     let mut list = Vec::new(alloc);
     list.push(first.param)?;
@@ -96,13 +96,13 @@ fn parameters<'a>(
             return Ok(FoundParameters {
                 list: List::from_vec(list),
                 more,
-                height,
+                nesting,
                 rest: next,
             });
         }
         let found = parameter(alloc, bytes, names, room, next)?;
         list.push(found.param)?;
-        height = higher(height, found.height);
+        nesting = higher(nesting, found.nesting);
         rest = found.rest;
     }
     Err(Parse::NoTree)
@@ -117,28 +117,28 @@ pub fn parameter_tail<'a>(
     room: usize,
     lexemes: &'a [Lexeme],
 ) -> Result<FoundTail<'a>, Parse>
-    requires { room ≤ 400 }
+    requires { room ≤ most_nesting }
     ensures value { Gives (λ x. (view_tail x.tail, x.rest.now)) result (parameter_tail_at (parameter_at (named bytes.now names.now) room) lexemes.now) }
-    ensures height { IfOk result (λ x. (x.height ≡ tail_height (view_tail x.tail)) × (x.height ≤ room)) }
+    ensures nesting { IfOk result (λ x. (x.nesting ≡ tail_nesting (view_tail x.tail)) × (x.nesting ≤ room)) }
 {
     if let Some(rest) = behind_right_paren(lexemes) {
         return Ok(FoundTail {
             tail: build::unspecified(),
-            height: 0,
+            nesting: 0,
             rest,
         });
     }
     if let Some(rest) = behind_void(lexemes) {
         return Ok(FoundTail {
             tail: build::no_parameters(),
-            height: 0,
+            nesting: 0,
             rest,
         });
     }
     let found = parameters(alloc, bytes, names, room, lexemes)?;
     Ok(FoundTail {
         tail: build::with_parameters(found.list, found.more),
-        height: found.height,
+        nesting: found.nesting,
         rest: found.rest,
     })
 }

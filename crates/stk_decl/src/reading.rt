@@ -1,22 +1,24 @@
 ghost use Rattle.std.specs.Prelude.{◌≡◌, ◌≤◌, IfOk, List, length, ℕ};
 ghost use Rattle.std.specs.Result.{IsErrOf};
+ghost use Rattle.stk_base.specs.Limits.{most_bytes};
+ghost use Rattle.stk_tree.specs.Nesting.{most_nesting};
 ghost use Rattle.stk_tree.specs.declared.fixed.Lexeme.{Lexeme};
 ghost use Rattle.stk_tree.specs.Layout.{laid_declaration, unnumbered_at};
 ghost use Rattle.stk_tree.specs.Syntax.{DeclarationTree};
 ghost use Rattle.stk_tree.specs.View.{view_declaration};
 ghost use Rattle.stk_lexeme.specs.Lexemes.{lexemes_of, spans_of};
-ghost use Rattle.stk_decl_grammar.specs.Bare.{bare_declaration};
+ghost use Rattle.stk_tree.specs.Unlaid.{unlaid_declaration};
 ghost use Rattle.stk_decl_grammar.specs.Declarations.{DeclarationLeads, FrontLeads, IsDeclaration, IsFront};
-ghost use Rattle.stk_expr.specs.Gives.{named};
+ghost use Rattle.stk_ctype.specs.Names.{named};
 
 use crate::declarations::{declaration, function_front};
 use std::alloc::Global;
 use stk_ctype::Names;
 use stk_expr::Parse;
-use stk_layout::place_declaration;
 use stk_lex::Token;
 use stk_lexeme::{lexemes_of, spans_of};
-use stk_tree::{Declaration, Lexeme};
+use stk_tree::{Declaration, Lexeme, MOST_NESTING};
+use stk_tree_layout::span_declaration;
 
 /// A declaration at the front of some tokens, and the tokens behind it.
 #[derive(Drop)]
@@ -26,7 +28,7 @@ pub struct LeadingDeclaration<'a> {
 }
 
 /// Reads the declaration that these tokens begin with, through its `;` (C11 6.7): one at file scope where `file` says so, and
-/// else one in a block or a `for`. This is the call for readers of what holds declarations; `room` is the height that is left.
+/// else one in a block or a `for`. This is the call for readers of what holds declarations; `room` is the nesting that is left.
 ///
 /// The tree is well placed, fits the names and is at most `room` high, as with `decl`. `NoTree` comes exactly where the
 /// tokens begin with no such declaration. The records of its nodes aren't set.
@@ -38,9 +40,9 @@ pub fn declaration_within<'a>(
     room: usize,
     lexemes: &'a [Lexeme],
 ) -> Result<LeadingDeclaration<'a>, Parse>
-    requires { room ≤ 400 }
+    requires { room ≤ most_nesting }
     ensures found { IfOk result (λ x. DeclarationLeads (named bytes.now names.now) file room lexemes.now (view_declaration x.tree) x.rest.now) }
-    ensures bare { IfOk result (λ x. bare_declaration (view_declaration x.tree) ≡ view_declaration x.tree) }
+    ensures unlaid { IfOk result (λ x. unlaid_declaration (view_declaration x.tree) ≡ view_declaration x.tree) }
     ensures none { IsErrOf result Parse.NoTree
         → (d : DeclarationTree) (rest : List Lexeme) → DeclarationLeads (named bytes.now names.now) file room lexemes.now d rest → ⊥ }
 {
@@ -50,7 +52,7 @@ pub fn declaration_within<'a>(
 
 /// Reads what these tokens begin with before the body of a function, where the body's `{` follows (C11 6.9.1): storage word,
 /// base and declarator, as a declaration with this one declarator. This is the call for readers of functions; `room` is the
-/// height that is left.
+/// nesting that is left.
 ///
 /// The tree is well placed, fits the names and is at most `room` high, as with `front`. `NoTree` comes exactly where the
 /// tokens begin with nothing of that kind. The records of its nodes aren't set.
@@ -61,9 +63,9 @@ pub fn front_within<'a>(
     room: usize,
     lexemes: &'a [Lexeme],
 ) -> Result<LeadingDeclaration<'a>, Parse>
-    requires { room ≤ 400 }
+    requires { room ≤ most_nesting }
     ensures found { IfOk result (λ x. FrontLeads (named bytes.now names.now) room lexemes.now (view_declaration x.tree) x.rest.now) }
-    ensures bare { IfOk result (λ x. bare_declaration (view_declaration x.tree) ≡ view_declaration x.tree) }
+    ensures unlaid { IfOk result (λ x. unlaid_declaration (view_declaration x.tree) ≡ view_declaration x.tree) }
     ensures none { IsErrOf result Parse.NoTree
         → (d : DeclarationTree) (rest : List Lexeme) → FrontLeads (named bytes.now names.now) room lexemes.now d rest → ⊥ }
 {
@@ -83,12 +85,12 @@ fn declaration_at(
 ) -> Result<(Declaration, usize), Parse>
     requires { at ≤ length lexemes.now }
     ensures found { IfOk result (λ x. IsDeclaration (named bytes.now names.now) file lexemes.now at x.1 (view_declaration x.0)) }
-    ensures bare { IfOk result (λ x. bare_declaration (view_declaration x.0) ≡ view_declaration x.0) }
+    ensures unlaid { IfOk result (λ x. unlaid_declaration (view_declaration x.0) ≡ view_declaration x.0) }
     ensures none { IsErrOf result Parse.NoTree
         → (d : DeclarationTree) (to : ℕ) → IsDeclaration (named bytes.now names.now) file lexemes.now at to d → ⊥ }
 {
     let (_, behind) = lexemes.split_at(at);
-    let (tree, rest) = declaration(alloc, bytes, names, file, 400, behind)?;
+    let (tree, rest) = declaration(alloc, bytes, names, file, MOST_NESTING, behind)?;
     Ok((tree, lexemes.len() - rest.len()))
 }
 
@@ -103,12 +105,12 @@ fn front_at(
 ) -> Result<(Declaration, usize), Parse>
     requires { at ≤ length lexemes.now }
     ensures found { IfOk result (λ x. IsFront (named bytes.now names.now) lexemes.now at x.1 (view_declaration x.0)) }
-    ensures bare { IfOk result (λ x. bare_declaration (view_declaration x.0) ≡ view_declaration x.0) }
+    ensures unlaid { IfOk result (λ x. unlaid_declaration (view_declaration x.0) ≡ view_declaration x.0) }
     ensures none { IsErrOf result Parse.NoTree
         → (d : DeclarationTree) (to : ℕ) → IsFront (named bytes.now names.now) lexemes.now at to d → ⊥ }
 {
     let (_, behind) = lexemes.split_at(at);
-    let (tree, rest) = function_front(alloc, bytes, names, 400, behind)?;
+    let (tree, rest) = function_front(alloc, bytes, names, MOST_NESTING, behind)?;
     Ok((tree, lexemes.len() - rest.len()))
 }
 
@@ -116,7 +118,7 @@ fn front_at(
 /// at file scope where `file` says so, and else one in a block or a `for`.
 ///
 /// `tokens` are those of `bytes`, at most 16,777,216, and the words that `names` has as typedef names stand for types. The answered
-/// tree may stand there, fits the names, is at most 400 high and prints exactly the tokens from `at` up to the answered place, its
+/// tree may stand there, fits the names, nests at most 400 deep and prints exactly the tokens from `at` up to the answered place, its
 /// `;` included. `NoTree` comes exactly where no tree and no place are so. Each node has the number 0 and the span of the tokens that it
 /// prints. It takes time and memory for all of the tokens.
 pub fn decl(
@@ -128,16 +130,16 @@ pub fn decl(
     file: bool,
 ) -> Result<(Declaration, usize), Parse>
     requires within { at ≤ length tokens.now }
-    requires few { length tokens.now ≤ 16777216 }
+    requires few { length tokens.now ≤ most_bytes }
     ensures found { IfOk result (λ x. IsDeclaration (named bytes.now names.now) file (lexemes_of bytes.now tokens.now) at x.1 (view_declaration x.0)) }
-    ensures places { IfOk result (λ x. view_declaration x.0 ≡ laid_declaration (unnumbered_at (spans_of tokens.now)) 0 at (bare_declaration (view_declaration x.0))) }
+    ensures places { IfOk result (λ x. view_declaration x.0 ≡ laid_declaration (unnumbered_at (spans_of tokens.now)) 0 at (unlaid_declaration (view_declaration x.0))) }
     ensures none { IsErrOf result Parse.NoTree
         → (d : DeclarationTree) (to : ℕ) → IsDeclaration (named bytes.now names.now) file (lexemes_of bytes.now tokens.now) at to d → ⊥ }
 {
     let lexemes = lexemes_of(alloc, bytes, tokens)?;
     let spans = spans_of(alloc, tokens)?;
     let (mut tree, end) = declaration_at(alloc, bytes, lexemes.as_slice(), names, at, file)?;
-    place_declaration(&mut tree, at as u32, spans.as_slice());
+    span_declaration(&mut tree, at as u32, spans.as_slice());
     Ok((tree, end))
 }
 
@@ -145,7 +147,7 @@ pub fn decl(
 /// body's `{` stands (C11 6.9.1).
 ///
 /// The answered tree is the storage word, the base and the declarator, as a declaration with this one declarator. It fits the
-/// names, is at most 400 high and prints exactly the tokens from `at` up to the answered place, without a `;`. `NoTree` comes
+/// names, nests at most 400 deep and prints exactly the tokens from `at` up to the answered place, without a `;`. `NoTree` comes
 /// exactly where no tree and no place are so. Nodes, time and memory are as with `decl`.
 pub fn front(
     alloc: Global,
@@ -155,15 +157,15 @@ pub fn front(
     at: usize,
 ) -> Result<(Declaration, usize), Parse>
     requires within { at ≤ length tokens.now }
-    requires few { length tokens.now ≤ 16777216 }
+    requires few { length tokens.now ≤ most_bytes }
     ensures found { IfOk result (λ x. IsFront (named bytes.now names.now) (lexemes_of bytes.now tokens.now) at x.1 (view_declaration x.0)) }
-    ensures places { IfOk result (λ x. view_declaration x.0 ≡ laid_declaration (unnumbered_at (spans_of tokens.now)) 0 at (bare_declaration (view_declaration x.0))) }
+    ensures places { IfOk result (λ x. view_declaration x.0 ≡ laid_declaration (unnumbered_at (spans_of tokens.now)) 0 at (unlaid_declaration (view_declaration x.0))) }
     ensures none { IsErrOf result Parse.NoTree
         → (d : DeclarationTree) (to : ℕ) → IsFront (named bytes.now names.now) (lexemes_of bytes.now tokens.now) at to d → ⊥ }
 {
     let lexemes = lexemes_of(alloc, bytes, tokens)?;
     let spans = spans_of(alloc, tokens)?;
     let (mut tree, end) = front_at(alloc, bytes, lexemes.as_slice(), names, at)?;
-    place_declaration(&mut tree, at as u32, spans.as_slice());
+    span_declaration(&mut tree, at as u32, spans.as_slice());
     Ok((tree, end))
 }

@@ -9,11 +9,11 @@ use Rattle.stk_tree.specs.declared.fixed.Lexeme.{Lexeme}
 use Rattle.stk_tree.specs.declared.fixed.Lexeme.TheVariants.{Leaf, Fixed as Token}
 use Rattle.stk_tree.specs.Syntax.{DeclrTree, DimensionTree, DimensionTrees, ExprTree}
 use Rattle.stk_tree.specs.Syntax as s
-use Rattle.stk_tree.specs.Height.{declarator_height, dimensions_height}
+use Rattle.stk_tree.specs.Nesting.{declarator_nesting, dimensions_nesting}
 use Rattle.stk_tree.specs.Placed.{declarator_placed, dimensions_placed, has_name, parameter_declarator}
-use Rattle.stk_grammar.specs.Bare.{no_node, bare_declarator, bare_dimensions, bare_expression}
+use Rattle.stk_tree.specs.Unlaid.{no_node, unlaid_declarator, unlaid_dimensions, unlaid_expression}
 use Rattle.stk_grammar.specs.Expressions.{stops}
-use Rattle.stk_grammar.specs.Fits.{declarator_fits, dimensions_fits, optional_fits}
+use Rattle.stk_tree.specs.Fits.{declarator_fits, dimensions_fits, optional_fits}
 use Rattle.stk_grammar.specs.Reading.{◌>>=◌, Found, Sub, behind_left_bracket, dimensions_at, dimensions_on, expression_at, stars_at, word_at, words_at}
 use Rattle.stk_grammar.specs.Stopped.{stopped_at}
 use Rattle.stk_grammar.proofs.Complete.{dimension_open_next, dimension_sized_next, no_right_bracket, stars_read_all}
@@ -22,7 +22,7 @@ use Rattle.stk_grammar.proofs.Prints.{prints, prints_dimensions, prints_longer, 
 use Rattle.stk_grammar.proofs.Sound.{Answers, IsSound, dimensions_sound, expression_sound, stars_is, word_is}
 use Rattle.stk_grammar.proofs.Well.{dimensions_pass, not_true, true_not}
 use Rattle.stk_decl_grammar.specs.Reading.{array_declarator_at, array_name_behind, arrays_behind, declared_name_at, low_declarator, name_at, optional_name_at, optional_name_on, optional_word_at}
-use Rattle.stk_decl_grammar.proofs.Heights.{declarator-bare}
+use Rattle.stk_decl_grammar.proofs.Nestings.{declarator-unlaid}
 use Rattle.stk_decl_grammar.proofs.Marks.{end_no_bracket, end_no_name, end_no_star, end_no_words, ends_declarator, expression_opens, expression_read}
 use Rattle.stk_decl_grammar.proofs.Prints.{prints_declarator, prints_name}
 use Rattle.stk_decl_grammar.proofs.Stands.{FindsOnly, Stands}
@@ -74,17 +74,17 @@ no_dimension : (sub : Sub) (f : ℕ) (r : List Lexeme) → behind_left_bracket r
 unfolding dimensions_at
 no_dimension sub f r e = ap (λ o. dimensions_on (dimensions_at sub f) sub o r) e
 
-pub dimensions_read : (ds : DimensionTrees) (named : Span → Bool) (room f : ℕ) (r : List Lexeme) → dimensions_placed ds ≡ true → dimensions_fits named ds ≡ true → dimensions_height ds ≤ room
-    → behind_left_bracket r ≡ None → length (prints_dimensions ds r) < f → dimensions_at (stopped_at named room) f (prints_dimensions ds r) ≡ Some (bare_dimensions ds, r)
+pub dimensions_read : (ds : DimensionTrees) (named : Span → Bool) (room f : ℕ) (r : List Lexeme) → dimensions_placed ds ≡ true → dimensions_fits named ds ≡ true → dimensions_nesting ds ≤ room
+    → behind_left_bracket r ≡ None → length (prints_dimensions ds r) < f → dimensions_at (stopped_at named room) f (prints_dimensions ds r) ≡ Some (unlaid_dimensions ds, r)
 dimensions_read ds named room zero r p q low ends much = absurd (omega arith)
 dimensions_read s.no_dimensions named room (suc f) r p q low ends much = no_dimension (stopped_at named room) f r ends
 dimensions_read (s.then_dimension s.open_dimension xs) named room (suc f) r p q low ends much =
-    dimension_open_next (stopped_at named room) f (bare_dimensions xs) (prints_dimensions xs r) r (dimensions_read xs named room f r p q (omega arith) ends (omega arith))
+    dimension_open_next (stopped_at named room) f (unlaid_dimensions xs) (prints_dimensions xs r) r (dimensions_read xs named room f r p q (omega arith) ends (omega arith))
 dimensions_read (s.then_dimension (s.sized e) xs) named room (suc f) r p q low ends much =
     let a = both_true _ _ p in
     let b = both_true _ _ q in
     let behind : List Lexeme = Token fixed.RightBracket ∷ prints_dimensions xs r in
-    dimension_sized_next (stopped_at named room) f (bare_expression e) (bare_dimensions xs) (prints e behind) (prints_dimensions xs r) r
+    dimension_sized_next (stopped_at named room) f (unlaid_expression e) (unlaid_dimensions xs) (prints e behind) (prints_dimensions xs r) r
     (no_right_bracket _ (expression_opens named 3 e behind a.0 b.0))
     (expression_read named room 3 e behind a.0 b.0 (omega arith) refl)
     (dimensions_read xs named room f r a.1 b.1 (omega arith) ends (omega (arith, prints_longer e behind)))
@@ -154,19 +154,19 @@ named_declarator_no_words (s.declarator n count None t i) r p = absurd cc
 
 -- ---- the whole declarator
 
-pub low_declarator_some : (room : ℕ) (d : DeclrTree) (r : List Lexeme) → declarator_height d ≤ room → low_declarator room d r ≡ Some (d, r)
+pub low_declarator_some : (room : ℕ) (d : DeclrTree) (r : List Lexeme) → declarator_nesting d ≤ room → low_declarator room d r ≡ Some (d, r)
 low_declarator_some room d r low = ap (λ (b : Bool). let x : Found DeclrTree = cond b (Some (d, r)) None in x) (le-leb _ _ low)
 
 array_read : (named : Span → Bool) (room : ℕ) (nameless : Bool) (n : Node) (count : ℕ) (at : Option Span) (ds : DimensionTrees) (r : List Lexeme) → may_lack nameless at ≡ true → optional_fits named at ≡ true
-    → dimensions_placed ds ≡ true → dimensions_fits named ds ≡ true → declarator_height (s.declarator n count at (s.arrays ds) s.no_initialiser) ≤ room → ends_declarator r ≡ true
-    → array_declarator_at named room nameless (prints_stars count (prints_name at (prints_dimensions ds r))) ≡ Some (s.declarator no_node count at (s.arrays (bare_dimensions ds)) s.no_initialiser, r)
+    → dimensions_placed ds ≡ true → dimensions_fits named ds ≡ true → declarator_nesting (s.declarator n count at (s.arrays ds) s.no_initialiser) ≤ room → ends_declarator r ≡ true
+    → array_declarator_at named room nameless (prints_stars count (prints_name at (prints_dimensions ds r))) ≡ Some (s.declarator no_node count at (s.arrays (unlaid_dimensions ds)) s.no_initialiser, r)
 unfolding array_declarator_at
 array_read named room nameless n count at ds r lack fit p q low ends =
-    let e = declarator-bare (s.declarator n count at (s.arrays ds) s.no_initialiser) in
+    let e = declarator-unlaid (s.declarator n count at (s.arrays ds) s.no_initialiser) in
     ap (array_name_behind named room nameless) (stars_read_all count _ (name_no_star at ds r ends))
     ∙ ap (λ (o : Found (Option Span)). o >>= λ w. arrays_behind named room count w.0 w.1) (declared_name_read named nameless at (prints_dimensions ds r) lack fit (dimensions_no_name ds r ends))
     ∙ ap (λ (o : Found DimensionTrees). o >>= λ x. low_declarator room (s.declarator no_node count at (s.arrays x.0) s.no_initialiser) x.1) (dimensions_read ds named room (suc (length (prints_dimensions ds r))) r p q (omega arith) (end_no_bracket r ends) (omega arith))
-    ∙ low_declarator_some room (s.declarator no_node count at (s.arrays (bare_dimensions ds)) s.no_initialiser) r (omega (arith, e, low))
+    ∙ low_declarator_some room (s.declarator no_node count at (s.arrays (unlaid_dimensions ds)) s.no_initialiser) r (omega (arith, e, low))
 
 -- whether a name is there where one is wanted
 abbrev pub named_where : Bool → DeclrTree → Bool
@@ -185,7 +185,7 @@ may_lack_named false n count (Some at) ds h = refl
 
 -- what such a declarator prints is read as that declarator
 pub array_declarator_read : (d : DeclrTree) (named : Span → Bool) (room : ℕ) (nameless : Bool) (r : List Lexeme) → parameter_declarator d ≡ true → named_where nameless d ≡ true → declarator_placed d ≡ true → declarator_fits named d ≡ true
-    → declarator_height d ≤ room → ends_declarator r ≡ true → array_declarator_at named room nameless (prints_declarator d r) ≡ Some (bare_declarator d, r)
+    → declarator_nesting d ≤ room → ends_declarator r ≡ true → array_declarator_at named room nameless (prints_declarator d r) ≡ Some (unlaid_declarator d, r)
 array_declarator_read (s.declarator n count at (s.arrays ds) s.no_initialiser) named room nameless r shape name p q low ends =
     let a = both_true _ _ p in
     let b = both_true _ _ q in
@@ -199,7 +199,7 @@ abbrev pub array_placed : Bool → DeclrTree → Bool
 array_placed nameless d = parameter_declarator d && named_where nameless d && declarator_placed d
 
 -- what is read is such a declarator
-pub array_declarator_found : (named : Span → Bool) (room : ℕ) (nameless : Bool) → FindsOnly prints_declarator (array_placed nameless) (declarator_fits named) declarator_height room (array_declarator_at named room nameless)
+pub array_declarator_found : (named : Span → Bool) (room : ℕ) (nameless : Bool) → FindsOnly prints_declarator (array_placed nameless) (declarator_fits named) declarator_nesting room (array_declarator_at named room nameless)
 unfolding array_declarator_at
 array_declarator_found named room nameless ts x e =
     let y = stars_at 0 ts in
@@ -209,7 +209,7 @@ array_declarator_found named room nameless ts x e =
     let p = declared_name_found named nameless y.1 a.0 a.1 in
     let q = dimensions_found named room (suc (length a.0.1)) a.0.1 d.0 d.1 in
     let tree : DeclrTree = s.declarator no_node y.0 a.0.0 (s.arrays d.0.0) s.no_initialiser in
-    subst (Stands prints_declarator (array_placed nameless) (declarator_fits named) declarator_height room ts) (some_is (tree, d.0.1) x c.1)
+    subst (Stands prints_declarator (array_placed nameless) (declarator_fits named) declarator_nesting room ts) (some_is (tree, d.0.1) x c.1)
     (record {
       text = stars_is 0 ts ∙ ap (prints_stars y.0) (p.0 ∙ ap (prints_name a.0.0) q.0);
       placed = true_both _ _ (true_both _ _ refl (may_lack_named nameless no_node y.0 a.0.0 d.0.0 p.1)) (true_both _ _ q.1 refl);

@@ -8,11 +8,11 @@ use Rattle.stk_tree.specs.declared.fixed.Lexeme.{Lexeme}
 use Rattle.stk_tree.specs.declared.fixed.Lexeme.TheVariants.{Leaf, Fixed as Token}
 use Rattle.stk_tree.specs.Syntax.{BaseFormTree, BaseTree, DeclrTree, DeclrTrees, EnumrTrees, MemberTree, MemberTrees}
 use Rattle.stk_tree.specs.Syntax as s
-use Rattle.stk_tree.specs.Height.{base_form_height, member_height, members_height}
+use Rattle.stk_tree.specs.Nesting.{base_form_nesting, member_nesting, members_nesting}
 use Rattle.stk_tree.specs.Placed.{all_basic, base_form_placed, base_placed, declarator_placed, declarators_placed, has_name, is_basic, member_declarators, parameter_declarator, member_placed, members_placed, some_declarators, some_enumerators, enumerators_placed, some_members}
 use Rattle.stk_tree.specs.Tokens.{base_tokens, declarators_tokens, member_tokens}
-use Rattle.stk_grammar.specs.Bare.{no_node, bare_base_form, bare_declarators, bare_enumerators, bare_member, bare_members}
-use Rattle.stk_grammar.specs.Fits.{base_form_fits, declarators_fits, member_fits, members_fits}
+use Rattle.stk_tree.specs.Unlaid.{no_node, unlaid_base_form, unlaid_declarators, unlaid_enumerators, unlaid_member, unlaid_members}
+use Rattle.stk_tree.specs.Fits.{base_form_fits, declarators_fits, member_fits, members_fits}
 use Rattle.stk_grammar.specs.Reading.{◌>>=◌, Found, behind_left_brace, behind_right_brace, words_at, words_base}
 use Rattle.stk_grammar.proofs.Complete.{cond_true, words_read}
 use Rattle.stk_grammar.proofs.Operators.{bind_some, both_true, if_some, some_is, true_both}
@@ -124,67 +124,67 @@ prints_members_inside xs r = prints_members xs (Token fixed.RightBrace ∷ r)
 
 mutual
   -- what a base prints is read as that base, where no basic word and no brace follows
-  pub form_read : (f : BaseFormTree) (named : Span → Bool) (room : ℕ) (r : List Lexeme) → base_form_placed f ≡ true → base_form_fits named f ≡ true → base_form_height f + 1 ≤ room → words_at r ≡ ([], r) → behind_left_brace r ≡ None
-      → full_base_at named room (prints_specifier_form f r) ≡ Some (bare_base_form f, r)
+  pub form_read : (f : BaseFormTree) (named : Span → Bool) (room : ℕ) (r : List Lexeme) → base_form_placed f ≡ true → base_form_fits named f ≡ true → base_form_nesting f + 1 ≤ room → words_at r ≡ ([], r) → behind_left_brace r ≡ None
+      → full_base_at named room (prints_specifier_form f r) ≡ Some (unlaid_base_form f, r)
   form_read f named zero r p q low stays none = absurd (omega arith)
   form_read (s.words []) named (suc inner) r p q low stays none = absurd cc
   form_read (s.words (w ∷ ws)) named (suc inner) r p q low stays none = let a = both_true (is_basic w) (all_basic ws) p in words_form_read named inner w ws r a.0 a.1 stays
   form_read (s.struct_ref tag) named (suc inner) r p q low stays none = struct_ref_read named inner tag r none
   form_read (s.struct_def tag ms) named (suc inner) r p q low stays none =
       let a = both_true (some_members ms) (members_placed ms) p in
-      struct_def_read named inner tag (bare_members ms) (prints_members_inside ms r) r (members_read ms named inner r a.0 a.1 q (omega arith))
+      struct_def_read named inner tag (unlaid_members ms) (prints_members_inside ms r) r (members_read ms named inner r a.0 a.1 q (omega arith))
   form_read (s.enum_ref tag) named (suc inner) r p q low stays none = enum_ref_read named inner tag r none
   form_read (s.enum_def tag es comma) named (suc inner) r p q low stays none =
       let a = both_true (some_enumerators es) (enumerators_placed es) p in
-      enum_def_read named inner tag (bare_enumerators es) comma (prints_enumerators_inside (es, comma) r) r (enumerators_read es named inner comma r a.0 a.1 q (omega arith))
+      enum_def_read named inner tag (unlaid_enumerators es) comma (prints_enumerators_inside (es, comma) r) r (enumerators_read es named inner comma r a.0 a.1 q (omega arith))
   form_read (s.named at) named (suc inner) r p q low stays none = named_form_read named inner at r q
 
-  members_read : (xs : MemberTrees) (named : Span → Bool) (inner : ℕ) (r : List Lexeme) → some_members xs ≡ true → members_placed xs ≡ true → members_fits named xs ≡ true → members_height xs ≤ inner
-      → members_at (member_inside named inner) (prints_members_inside xs r) ≡ Some (bare_members xs, r)
+  members_read : (xs : MemberTrees) (named : Span → Bool) (inner : ℕ) (r : List Lexeme) → some_members xs ≡ true → members_placed xs ≡ true → members_fits named xs ≡ true → members_nesting xs ≤ inner
+      → members_at (member_inside named inner) (prints_members_inside xs r) ≡ Some (unlaid_members xs, r)
   members_read s.no_members named inner r c p q low = absurd cc
   members_read (s.then_member x xs) named inner r c p q low =
       let a = both_true (member_placed x) (members_placed xs) p in
       let b = both_true (member_fits named x) (members_fits named xs) q in
       let behind : List Lexeme = prints_members_inside xs r in
-      members_first (member_inside named inner) (bare_member x) (bare_members xs) (prints_member x behind) behind r
+      members_first (member_inside named inner) (unlaid_member x) (unlaid_members xs) (prints_member x behind) behind r
       (member_read x named inner behind a.0 b.0 (omega arith))
       (more_members_read xs named inner (suc (length behind)) r a.1 b.1 (omega arith) (omega arith))
 
-  more_members_read : (xs : MemberTrees) (named : Span → Bool) (inner f : ℕ) (r : List Lexeme) → members_placed xs ≡ true → members_fits named xs ≡ true → members_height xs ≤ inner → length (prints_members_inside xs r) < f
-      → more_members_at (member_inside named inner) f (prints_members_inside xs r) ≡ Some (bare_members xs, r)
+  more_members_read : (xs : MemberTrees) (named : Span → Bool) (inner f : ℕ) (r : List Lexeme) → members_placed xs ≡ true → members_fits named xs ≡ true → members_nesting xs ≤ inner → length (prints_members_inside xs r) < f
+      → more_members_at (member_inside named inner) f (prints_members_inside xs r) ≡ Some (unlaid_members xs, r)
   more_members_read xs named inner zero r p q low much = absurd (omega arith)
   more_members_read s.no_members named inner (suc f) r p q low much = members_end (member_inside named inner) f r
   more_members_read (s.then_member x xs) named inner (suc f) r p q low much =
       let a = both_true (member_placed x) (members_placed xs) p in
       let b = both_true (member_fits named x) (members_fits named xs) q in
       let behind : List Lexeme = prints_members_inside xs r in
-      member_next (member_inside named inner) f (bare_member x) (bare_members xs) (prints_member x behind) behind r
+      member_next (member_inside named inner) f (unlaid_member x) (unlaid_members xs) (prints_member x behind) behind r
       (member_no_right_brace x behind a.0)
       (member_read x named inner behind a.0 b.0 (omega arith))
       (more_members_read xs named inner f r a.1 b.1 (omega arith) (omega (arith, member_longer x behind)))
 
-  member_read : (x : MemberTree) (named : Span → Bool) (inner : ℕ) (r : List Lexeme) → member_placed x ≡ true → member_fits named x ≡ true → member_height x ≤ inner
-      → member_inside named inner (prints_member x r) ≡ Some (bare_member x, r)
+  member_read : (x : MemberTree) (named : Span → Bool) (inner : ℕ) (r : List Lexeme) → member_placed x ≡ true → member_fits named x ≡ true → member_nesting x ≤ inner
+      → member_inside named inner (prints_member x r) ≡ Some (unlaid_member x, r)
   member_read (s.member (s.base n f) ds) named inner r p q low =
       let a = member_tests (s.base n f) ds p in
       let b = both_true (base_form_fits named f) (declarators_fits named ds) q in
       let all = members_of ds a.2 a.3 in
       let behind : List Lexeme = prints_declarator_list ds r in
-      member_some named inner (bare_base_form f) (bare_declarators ds) (prints_specifier_form f behind) behind r
+      member_some named inner (unlaid_base_form f) (unlaid_declarators ds) (prints_specifier_form f behind) behind r
       (form_read f named inner behind a.0 b.0 (omega arith) (list_no_words ds r (named_members ds all)) (list_no_left_brace ds r (named_members ds all)))
       (declarators_read ds named (array_placed false) inner (array_declarator_at named inner false) r (array_reads named inner) (true_both _ _ a.1 all) b.1 (omega arith))
 
 -- ---- what was found
 
--- the height of a base whose node isn't laid out
-abbrev pub form_height : BaseFormTree → ℕ
-form_height f = base_form_height f + 1
+-- the nesting of a base whose node isn't laid out
+abbrev pub form_nesting : BaseFormTree → ℕ
+form_nesting f = base_form_nesting f + 1
 
 abbrev FormStands : (Span → Bool) → ℕ → List Lexeme → BaseFormTree × List Lexeme → Type 0
-FormStands named room = Stands prints_specifier_form base_form_placed (base_form_fits named) form_height room
+FormStands named room = Stands prints_specifier_form base_form_placed (base_form_fits named) form_nesting room
 
 abbrev MembersStand : (Span → Bool) → ℕ → List Lexeme → MemberTrees × List Lexeme → Type 0
-MembersStand named room = Stands prints_members_inside members_placed (members_fits named) members_height room
+MembersStand named room = Stands prints_members_inside members_placed (members_fits named) members_nesting room
 
 optional_word_is : (ts : List Lexeme) → ts ≡ prints_name (optional_word_at ts).0 (optional_word_at ts).1
 optional_word_is [] = refl
@@ -198,11 +198,11 @@ words_found named room true f ts x is e =
     subst (FormStands named (suc room) (Token f ∷ ts)) (some_is (s.words (f ∷ (words_at ts).0), (words_at ts).1) x e)
     (record { text = ap (λ r. Token f ∷ r) w.0; placed = true_both _ _ is w.1; fits = refl; low = omega arith })
 
-module _ (named : Span → Bool) (room : ℕ) (base : Reader BaseFormTree) (finds : FindsOnly prints_specifier_form base_form_placed (base_form_fits named) form_height room base) where
+module _ (named : Span → Bool) (room : ℕ) (base : Reader BaseFormTree) (finds : FindsOnly prints_specifier_form base_form_placed (base_form_fits named) form_nesting room base) where
   abbrev one : Reader MemberTree
   one = member_at named room base
 
-  member_found : FindsOnly prints_member member_placed (member_fits named) member_height room one
+  member_found : FindsOnly prints_member member_placed (member_fits named) member_nesting room one
   member_found ts x e =
       let a = bind_some (base ts) _ x e in
       let b = bind_some (declarators_at (array_declarator_at named room false) a.0.1) _ x a.2 in
@@ -210,7 +210,7 @@ module _ (named : Span → Bool) (room : ℕ) (base : Reader BaseFormTree) (find
       let q = declarators_found named (array_placed false) room (array_declarator_at named room false) (array_declarator_found named room false) a.0.1 b.0 b.1 in
       let c = both_true (some_declarators b.0.0) _ q.placed in
       let d = of_members b.0.0 c.1 in
-      subst (Stands prints_member member_placed (member_fits named) member_height room ts) (some_is (s.member (s.base no_node a.0.0) b.0.0, b.0.1) x b.2)
+      subst (Stands prints_member member_placed (member_fits named) member_nesting room ts) (some_is (s.member (s.base no_node a.0.0) b.0.0, b.0.1) x b.2)
       (record {
         text = p.text ∙ ap (prints_specifier_form a.0.0) q.text;
         placed = true_both _ _ (true_both _ _ (true_both _ _ p.placed c.0) d.0) d.1;
@@ -236,14 +236,14 @@ module _ (named : Span → Bool) (room : ℕ) (base : Reader BaseFormTree) (find
   more_members_found zero ts x e = absurd cc
   more_members_found (suc f) ts x e = members_on_found (more_members_at one f) (behind_right_brace ts) ts x (λ us y d. more_members_found f us y d) refl e
 
-  members_found : FindsOnly prints_members_inside (λ xs. some_members xs && members_placed xs) (members_fits named) members_height room (members_at one)
+  members_found : FindsOnly prints_members_inside (λ xs. some_members xs && members_placed xs) (members_fits named) members_nesting room (members_at one)
   unfolding members_at
   members_found ts x e =
       let a = bind_some (one ts) _ x e in
       let b = bind_some (more_members_at one (suc (length a.0.1)) a.0.1) _ x a.2 in
       let p = member_found ts a.0 a.1 in
       let q = more_members_found (suc (length a.0.1)) a.0.1 b.0 b.1 in
-      subst (Stands prints_members_inside (λ xs. some_members xs && members_placed xs) (members_fits named) members_height room ts) (some_is (s.then_member a.0.0 b.0.0, b.0.1) x b.2)
+      subst (Stands prints_members_inside (λ xs. some_members xs && members_placed xs) (members_fits named) members_nesting room ts) (some_is (s.then_member a.0.0 b.0.0, b.0.1) x b.2)
       (record { text = p.text ∙ ap (prints_member a.0.0) q.text; placed = true_both _ _ p.placed q.placed; fits = true_both _ _ p.fits q.fits; low = omega (arith, p.low, q.low) })
 
   struct_found : (tag : Option Span) (ts : List Lexeme) (o : Option (List Lexeme)) (x : BaseFormTree × List Lexeme) → behind_left_brace ts ≡ o → struct_on (members_at one) tag ts o ≡ Some x
@@ -284,7 +284,7 @@ module _ (named : Span → Bool) (room : ℕ) (base : Reader BaseFormTree) (find
   form_from_found (Token f ∷ ts) x e = form_on_found f ts x e
 
 -- what is read is a base that stands there
-pub form_found : (named : Span → Bool) (room : ℕ) → FindsOnly prints_specifier_form base_form_placed (base_form_fits named) form_height room (full_base_at named room)
+pub form_found : (named : Span → Bool) (room : ℕ) → FindsOnly prints_specifier_form base_form_placed (base_form_fits named) form_nesting room (full_base_at named room)
 unfolding full_base_at
 form_found named zero ts x e = absurd cc
 form_found named (suc inner) ts x e = form_from_found named inner (full_base_at named inner) (form_found named inner) ts x e

@@ -9,10 +9,10 @@ use Rattle.stk_tree.specs.declared.fixed.Lexeme.{Lexeme}
 use Rattle.stk_tree.specs.declared.fixed.Lexeme.TheVariants.{Leaf, Fixed as Token}
 use Rattle.stk_tree.specs.Syntax.{DeclrTree, DeclrTrees, DimensionTree, DimensionTrees, MaybeInitTree, TailTree}
 use Rattle.stk_tree.specs.Syntax as s
-use Rattle.stk_tree.specs.Height.{declarator_height, maybe_initialiser_height, tail_height}
+use Rattle.stk_tree.specs.Nesting.{declarator_nesting, maybe_initialiser_nesting, tail_nesting}
 use Rattle.stk_tree.specs.Placed.{declarator_placed, function_declarator, has_arrays, has_name, maybe_initialiser_placed, tail_placed}
-use Rattle.stk_grammar.specs.Bare.{no_node, bare_declarator, bare_dimensions, bare_maybe_initialiser, bare_tail}
-use Rattle.stk_grammar.specs.Fits.{declarator_fits, maybe_initialiser_fits, tail_fits}
+use Rattle.stk_tree.specs.Unlaid.{no_node, unlaid_declarator, unlaid_dimensions, unlaid_maybe_initialiser, unlaid_tail}
+use Rattle.stk_tree.specs.Fits.{declarator_fits, maybe_initialiser_fits, tail_fits}
 use Rattle.stk_grammar.specs.Reading.{◌>>=◌, Found, behind_left_bracket, behind_left_paren, dimensions_at, stars_at}
 use Rattle.stk_grammar.specs.Stopped.{stopped_at}
 use Rattle.stk_grammar.proofs.Complete.{stars_read_all}
@@ -21,7 +21,7 @@ use Rattle.stk_grammar.proofs.Prints.{prints_dimensions, prints_stars}
 use Rattle.stk_grammar.proofs.Sound.{left_paren_is, stars_is}
 use Rattle.stk_decl_grammar.specs.Reading.{declarator_at, declarator_behind, declarator_name_behind, function_declarator_at, function_name_behind, function_tail, initial_at, low_declarator, name_at, parameter_at, parameter_tail_at, declared_tail_at, tail_on}
 use Rattle.stk_decl_grammar.proofs.Arrays.{dimensions_found, dimensions_read, low_declarator_some, name_found, name_read}
-use Rattle.stk_decl_grammar.proofs.Heights.{declarator-bare}
+use Rattle.stk_decl_grammar.proofs.Nestings.{declarator-unlaid}
 use Rattle.stk_decl_grammar.proofs.Initialisers.{initial_found, initial_read}
 use Rattle.stk_decl_grammar.proofs.Marks.{end_no_bracket, end_no_paren, ends_declarator}
 use Rattle.stk_decl_grammar.proofs.Parameters.{parameter_tail, parameter_tail_found, parameter_tail_read, prints_inside, tail_is_inside}
@@ -48,15 +48,15 @@ arrays_tail named room false ds ts rest none e = ap (λ o. tail_on named room fa
 inside_tail : (named : Span → Bool) (room : ℕ) (t : TailTree) (inside rest : List Lexeme) → parameter_tail_at (parameter_at named room) inside ≡ Some (t, rest) → declared_tail_at named room true (Token fixed.LeftParen ∷ inside) ≡ Some (t, rest)
 inside_tail named room t inside rest e = e
 
-tail_read : (t : TailTree) (named : Span → Bool) (room : ℕ) (file : Bool) (r : List Lexeme) → tail_allowed file t ≡ true → tail_placed t ≡ true → tail_fits named t ≡ true → tail_height t ≤ room
-    → behind_left_paren r ≡ None → behind_left_bracket r ≡ None → declared_tail_at named room file (prints_tail t r) ≡ Some (bare_tail t, r)
+tail_read : (t : TailTree) (named : Span → Bool) (room : ℕ) (file : Bool) (r : List Lexeme) → tail_allowed file t ≡ true → tail_placed t ≡ true → tail_fits named t ≡ true → tail_nesting t ≤ room
+    → behind_left_paren r ≡ None → behind_left_bracket r ≡ None → declared_tail_at named room file (prints_tail t r) ≡ Some (unlaid_tail t, r)
 tail_read (s.arrays ds) named room file r h p q low paren bracket =
-    arrays_tail named room file (bare_dimensions ds) (prints_dimensions ds r) r (dimensions_no_paren ds r paren)
+    arrays_tail named room file (unlaid_dimensions ds) (prints_dimensions ds r) r (dimensions_no_paren ds r paren)
     (dimensions_read ds named room (suc (length (prints_dimensions ds r))) r p q low bracket (omega arith))
 tail_read s.unspecified named room true r h p q low paren bracket = inside_tail named room s.unspecified (prints_inside s.unspecified r) r (parameter_tail_read s.unspecified named room r refl p q low)
 tail_read s.void_parameters named room true r h p q low paren bracket = inside_tail named room s.void_parameters (prints_inside s.void_parameters r) r (parameter_tail_read s.void_parameters named room r refl p q low)
 tail_read (s.with_parameters ps more) named room true r h p q low paren bracket =
-    inside_tail named room (bare_tail (s.with_parameters ps more)) (prints_inside (s.with_parameters ps more) r) r (parameter_tail_read (s.with_parameters ps more) named room r refl p q low)
+    inside_tail named room (unlaid_tail (s.with_parameters ps more)) (prints_inside (s.with_parameters ps more) r) r (parameter_tail_read (s.with_parameters ps more) named room r refl p q low)
 tail_read s.unspecified named room false r h p q low paren bracket = absurd cc
 tail_read s.void_parameters named room false r h p q low paren bracket = absurd cc
 tail_read (s.with_parameters ps more) named room false r h p q low paren bracket = absurd cc
@@ -106,25 +106,25 @@ initial_no_bracket s.no_initialiser r h = end_no_bracket r h
 initial_no_bracket (s.some_initialiser i) r h = refl
 
 declarator_behind_some : (named : Span → Bool) (inner : ℕ) (file : Bool) (count : ℕ) (at : Span) (t : TailTree) (i : MaybeInitTree) (ts middle rest : List Lexeme) → declared_tail_at named inner file ts ≡ Some (t, middle) → initial_at named inner middle ≡ Some (i, rest)
-    → declarator_height (s.declarator no_node count (Some at) t i) ≤ suc inner → declarator_behind named inner file count (at, ts) ≡ Some (s.declarator no_node count (Some at) t i, rest)
+    → declarator_nesting (s.declarator no_node count (Some at) t i) ≤ suc inner → declarator_behind named inner file count (at, ts) ≡ Some (s.declarator no_node count (Some at) t i, rest)
 declarator_behind_some named inner file count at t i ts middle rest by later low =
     ap (λ (o : Found TailTree). o >>= λ t. initial_at named inner t.1 >>= λ i. low_declarator (suc inner) (s.declarator no_node count (Some at) t.0 i.0) i.1) by
     ∙ ap (λ (o : Found MaybeInitTree). o >>= λ i. low_declarator (suc inner) (s.declarator no_node count (Some at) t i.0) i.1) later
     ∙ low_declarator_some (suc inner) (s.declarator no_node count (Some at) t i) rest low
 
 named_declarator_read : (n : Node) (count : ℕ) (at : Span) (t : TailTree) (i : MaybeInitTree) (named : Span → Bool) (inner : ℕ) (file : Bool) (r : List Lexeme) → tail_allowed file t ≡ true → declarator_placed (s.declarator n count (Some at) t i) ≡ true
-    → declarator_fits named (s.declarator n count (Some at) t i) ≡ true → declarator_height (s.declarator n count (Some at) t i) ≤ suc inner → ends_declarator r ≡ true
-    → declarator_at named (suc inner) file (prints_declarator (s.declarator n count (Some at) t i) r) ≡ Some (bare_declarator (s.declarator n count (Some at) t i), r)
+    → declarator_fits named (s.declarator n count (Some at) t i) ≡ true → declarator_nesting (s.declarator n count (Some at) t i) ≤ suc inner → ends_declarator r ≡ true
+    → declarator_at named (suc inner) file (prints_declarator (s.declarator n count (Some at) t i) r) ≡ Some (unlaid_declarator (s.declarator n count (Some at) t i), r)
 unfolding declarator_at
 named_declarator_read n count at t i named inner file r allowed p q low ends =
     let a = both_true _ _ p in
     let b = both_true _ _ q in
     let c = both_true _ _ b.0 in
     let middle : List Lexeme = prints_initial i r in
-    let e = declarator-bare (s.declarator n count (Some at) t i) in
+    let e = declarator-unlaid (s.declarator n count (Some at) t i) in
     ap (declarator_name_behind named inner file) (stars_read_all count (Leaf Word at ∷ prints_tail t middle) (word_no_star at (prints_tail t middle)))
     ∙ ap (λ (o : Found Span). o >>= declarator_behind named inner file count) (name_read named at (prints_tail t middle) c.0)
-    ∙ declarator_behind_some named inner file count at (bare_tail t) (bare_maybe_initialiser i) (prints_tail t middle) middle r
+    ∙ declarator_behind_some named inner file count at (unlaid_tail t) (unlaid_maybe_initialiser i) (prints_tail t middle) middle r
     (tail_read t named inner file middle allowed a.0 c.1 (omega arith) (initial_no_paren i r ends) (initial_no_bracket i r ends))
     (initial_read i named inner r a.1 b.1 (omega arith) ends)
     (omega (arith, e, low))
@@ -143,8 +143,8 @@ allowed_arrays n count at s.void_parameters i h = absurd cc
 allowed_arrays n count at (s.with_parameters ps more) i h = absurd cc
 
 -- what a declarator prints is read as that declarator
-pub declarator_read : (d : DeclrTree) (named : Span → Bool) (room : ℕ) (file : Bool) (r : List Lexeme) → declares file d ≡ true → declarator_fits named d ≡ true → declarator_height d ≤ room → ends_declarator r ≡ true
-    → declarator_at named room file (prints_declarator d r) ≡ Some (bare_declarator d, r)
+pub declarator_read : (d : DeclrTree) (named : Span → Bool) (room : ℕ) (file : Bool) (r : List Lexeme) → declares file d ≡ true → declarator_fits named d ≡ true → declarator_nesting d ≤ room → ends_declarator r ≡ true
+    → declarator_at named room file (prints_declarator d r) ≡ Some (unlaid_declarator d, r)
 declarator_read (s.declarator n count at t i) named zero file r h q low ends = absurd (omega arith)
 declarator_read (s.declarator n count None t i) named (suc inner) true r h q low ends = absurd cc
 declarator_read (s.declarator n count None t i) named (suc inner) false r h q low ends = absurd cc
@@ -160,10 +160,10 @@ declares_named false n count at t i a p = true_both _ _ (allowed_arrays n count 
 -- the stars, the name, the tail and the initialiser that were found make a declarator
 declarator_stands : (named : Span → Bool) (inner : ℕ) (file : Bool) (ts : List Lexeme) (count : ℕ) (u : List Lexeme) (at : Span) (v : List Lexeme) (t : TailTree) (w : List Lexeme) (i : MaybeInitTree) (r : List Lexeme) (x : DeclrTree × List Lexeme)
     → ts ≡ prints_stars count u → u ≡ Leaf Word at ∷ v → not (named at) ≡ true → v ≡ prints_tail t w → allowed_placed file t ≡ true → tail_fits named t ≡ true
-    → Stands prints_initial maybe_initialiser_placed (maybe_initialiser_fits named) maybe_initialiser_height inner w (i, r) → declarator_height (s.declarator no_node count (Some at) t i) ≤ suc inner
-    → ◌≡◌ {A = Found DeclrTree} (Some (s.declarator no_node count (Some at) t i, r)) (Some x) → Stands prints_declarator (declares file) (declarator_fits named) declarator_height (suc inner) ts x
+    → Stands prints_initial maybe_initialiser_placed (maybe_initialiser_fits named) maybe_initialiser_nesting inner w (i, r) → declarator_nesting (s.declarator no_node count (Some at) t i) ≤ suc inner
+    → ◌≡◌ {A = Found DeclrTree} (Some (s.declarator no_node count (Some at) t i, r)) (Some x) → Stands prints_declarator (declares file) (declarator_fits named) declarator_nesting (suc inner) ts x
 declarator_stands named inner file ts count u at v t w i r x stars name fit tail allowed fits k low e =
-    subst (Stands prints_declarator (declares file) (declarator_fits named) declarator_height (suc inner) ts) (some_is (s.declarator no_node count (Some at) t i, r) x e)
+    subst (Stands prints_declarator (declares file) (declarator_fits named) declarator_nesting (suc inner) ts) (some_is (s.declarator no_node count (Some at) t i, r) x e)
     (record {
       text = stars ∙ ap (prints_stars count) (name ∙ ap (λ r. Leaf Word at ∷ r) (tail ∙ ap (prints_tail t) k.text));
       placed = declares_named file no_node count at t i allowed (true_both _ _ (both_true _ _ allowed).1 k.placed);
@@ -171,7 +171,7 @@ declarator_stands named inner file ts count u at v t w i r x stars name fit tail
       low = low;
     })
 
-pub declarator_found : (named : Span → Bool) (room : ℕ) (file : Bool) → FindsOnly prints_declarator (declares file) (declarator_fits named) declarator_height room (declarator_at named room file)
+pub declarator_found : (named : Span → Bool) (room : ℕ) (file : Bool) → FindsOnly prints_declarator (declares file) (declarator_fits named) declarator_nesting room (declarator_at named room file)
 unfolding declarator_at
 declarator_found named zero file ts x e = absurd cc
 declarator_found named (suc inner) file ts x e =
@@ -192,21 +192,21 @@ abbrev pub function_placed : DeclrTree → Bool
 function_placed d = function_declarator d && declarator_placed d
 
 function_read : (n : Node) (count : ℕ) (at : Span) (t : TailTree) (named : Span → Bool) (inner : ℕ) (r : List Lexeme) → parameter_tail t ≡ true → tail_placed t ≡ true → declarator_fits named (s.declarator n count (Some at) t s.no_initialiser) ≡ true
-    → declarator_height (s.declarator n count (Some at) t s.no_initialiser) ≤ suc inner
-    → function_declarator_at named (suc inner) (prints_declarator (s.declarator n count (Some at) t s.no_initialiser) r) ≡ Some (bare_declarator (s.declarator n count (Some at) t s.no_initialiser), r)
+    → declarator_nesting (s.declarator n count (Some at) t s.no_initialiser) ≤ suc inner
+    → function_declarator_at named (suc inner) (prints_declarator (s.declarator n count (Some at) t s.no_initialiser) r) ≡ Some (unlaid_declarator (s.declarator n count (Some at) t s.no_initialiser), r)
 unfolding function_declarator_at
 function_read n count at t named inner r h p q low =
     let b = both_true _ _ q in
     let c = both_true _ _ b.0 in
-    let e = declarator-bare (s.declarator n count (Some at) t s.no_initialiser) in
+    let e = declarator-unlaid (s.declarator n count (Some at) t s.no_initialiser) in
     ap (function_name_behind named inner) (stars_read_all count (Leaf Word at ∷ prints_tail t r) (word_no_star at (prints_tail t r)))
     ∙ ap (λ (o : Found Span). o >>= function_tail named inner count) (name_read named at (prints_tail t r) c.0)
     ∙ ap (λ ts. function_tail named inner count (at, ts)) (tail_is_inside t r h)
     ∙ ap (λ (o : Found TailTree). o >>= λ x. low_declarator (suc inner) (s.declarator no_node count (Some at) x.0 s.no_initialiser) x.1) (parameter_tail_read t named inner r h p c.1 (omega arith))
-    ∙ low_declarator_some (suc inner) (s.declarator no_node count (Some at) (bare_tail t) s.no_initialiser) r (omega (arith, e, low))
+    ∙ low_declarator_some (suc inner) (s.declarator no_node count (Some at) (unlaid_tail t) s.no_initialiser) r (omega (arith, e, low))
 
-pub function_declarator_read : (d : DeclrTree) (named : Span → Bool) (room : ℕ) (r : List Lexeme) → function_placed d ≡ true → declarator_fits named d ≡ true → declarator_height d ≤ room
-    → function_declarator_at named room (prints_declarator d r) ≡ Some (bare_declarator d, r)
+pub function_declarator_read : (d : DeclrTree) (named : Span → Bool) (room : ℕ) (r : List Lexeme) → function_placed d ≡ true → declarator_fits named d ≡ true → declarator_nesting d ≤ room
+    → function_declarator_at named room (prints_declarator d r) ≡ Some (unlaid_declarator d, r)
 function_declarator_read (s.declarator n count at t i) named zero r h q low = absurd (omega arith)
 function_declarator_read (s.declarator n count None t i) named (suc inner) r h q low = absurd cc
 function_declarator_read (s.declarator n count (Some at) (s.arrays ds) i) named (suc inner) r h q low = absurd cc
@@ -222,7 +222,7 @@ function_with n count at s.unspecified h = refl
 function_with n count at s.void_parameters h = refl
 function_with n count at (s.with_parameters ps more) h = true_both _ _ h refl
 
-pub function_declarator_found : (named : Span → Bool) (room : ℕ) → FindsOnly prints_declarator function_placed (declarator_fits named) declarator_height room (function_declarator_at named room)
+pub function_declarator_found : (named : Span → Bool) (room : ℕ) → FindsOnly prints_declarator function_placed (declarator_fits named) declarator_nesting room (function_declarator_at named room)
 unfolding function_declarator_at
 function_declarator_found named zero ts x e = absurd cc
 function_declarator_found named (suc inner) ts x e =
@@ -234,7 +234,7 @@ function_declarator_found named (suc inner) ts x e =
     let p = name_found named y.1 a.0 a.1 in
     let q = parameter_tail_found named inner o.0 b.0 o.2 in
     let tree : DeclrTree = s.declarator no_node y.0 (Some a.0.0) b.0.0 s.no_initialiser in
-    subst (Stands prints_declarator function_placed (declarator_fits named) declarator_height (suc inner) ts) (some_is (tree, b.0.1) x c.1)
+    subst (Stands prints_declarator function_placed (declarator_fits named) declarator_nesting (suc inner) ts) (some_is (tree, b.0.1) x c.1)
     (record {
       text = stars_is 0 ts ∙ ap (prints_stars y.0) (p.0 ∙ ap (λ r. Leaf Word a.0.0 ∷ r) (left_paren_is a.0.1 o.0 o.1 ∙ q.text));
       placed = function_with no_node y.0 a.0.0 b.0.0 q.placed;

@@ -7,12 +7,12 @@ use Rattle.stk_tree.specs.declared.fixed.Lexeme.{Lexeme}
 use Rattle.stk_tree.specs.declared.fixed.Lexeme.TheVariants.{Leaf, Fixed as Token}
 use Rattle.stk_tree.specs.Syntax.{EnumrTree, EnumrTrees, ExprTree, MaybeExprTree}
 use Rattle.stk_tree.specs.Syntax as s
-use Rattle.stk_tree.specs.Height.{enumerator_height, enumerators_height, maybe_expression_height}
+use Rattle.stk_tree.specs.Nesting.{enumerator_nesting, enumerators_nesting, maybe_expression_nesting}
 use Rattle.stk_tree.specs.Placed.{constant_placed, enumerator_placed, enumerators_placed, some_enumerators}
 use Rattle.stk_tree.specs.Tokens.{enumerator_tokens}
-use Rattle.stk_grammar.specs.Bare.{bare_enumerator, bare_enumerators, bare_maybe_expression}
+use Rattle.stk_tree.specs.Unlaid.{unlaid_enumerator, unlaid_enumerators, unlaid_maybe_expression}
 use Rattle.stk_grammar.specs.Expressions.{stops}
-use Rattle.stk_grammar.specs.Fits.{enumerator_fits, enumerators_fits, maybe_expression_fits}
+use Rattle.stk_tree.specs.Fits.{enumerator_fits, enumerators_fits, maybe_expression_fits}
 use Rattle.stk_grammar.specs.Reading.{◌>>=◌, Found, behind_assign, behind_comma, behind_right_brace}
 use Rattle.stk_grammar.specs.Stopped.{stopped_at}
 use Rattle.stk_grammar.proofs.Operators.{bind_some, both_true, some_is, true_both}
@@ -41,14 +41,14 @@ enumerator_no_assign (Token fixed.Comma ∷ ts) h = refl
 enumerator_no_assign (Token fixed.RightBrace ∷ ts) h = refl
 enumerator_no_assign other h = absurd cc
 
-value_read : (e : MaybeExprTree) (named : Span → Bool) (room : ℕ) (r : List Lexeme) → constant_placed e ≡ true → maybe_expression_fits named e ≡ true → maybe_expression_height e ≤ room → ends_enumerator r ≡ true
-    → value_at named room (prints_value e r) ≡ Some (bare_maybe_expression e, r)
+value_read : (e : MaybeExprTree) (named : Span → Bool) (room : ℕ) (r : List Lexeme) → constant_placed e ≡ true → maybe_expression_fits named e ≡ true → maybe_expression_nesting e ≤ room → ends_enumerator r ≡ true
+    → value_at named room (prints_value e r) ≡ Some (unlaid_maybe_expression e, r)
 value_read s.no_expression named room r p q low ends = ap (λ o. optional_value named room o r) (enumerator_no_assign r ends)
 value_read (s.some_expression e) named room r p q low ends =
     ap (λ (o : Found ExprTree). o >>= λ x. let y : Found MaybeExprTree = Some (s.some_expression x.0, x.1) in y) (expression_read named room 3 e r p q low (enumerator_stops r ends))
 
-enumerator_read : (x : EnumrTree) (named : Span → Bool) (room : ℕ) (r : List Lexeme) → enumerator_placed x ≡ true → enumerator_fits named x ≡ true → enumerator_height x ≤ room → ends_enumerator r ≡ true
-    → enumerator_at named room (prints_enumerator x r) ≡ Some (bare_enumerator x, r)
+enumerator_read : (x : EnumrTree) (named : Span → Bool) (room : ℕ) (r : List Lexeme) → enumerator_placed x ≡ true → enumerator_fits named x ≡ true → enumerator_nesting x ≤ room → ends_enumerator r ≡ true
+    → enumerator_at named room (prints_enumerator x r) ≡ Some (unlaid_enumerator x, r)
 unfolding enumerator_at
 enumerator_read (s.enumerator at e) named room r p q low ends =
     let b = both_true (not (named at)) (maybe_expression_fits named e) q in
@@ -56,23 +56,23 @@ enumerator_read (s.enumerator at e) named room r p q low ends =
     ∙ ap (λ (o : Found MaybeExprTree). o >>= λ e. let y : Found EnumrTree = Some (s.enumerator at e.0, e.1) in y) (value_read e named room r p b.1 low ends)
 
 value_found : (named : Span → Bool) (room : ℕ) (o : Option (List Lexeme)) (ts : List Lexeme) (x : MaybeExprTree × List Lexeme) → behind_assign ts ≡ o → optional_value named room o ts ≡ Some x
-    → Stands prints_value constant_placed (maybe_expression_fits named) maybe_expression_height room ts x
+    → Stands prints_value constant_placed (maybe_expression_fits named) maybe_expression_nesting room ts x
 value_found named room None ts x is e =
-    subst (Stands prints_value constant_placed (maybe_expression_fits named) maybe_expression_height room ts) (some_is (s.no_expression, ts) x e) (record { text = refl; placed = refl; fits = refl; low = omega arith })
+    subst (Stands prints_value constant_placed (maybe_expression_fits named) maybe_expression_nesting room ts) (some_is (s.no_expression, ts) x e) (record { text = refl; placed = refl; fits = refl; low = omega arith })
 value_found named room (Some next) ts x is e =
     let a = bind_some (stopped_at named room 3 next) _ x e in
     let p = expression_found named room 3 next a.0 (omega arith) a.1 in
-    subst (Stands prints_value constant_placed (maybe_expression_fits named) maybe_expression_height room ts) (some_is (s.some_expression a.0.0, a.0.1) x a.2)
+    subst (Stands prints_value constant_placed (maybe_expression_fits named) maybe_expression_nesting room ts) (some_is (s.some_expression a.0.0, a.0.1) x a.2)
     (record { text = assign_is ts next is ∙ ap (λ r. Token fixed.Assign ∷ r) p.text; placed = p.placed; fits = p.fits; low = p.low })
 
-enumerator_found : (named : Span → Bool) (room : ℕ) → FindsOnly prints_enumerator enumerator_placed (enumerator_fits named) enumerator_height room (enumerator_at named room)
+enumerator_found : (named : Span → Bool) (room : ℕ) → FindsOnly prints_enumerator enumerator_placed (enumerator_fits named) enumerator_nesting room (enumerator_at named room)
 unfolding enumerator_at
 enumerator_found named room ts x e =
     let a = bind_some (name_at named ts) _ x e in
     let b = bind_some (value_at named room a.0.1) _ x a.2 in
     let p = name_found named ts a.0 a.1 in
     let q = value_found named room (behind_assign a.0.1) a.0.1 b.0 refl b.1 in
-    subst (Stands prints_enumerator enumerator_placed (enumerator_fits named) enumerator_height room ts) (some_is (s.enumerator a.0.0 b.0.0, b.0.1) x b.2)
+    subst (Stands prints_enumerator enumerator_placed (enumerator_fits named) enumerator_nesting room ts) (some_is (s.enumerator a.0.0 b.0.0, b.0.1) x b.2)
     (record { text = p.0 ∙ ap (λ r. Leaf Word a.0.0 ∷ r) q.text; placed = q.placed; fits = true_both _ _ p.1 q.fits; low = q.low })
 
 -- ---- enumerators up to the `}`
@@ -110,33 +110,33 @@ enumerators_first : (one : Reader EnumrTree) (x : EnumrTree) (xs : EnumrTrees) (
 unfolding enumerators_at
 enumerators_first one x xs comma ts next rest by later = rw (by, later) refl
 
-more_enumerators_read : (xs : EnumrTrees) (named : Span → Bool) (room f : ℕ) (comma : Bool) (r : List Lexeme) → enumerators_placed xs ≡ true → enumerators_fits named xs ≡ true → enumerators_height xs ≤ room
-    → length (prints_enumerators_left (xs, comma) r) < f → more_enumerators_at (enumerator_at named room) f (prints_enumerators_left (xs, comma) r) ≡ Some ((bare_enumerators xs, comma), r)
+more_enumerators_read : (xs : EnumrTrees) (named : Span → Bool) (room f : ℕ) (comma : Bool) (r : List Lexeme) → enumerators_placed xs ≡ true → enumerators_fits named xs ≡ true → enumerators_nesting xs ≤ room
+    → length (prints_enumerators_left (xs, comma) r) < f → more_enumerators_at (enumerator_at named room) f (prints_enumerators_left (xs, comma) r) ≡ Some ((unlaid_enumerators xs, comma), r)
 more_enumerators_read xs named room zero comma r p q low much = absurd (omega arith)
 more_enumerators_read s.no_enumerators named room (suc f) comma r p q low much = enumerators_end (enumerator_at named room) f comma r
 more_enumerators_read (s.then_enumerator x xs) named room (suc f) comma r p q low much =
     let a = both_true (enumerator_placed x) (enumerators_placed xs) p in
     let b = both_true (enumerator_fits named x) (enumerators_fits named xs) q in
     let behind : List Lexeme = prints_enumerators_left (xs, comma) r in
-    enumerator_next (enumerator_at named room) f (bare_enumerator x) (bare_enumerators xs) comma (prints_enumerator x behind) behind r
+    enumerator_next (enumerator_at named room) f (unlaid_enumerator x) (unlaid_enumerators xs) comma (prints_enumerator x behind) behind r
     (enumerator_no_brace x behind)
     (enumerator_read x named room behind a.0 b.0 (omega arith) (enumerators_left_end xs comma r))
     (more_enumerators_read xs named room f comma r a.1 b.1 (omega arith) (omega (arith, enumerator_longer x behind)))
 
 -- one or more of them
-pub enumerators_read : (xs : EnumrTrees) (named : Span → Bool) (room : ℕ) (comma : Bool) (r : List Lexeme) → some_enumerators xs ≡ true → enumerators_placed xs ≡ true → enumerators_fits named xs ≡ true → enumerators_height xs ≤ room
-    → enumerators_at (enumerator_at named room) (prints_enumerators_inside (xs, comma) r) ≡ Some ((bare_enumerators xs, comma), r)
+pub enumerators_read : (xs : EnumrTrees) (named : Span → Bool) (room : ℕ) (comma : Bool) (r : List Lexeme) → some_enumerators xs ≡ true → enumerators_placed xs ≡ true → enumerators_fits named xs ≡ true → enumerators_nesting xs ≤ room
+    → enumerators_at (enumerator_at named room) (prints_enumerators_inside (xs, comma) r) ≡ Some ((unlaid_enumerators xs, comma), r)
 enumerators_read s.no_enumerators named room comma r c p q low = absurd cc
 enumerators_read (s.then_enumerator x xs) named room comma r c p q low =
     let a = both_true (enumerator_placed x) (enumerators_placed xs) p in
     let b = both_true (enumerator_fits named x) (enumerators_fits named xs) q in
     let behind : List Lexeme = prints_enumerators_left (xs, comma) r in
-    enumerators_first (enumerator_at named room) (bare_enumerator x) (bare_enumerators xs) comma (prints_enumerator x behind) behind r
+    enumerators_first (enumerator_at named room) (unlaid_enumerator x) (unlaid_enumerators xs) comma (prints_enumerator x behind) behind r
     (enumerator_read x named room behind a.0 b.0 (omega arith) (enumerators_left_end xs comma r))
     (more_enumerators_read xs named room (suc (length behind)) comma r a.1 b.1 (omega arith) (omega arith))
 
 abbrev EnumeratorsStand : (Span → Bool) → ℕ → List Lexeme → (EnumrTrees × Bool) × List Lexeme → Type 0
-EnumeratorsStand named room = Stands prints_enumerators_left (λ x. enumerators_placed x.0) (λ x. enumerators_fits named x.0) (λ x. enumerators_height x.0) room
+EnumeratorsStand named room = Stands prints_enumerators_left (λ x. enumerators_placed x.0) (λ x. enumerators_fits named x.0) (λ x. enumerators_nesting x.0) room
 
 enumerators_go_found : (named : Span → Bool) (room : ℕ) (go_on : Reader (EnumrTrees × Bool)) (o : Option (List Lexeme)) (ts : List Lexeme) (x : (EnumrTrees × Bool) × List Lexeme)
     → ((us : List Lexeme) (y : (EnumrTrees × Bool) × List Lexeme) → go_on us ≡ Some y → EnumeratorsStand named room us y)
@@ -173,14 +173,14 @@ more_enumerators_found named room (suc f) ts x e = enumerators_on_found named ro
 
 -- what is read in the braces stands there
 pub enumerators_found : (named : Span → Bool) (room : ℕ)
-    → FindsOnly prints_enumerators_inside (λ x. some_enumerators x.0 && enumerators_placed x.0) (λ x. enumerators_fits named x.0) (λ x. enumerators_height x.0) room (enumerators_at (enumerator_at named room))
+    → FindsOnly prints_enumerators_inside (λ x. some_enumerators x.0 && enumerators_placed x.0) (λ x. enumerators_fits named x.0) (λ x. enumerators_nesting x.0) room (enumerators_at (enumerator_at named room))
 unfolding enumerators_at
 enumerators_found named room ts x e =
     let a = bind_some (enumerator_at named room ts) _ x e in
     let b = bind_some (more_enumerators_at (enumerator_at named room) (suc (length a.0.1)) a.0.1) _ x a.2 in
     let p = enumerator_found named room ts a.0 a.1 in
     let q = more_enumerators_found named room (suc (length a.0.1)) a.0.1 b.0 b.1 in
-    subst (Stands prints_enumerators_inside (λ x. some_enumerators x.0 && enumerators_placed x.0) (λ x. enumerators_fits named x.0) (λ x. enumerators_height x.0) room ts)
+    subst (Stands prints_enumerators_inside (λ x. some_enumerators x.0 && enumerators_placed x.0) (λ x. enumerators_fits named x.0) (λ x. enumerators_nesting x.0) room ts)
     (some_is ((s.then_enumerator a.0.0 b.0.0.0, b.0.0.1), b.0.1) x b.2)
     (record {
       text = p.text ∙ ap (prints_enumerator a.0.0) q.text;

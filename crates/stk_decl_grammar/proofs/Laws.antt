@@ -8,7 +8,7 @@ use Rattle.stk_tree.specs.Syntax.{DeclarationTree}
 use Rattle.stk_tree.specs.Tokens.{declaration_tokens}
 use Rattle.stk_grammar.specs.Reading.{Found}
 use Rattle.stk_grammar.proofs.Operators.{some_is}
-use Rattle.stk_decl_grammar.specs.Bare.{bare_declaration}
+use Rattle.stk_tree.specs.Unlaid.{unlaid_declaration}
 use Rattle.stk_decl_grammar.specs.Declarations.{DeclarationLeads, FrontLeads, IsDeclaration, IsFront, OneDeclaration, OneFront, front_tokens, opens_body}
 use Rattle.stk_decl_grammar.specs.Reading.{declaration_at, front_at}
 use Rattle.stk_decl_grammar.proofs.Declarations.{declaration_reads, declaration_sound, front_reads, front_sound}
@@ -46,8 +46,8 @@ same_end ts to end a b e = omega (arith, ap length e, length-drop to ts, length-
 
 -- a declaration that stands in front is read
 pub declaration_leads_read : (named : Span → Bool) (file : Bool) (room : ℕ) (ts : List Lexeme) (d : DeclarationTree) (rest : List Lexeme) → DeclarationLeads named file room ts d rest
-    → declaration_at named file room ts ≡ Some (bare_declaration d, rest)
-declaration_leads_read named file room ts d rest h = ap (declaration_at named file room) h.tokens ∙ declaration_reads named file room d rest h.placed h.fits h.height
+    → declaration_at named file room ts ≡ Some (unlaid_declaration d, rest)
+declaration_leads_read named file room ts d rest h = ap (declaration_at named file room) h.tokens ∙ declaration_reads named file room d rest h.placed h.fits h.nesting
 
 no_declaration_by : (named : Span → Bool) (file : Bool) (room : ℕ) (ts : List Lexeme) → ((d : DeclarationTree) (rest : List Lexeme) → DeclarationLeads named file room ts d rest → ⊥) → (o : Found DeclarationTree)
     → declaration_at named file room ts ≡ o → declaration_at named file room ts ≡ None
@@ -62,8 +62,8 @@ no_declaration_leads named file room ts h = no_declaration_by named file room ts
 pub no_declaration_read : (named : Span → Bool) (file : Bool) (room : ℕ) (ts : List Lexeme) → declaration_at named file room ts ≡ None → (d : DeclarationTree) (rest : List Lexeme) → DeclarationLeads named file room ts d rest → ⊥
 no_declaration_read named file room ts e d rest h = let k = declaration_leads_read named file room ts d rest h in cc (sym e ∙ k)
 
-pub front_leads_read : (named : Span → Bool) (room : ℕ) (ts : List Lexeme) (d : DeclarationTree) (rest : List Lexeme) → FrontLeads named room ts d rest → front_at named room ts ≡ Some (bare_declaration d, rest)
-front_leads_read named room ts d rest h = ap (front_at named room) h.tokens ∙ front_reads named room d rest h.placed h.fits h.height h.body
+pub front_leads_read : (named : Span → Bool) (room : ℕ) (ts : List Lexeme) (d : DeclarationTree) (rest : List Lexeme) → FrontLeads named room ts d rest → front_at named room ts ≡ Some (unlaid_declaration d, rest)
+front_leads_read named room ts d rest h = ap (front_at named room) h.tokens ∙ front_reads named room d rest h.placed h.fits h.nesting h.body
 
 no_front_by : (named : Span → Bool) (room : ℕ) (ts : List Lexeme) → ((d : DeclarationTree) (rest : List Lexeme) → FrontLeads named room ts d rest → ⊥) → (o : Found DeclarationTree)
     → front_at named room ts ≡ o → front_at named room ts ≡ None
@@ -79,45 +79,45 @@ no_front_read named room ts e d rest h = let k = front_leads_read named room ts 
 -- ---- two in front of the same tokens are one
 
 pub one_declaration_leads : (named : Span → Bool) (file : Bool) (room more : ℕ) (ts : List Lexeme) (x y : DeclarationTree) (rest left : List Lexeme) → DeclarationLeads named file room ts x rest → DeclarationLeads named file more ts y left
-    → (bare_declaration x ≡ bare_declaration y) × (rest ≡ left)
+    → (unlaid_declaration x ≡ unlaid_declaration y) × (rest ≡ left)
 one_declaration_leads named file room more ts x y rest left h k =
     let wide : ℕ = max room more in
-    let a = declaration_leads_read named file wide ts x rest (record { tokens = h.tokens; placed = h.placed; fits = h.fits; height = omega (arith, h.height) }) in
-    let b = declaration_leads_read named file wide ts y left (record { tokens = k.tokens; placed = k.placed; fits = k.fits; height = omega (arith, k.height) }) in
-    let both = some_is (bare_declaration x, rest) (bare_declaration y, left) (sym a ∙ b) in
+    let a = declaration_leads_read named file wide ts x rest (record { tokens = h.tokens; placed = h.placed; fits = h.fits; nesting = omega (arith, h.nesting) }) in
+    let b = declaration_leads_read named file wide ts y left (record { tokens = k.tokens; placed = k.placed; fits = k.fits; nesting = omega (arith, k.nesting) }) in
+    let both = some_is (unlaid_declaration x, rest) (unlaid_declaration y, left) (sym a ∙ b) in
     (ap (λ p. p.0) both, ap (λ p. p.1) both)
 
 pub one_front_leads : (named : Span → Bool) (room more : ℕ) (ts : List Lexeme) (x y : DeclarationTree) (rest left : List Lexeme) → FrontLeads named room ts x rest → FrontLeads named more ts y left
-    → (bare_declaration x ≡ bare_declaration y) × (rest ≡ left)
+    → (unlaid_declaration x ≡ unlaid_declaration y) × (rest ≡ left)
 one_front_leads named room more ts x y rest left h k =
     let wide : ℕ = max room more in
-    let a = front_leads_read named wide ts x rest (record { tokens = h.tokens; placed = h.placed; fits = h.fits; height = omega (arith, h.height); body = h.body }) in
-    let b = front_leads_read named wide ts y left (record { tokens = k.tokens; placed = k.placed; fits = k.fits; height = omega (arith, k.height); body = k.body }) in
-    let both = some_is (bare_declaration x, rest) (bare_declaration y, left) (sym a ∙ b) in
+    let a = front_leads_read named wide ts x rest (record { tokens = h.tokens; placed = h.placed; fits = h.fits; nesting = omega (arith, h.nesting); body = h.body }) in
+    let b = front_leads_read named wide ts y left (record { tokens = k.tokens; placed = k.placed; fits = k.fits; nesting = omega (arith, k.nesting); body = k.body }) in
+    let both = some_is (unlaid_declaration x, rest) (unlaid_declaration y, left) (sym a ∙ b) in
     (ap (λ p. p.0) both, ap (λ p. p.1) both)
 
 -- ---- a declaration at a place, and what the reader finds there
 
 pub declaration_leads : (named : Span → Bool) (file : Bool) (ts : List Lexeme) (from to : ℕ) (d : DeclarationTree) → IsDeclaration named file ts from to d → DeclarationLeads named file 400 (drop from ts) d (drop to ts)
-declaration_leads named file ts from to d h = record { tokens = leads_of_slice ts (declaration_tokens d) from to h.within.0 h.tokens; placed = h.placed; fits = h.fits; height = h.height }
+declaration_leads named file ts from to d h = record { tokens = leads_of_slice ts (declaration_tokens d) from to h.within.0 h.tokens; placed = h.placed; fits = h.fits; nesting = h.nesting }
 
 pub found_of_declaration : (named : Span → Bool) (file : Bool) (ts : List Lexeme) (from to : ℕ) (d : DeclarationTree) → IsDeclaration named file ts from to d
-    → declaration_at named file 400 (drop from ts) ≡ Some (bare_declaration d, drop to ts)
+    → declaration_at named file 400 (drop from ts) ≡ Some (unlaid_declaration d, drop to ts)
 found_of_declaration named file ts from to d h = declaration_leads_read named file 400 (drop from ts) d (drop to ts) (declaration_leads named file ts from to d h)
 
 pub declaration_of_leads : (named : Span → Bool) (file : Bool) (ts : List Lexeme) (from : ℕ) (d : DeclarationTree) (rest : List Lexeme) → from ≤ length ts → DeclarationLeads named file 400 (drop from ts) d rest
     → IsDeclaration named file ts from (length ts - length rest) d
 declaration_of_leads named file ts from d rest inside h =
     let p = slice_of_leads ts (declaration_tokens d) rest from inside h.tokens in
-    record { within = p.within; tokens = p.tokens_are; placed = h.placed; fits = h.fits; height = h.height }
+    record { within = p.within; tokens = p.tokens_are; placed = h.placed; fits = h.fits; nesting = h.nesting }
 
 pub declaration_of_found : (named : Span → Bool) (file : Bool) (ts : List Lexeme) (from : ℕ) (d : DeclarationTree) (rest : List Lexeme) → from ≤ length ts → declaration_at named file 400 (drop from ts) ≡ Some (d, rest)
     → IsDeclaration named file ts from (length ts - length rest) d
 declaration_of_found named file ts from d rest inside e = declaration_of_leads named file ts from d rest inside (declaration_sound named file 400 (drop from ts) d rest e).0
 
 -- what the reader finds has no record of its nodes
-pub declaration_found_bare : (named : Span → Bool) (file : Bool) (room : ℕ) (ts : List Lexeme) (d : DeclarationTree) (rest : List Lexeme) → declaration_at named file room ts ≡ Some (d, rest) → bare_declaration d ≡ d
-declaration_found_bare named file room ts d rest e = (declaration_sound named file room ts d rest e).1
+pub declaration_found_unlaid : (named : Span → Bool) (file : Bool) (room : ℕ) (ts : List Lexeme) (d : DeclarationTree) (rest : List Lexeme) → declaration_at named file room ts ≡ Some (d, rest) → unlaid_declaration d ≡ d
+declaration_found_unlaid named file room ts d rest e = (declaration_sound named file room ts d rest e).1
 
 -- none stands where the reader finds none
 pub no_declaration_of_none : (named : Span → Bool) (file : Bool) (ts : List Lexeme) (from : ℕ) → declaration_at named file 400 (drop from ts) ≡ None → (d : DeclarationTree) (to : ℕ) → IsDeclaration named file ts from to d → ⊥
@@ -131,21 +131,21 @@ one_declaration named file ts from to end x y h k =
 -- ---- a front of a function at a place
 
 pub front_leads : (named : Span → Bool) (ts : List Lexeme) (from to : ℕ) (d : DeclarationTree) → IsFront named ts from to d → FrontLeads named 400 (drop from ts) d (drop to ts)
-front_leads named ts from to d h = record { tokens = leads_of_slice ts (front_tokens d) from to h.within.0 h.tokens; placed = h.placed; fits = h.fits; height = h.height; body = h.body }
+front_leads named ts from to d h = record { tokens = leads_of_slice ts (front_tokens d) from to h.within.0 h.tokens; placed = h.placed; fits = h.fits; nesting = h.nesting; body = h.body }
 
-pub found_of_front : (named : Span → Bool) (ts : List Lexeme) (from to : ℕ) (d : DeclarationTree) → IsFront named ts from to d → front_at named 400 (drop from ts) ≡ Some (bare_declaration d, drop to ts)
+pub found_of_front : (named : Span → Bool) (ts : List Lexeme) (from to : ℕ) (d : DeclarationTree) → IsFront named ts from to d → front_at named 400 (drop from ts) ≡ Some (unlaid_declaration d, drop to ts)
 found_of_front named ts from to d h = front_leads_read named 400 (drop from ts) d (drop to ts) (front_leads named ts from to d h)
 
 pub front_of_leads : (named : Span → Bool) (ts : List Lexeme) (from : ℕ) (d : DeclarationTree) (rest : List Lexeme) → from ≤ length ts → FrontLeads named 400 (drop from ts) d rest → IsFront named ts from (length ts - length rest) d
 front_of_leads named ts from d rest inside h =
     let p = slice_of_leads ts (front_tokens d) rest from inside h.tokens in
-    record { within = p.within; tokens = p.tokens_are; placed = h.placed; fits = h.fits; height = h.height; body = ap opens_body (sym p.behind) ∙ h.body }
+    record { within = p.within; tokens = p.tokens_are; placed = h.placed; fits = h.fits; nesting = h.nesting; body = ap opens_body (sym p.behind) ∙ h.body }
 
 pub front_of_found : (named : Span → Bool) (ts : List Lexeme) (from : ℕ) (d : DeclarationTree) (rest : List Lexeme) → from ≤ length ts → front_at named 400 (drop from ts) ≡ Some (d, rest) → IsFront named ts from (length ts - length rest) d
 front_of_found named ts from d rest inside e = front_of_leads named ts from d rest inside (front_sound named 400 (drop from ts) d rest e).0
 
-pub front_found_bare : (named : Span → Bool) (room : ℕ) (ts : List Lexeme) (d : DeclarationTree) (rest : List Lexeme) → front_at named room ts ≡ Some (d, rest) → bare_declaration d ≡ d
-front_found_bare named room ts d rest e = (front_sound named room ts d rest e).1
+pub front_found_unlaid : (named : Span → Bool) (room : ℕ) (ts : List Lexeme) (d : DeclarationTree) (rest : List Lexeme) → front_at named room ts ≡ Some (d, rest) → unlaid_declaration d ≡ d
+front_found_unlaid named room ts d rest e = (front_sound named room ts d rest e).1
 
 pub no_front_of_none : (named : Span → Bool) (ts : List Lexeme) (from : ℕ) → front_at named 400 (drop from ts) ≡ None → (d : DeclarationTree) (to : ℕ) → IsFront named ts from to d → ⊥
 no_front_of_none named ts from e d to h = let k = found_of_front named ts from to d h in cc (sym e ∙ k)

@@ -3,7 +3,7 @@ pub mod Bases
 pub mod Declarations
 pub mod Declarators
 pub mod Enumerators
-pub mod Heights
+pub mod Nestings
 pub mod Initialisers
 pub mod Laws
 pub mod Lists

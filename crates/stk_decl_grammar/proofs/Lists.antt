@@ -6,11 +6,11 @@ use Rattle.stk_tree.specs.declared.fixed.Lexeme.{Lexeme}
 use Rattle.stk_tree.specs.declared.fixed.Lexeme.TheVariants.{Fixed as Token}
 use Rattle.stk_tree.specs.Syntax.{DeclrTree, DeclrTrees}
 use Rattle.stk_tree.specs.Syntax as s
-use Rattle.stk_tree.specs.Height.{declarator_height, declarators_height}
+use Rattle.stk_tree.specs.Nesting.{declarator_nesting, declarators_nesting}
 use Rattle.stk_tree.specs.Placed.{declarator_placed, declarators_placed, file_declarators, has_arrays, has_initialiser, has_name, local_declarators, member_declarator, member_declarators, parameter_declarator, some_declarators}
 use Rattle.stk_tree.specs.Tokens.{declarator_tokens}
-use Rattle.stk_grammar.specs.Bare.{bare_declarator, bare_declarators}
-use Rattle.stk_grammar.specs.Fits.{declarator_fits, declarators_fits}
+use Rattle.stk_tree.specs.Unlaid.{unlaid_declarator, unlaid_declarators}
+use Rattle.stk_tree.specs.Fits.{declarator_fits, declarators_fits}
 use Rattle.stk_grammar.specs.Reading.{behind_comma, behind_left_brace, behind_semicolon, words_at}
 use Rattle.stk_grammar.proofs.Operators.{bind_some, both_true, some_is, true_both}
 use Rattle.stk_grammar.proofs.Sound.{comma_is}
@@ -60,36 +60,36 @@ declarators_first one x xs ts next rest by later = rw (by, later) refl
 
 -- a reader that reads each declarator that passes a test
 abbrev pub ReadsDeclarators : (Span → Bool) → (DeclrTree → Bool) → ℕ → Reader DeclrTree → Type 0
-ReadsDeclarators named test room one = (d : DeclrTree) (r : List Lexeme) → test d ≡ true → declarator_fits named d ≡ true → declarator_height d ≤ room → ends_declarator r ≡ true → one (prints_declarator d r) ≡ Some (bare_declarator d, r)
+ReadsDeclarators named test room one = (d : DeclrTree) (r : List Lexeme) → test d ≡ true → declarator_fits named d ≡ true → declarator_nesting d ≤ room → ends_declarator r ≡ true → one (prints_declarator d r) ≡ Some (unlaid_declarator d, r)
 
 more_declarators_read : (xs : DeclrTrees) (named : Span → Bool) (test : DeclrTree → Bool) (room : ℕ) (one : Reader DeclrTree) (f : ℕ) (r : List Lexeme) → ReadsDeclarators named test room one
-    → all_declarators test xs ≡ true → declarators_fits named xs ≡ true → declarators_height xs ≤ room → length (prints_declarators_left xs r) < f
-    → more_declarators_at one f (prints_declarators_left xs r) ≡ Some (bare_declarators xs, r)
+    → all_declarators test xs ≡ true → declarators_fits named xs ≡ true → declarators_nesting xs ≤ room → length (prints_declarators_left xs r) < f
+    → more_declarators_at one f (prints_declarators_left xs r) ≡ Some (unlaid_declarators xs, r)
 more_declarators_read xs named test room one zero r reads p q low much = absurd (omega arith)
 more_declarators_read s.no_declarators named test room one (suc f) r reads p q low much = declarators_end one f r
 more_declarators_read (s.then_declarator x xs) named test room one (suc f) r reads p q low much =
     let a = both_true _ _ p in
     let b = both_true _ _ q in
     let behind : List Lexeme = prints_declarators_left xs r in
-    declarator_next one f (bare_declarator x) (bare_declarators xs) (prints_declarator x behind) behind r
+    declarator_next one f (unlaid_declarator x) (unlaid_declarators xs) (prints_declarator x behind) behind r
     (reads x behind a.0 b.0 (omega arith) (declarators_left_end xs r))
     (more_declarators_read xs named test room one f r reads a.1 b.1 (omega arith) (omega (arith, declarator_longer x behind)))
 
 -- what a list prints is read as that list
 pub declarators_read : (xs : DeclrTrees) (named : Span → Bool) (test : DeclrTree → Bool) (room : ℕ) (one : Reader DeclrTree) (r : List Lexeme) → ReadsDeclarators named test room one
-    → listed_declarators test xs ≡ true → declarators_fits named xs ≡ true → declarators_height xs ≤ room → declarators_at one (prints_declarator_list xs r) ≡ Some (bare_declarators xs, r)
+    → listed_declarators test xs ≡ true → declarators_fits named xs ≡ true → declarators_nesting xs ≤ room → declarators_at one (prints_declarator_list xs r) ≡ Some (unlaid_declarators xs, r)
 declarators_read s.no_declarators named test room one r reads p q low = absurd cc
 declarators_read (s.then_declarator x xs) named test room one r reads p q low =
     let a = both_true _ _ p in
     let b = both_true _ _ q in
     let behind : List Lexeme = prints_declarators_left xs r in
-    declarators_first one (bare_declarator x) (bare_declarators xs) (prints_declarator x behind) behind r
+    declarators_first one (unlaid_declarator x) (unlaid_declarators xs) (prints_declarator x behind) behind r
     (reads x behind a.0 b.0 (omega arith) (declarators_left_end xs r))
     (more_declarators_read xs named test room one (suc (length behind)) r reads a.1 b.1 (omega arith) (omega arith))
 
-module _ (named : Span → Bool) (test : DeclrTree → Bool) (room : ℕ) (one : Reader DeclrTree) (finds : FindsOnly prints_declarator test (declarator_fits named) declarator_height room one) where
+module _ (named : Span → Bool) (test : DeclrTree → Bool) (room : ℕ) (one : Reader DeclrTree) (finds : FindsOnly prints_declarator test (declarator_fits named) declarator_nesting room one) where
   abbrev DeclaratorsStand : List Lexeme → DeclrTrees × List Lexeme → Type 0
-  DeclaratorsStand = Stands prints_declarators_left (all_declarators test) (declarators_fits named) declarators_height room
+  DeclaratorsStand = Stands prints_declarators_left (all_declarators test) (declarators_fits named) declarators_nesting room
 
   declarators_on_found : (go_on : Reader DeclrTrees) (o : Option (List Lexeme)) (ts : List Lexeme) (x : DeclrTrees × List Lexeme)
       → ((us : List Lexeme) (y : DeclrTrees × List Lexeme) → go_on us ≡ Some y → DeclaratorsStand us y)
@@ -116,14 +116,14 @@ module _ (named : Span → Bool) (test : DeclrTree → Bool) (room : ℕ) (one :
   more_declarators_found (suc f) ts x e = declarators_on_found (more_declarators_at one f) (behind_comma ts) ts x (λ us y d. more_declarators_found f us y d) refl e
 
   -- what is read is such a list
-  pub declarators_found : FindsOnly prints_declarator_list (listed_declarators test) (declarators_fits named) declarators_height room (declarators_at one)
+  pub declarators_found : FindsOnly prints_declarator_list (listed_declarators test) (declarators_fits named) declarators_nesting room (declarators_at one)
   unfolding declarators_at
   declarators_found ts x e =
       let a = bind_some (one ts) _ x e in
       let b = bind_some (more_declarators_at one (suc (length a.0.1)) a.0.1) _ x a.2 in
       let p = finds ts a.0 a.1 in
       let q = more_declarators_found (suc (length a.0.1)) a.0.1 b.0 b.1 in
-      subst (Stands prints_declarator_list (listed_declarators test) (declarators_fits named) declarators_height room ts) (some_is (s.then_declarator a.0.0 b.0.0, b.0.1) x b.2)
+      subst (Stands prints_declarator_list (listed_declarators test) (declarators_fits named) declarators_nesting room ts) (some_is (s.then_declarator a.0.0 b.0.0, b.0.1) x b.2)
       (record {
         text = p.text ∙ ap (prints_declarator a.0.0) q.text;
         placed = true_both _ _ p.placed q.placed;

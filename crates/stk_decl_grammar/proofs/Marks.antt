@@ -6,11 +6,11 @@ use Rattle.stk_tree.specs.declared.fixed.Fixed.TheVariants as fixed
 use Rattle.stk_tree.specs.declared.fixed.Lexeme.{Lexeme}
 use Rattle.stk_tree.specs.declared.fixed.Lexeme.TheVariants.{Fixed as Token}
 use Rattle.stk_tree.specs.Syntax.{ExprTree}
-use Rattle.stk_tree.specs.Height.{expression_height}
+use Rattle.stk_tree.specs.Nesting.{expression_nesting}
 use Rattle.stk_tree.specs.Placed.{expression_placed, is_basic}
-use Rattle.stk_grammar.specs.Bare.{bare_expression}
+use Rattle.stk_tree.specs.Unlaid.{unlaid_expression}
 use Rattle.stk_grammar.specs.Expressions.{stops}
-use Rattle.stk_grammar.specs.Fits.{expression_fits}
+use Rattle.stk_tree.specs.Fits.{expression_fits}
 use Rattle.stk_grammar.specs.Reading.{begins_type, behind_assign, behind_dot, behind_ellipsis, behind_left_brace, behind_left_bracket, behind_left_paren, behind_right_brace, behind_right_paren, behind_semicolon, stars_at, words_at}
 use Rattle.stk_grammar.specs.Stopped.{stopped_at}
 use Rattle.stk_grammar.proofs.Complete.{Opens, opens}
@@ -146,8 +146,8 @@ opens_no_designator (t ∷ ts) h = refl
 pub expression_opens : (named : Span → Bool) (least : ℕ) (e : ExprTree) (r : List Lexeme) → expression_placed least e ≡ true → expression_fits named e ≡ true → Opens (prints e r)
 expression_opens named least e r p f = opens named e r (well_of named least e p f).1
 
-pub expression_read : (named : Span → Bool) (room least : ℕ) (e : ExprTree) (r : List Lexeme) → expression_placed least e ≡ true → expression_fits named e ≡ true → expression_height e ≤ room → stops least r ≡ true
-    → stopped_at named room least (prints e r) ≡ Some (bare_expression e, r)
+pub expression_read : (named : Span → Bool) (room least : ℕ) (e : ExprTree) (r : List Lexeme) → expression_placed least e ≡ true → expression_fits named e ≡ true → expression_nesting e ≤ room → stops least r ≡ true
+    → stopped_at named room least (prints e r) ≡ Some (unlaid_expression e, r)
 expression_read named room least e r p f low stop = ap (stopped_at named room least) (sym (tokens-append e r)) ∙ stopped_reads named room least e r p f low stop
 
 -- an expression that was read
@@ -155,9 +155,9 @@ pub record ExpressionStands (named : Span → Bool) (room least : ℕ) (ts : Lis
   pub text : ts ≡ prints x.0 x.1
   pub placed : expression_placed least x.0 ≡ true
   pub fits : expression_fits named x.0 ≡ true
-  pub low : expression_height x.0 ≤ room
+  pub low : expression_nesting x.0 ≤ room
 
 pub expression_found : (named : Span → Bool) (room least : ℕ) (ts : List Lexeme) (x : ExprTree × List Lexeme) → least ≤ 17 → stopped_at named room least ts ≡ Some x → ExpressionStands named room least ts x
 expression_found named room least ts (t, rest) wide e =
     let a = stopped_sound named room least ts t rest wide e in
-    record { text = a.0.tokens ∙ tokens-append t rest; placed = a.0.placed; fits = a.0.fits; low = a.0.height }
+    record { text = a.0.tokens ∙ tokens-append t rest; placed = a.0.placed; fits = a.0.fits; low = a.0.nesting }

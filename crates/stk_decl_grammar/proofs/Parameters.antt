@@ -9,11 +9,11 @@ use Rattle.stk_tree.specs.declared.fixed.Lexeme.{Lexeme}
 use Rattle.stk_tree.specs.declared.fixed.Lexeme.TheVariants.{Fixed as Token}
 use Rattle.stk_tree.specs.Syntax.{BaseFormTree, BaseTree, DeclrTree, DimensionTree, DimensionTrees, MaybeInitTree, ParamTree, ParamTrees, TailTree}
 use Rattle.stk_tree.specs.Syntax as s
-use Rattle.stk_tree.specs.Height.{base_form_height, declarator_height, parameter_height, parameters_height, tail_height}
-use Rattle.stk_tree.specs.Placed.{all_basic, base_form_placed, base_placed, declarator_placed, basic_words, is_bare, is_basic, is_empty_declarator, lone_void, lone_void_word, parameter_declarator, parameter_placed, parameters_placed, tail_placed}
+use Rattle.stk_tree.specs.Nesting.{base_form_nesting, declarator_nesting, parameter_nesting, parameters_nesting, tail_nesting}
+use Rattle.stk_tree.specs.Placed.{all_basic, base_form_placed, base_placed, declarator_placed, basic_words, is_unbraced, is_basic, is_empty_declarator, lone_void, lone_void_word, parameter_declarator, parameter_placed, parameters_placed, tail_placed}
 use Rattle.stk_tree.specs.Tokens.{parameter_tokens}
-use Rattle.stk_grammar.specs.Bare.{no_node, bare_base_form, bare_parameter, bare_parameters, bare_tail}
-use Rattle.stk_grammar.specs.Fits.{base_form_fits, parameter_fits, parameters_fits, tail_fits}
+use Rattle.stk_tree.specs.Unlaid.{no_node, unlaid_base_form, unlaid_parameter, unlaid_parameters, unlaid_tail}
+use Rattle.stk_tree.specs.Fits.{base_form_fits, parameter_fits, parameters_fits, tail_fits}
 use Rattle.stk_grammar.specs.Reading.{◌>>=◌, Found, base_at, begins_type, behind_comma, behind_ellipsis, behind_right_paren, words_at}
 use Rattle.stk_grammar.proofs.Complete.{base_begins_type, base_read}
 use Rattle.stk_grammar.proofs.Operators.{bind_some, both_true, some_is, true_both}
@@ -37,55 +37,55 @@ specifier_is_base named (s.enum_ref tag) r w = refl
 specifier_is_base named (s.enum_def tag es comma) r w = absurd w
 specifier_is_base named (s.named at) r w = refl
 
-well_base_height : (named : Span → Bool) (b : BaseFormTree) → IsWellBase named b → base_form_height b ≡ 0
-well_base_height named (s.words ws) w = refl
-well_base_height named (s.struct_ref tag) w = refl
-well_base_height named (s.struct_def tag ms) w = absurd w
-well_base_height named (s.enum_ref tag) w = refl
-well_base_height named (s.enum_def tag es comma) w = absurd w
-well_base_height named (s.named at) w = refl
+well_base_nesting : (named : Span → Bool) (b : BaseFormTree) → IsWellBase named b → base_form_nesting b ≡ 0
+well_base_nesting named (s.words ws) w = refl
+well_base_nesting named (s.struct_ref tag) w = refl
+well_base_nesting named (s.struct_def tag ms) w = absurd w
+well_base_nesting named (s.enum_ref tag) w = refl
+well_base_nesting named (s.enum_def tag es comma) w = absurd w
+well_base_nesting named (s.named at) w = refl
 
-pub specifier_read : (named : Span → Bool) (n : Node) (b : BaseFormTree) (r : List Lexeme) → is_bare (s.base n b) ≡ true → base_form_placed b ≡ true → base_form_fits named b ≡ true → words_at r ≡ ([], r)
-    → base_at named (prints_specifier_form b r) ≡ Some (bare_base_form b, r)
-specifier_read named n b r bare p q stays =
-    let w = base_well named n b bare p q in
+pub specifier_read : (named : Span → Bool) (n : Node) (b : BaseFormTree) (r : List Lexeme) → is_unbraced (s.base n b) ≡ true → base_form_placed b ≡ true → base_form_fits named b ≡ true → words_at r ≡ ([], r)
+    → base_at named (prints_specifier_form b r) ≡ Some (unlaid_base_form b, r)
+specifier_read named n b r unlaid p q stays =
+    let w = base_well named n b unlaid p q in
     ap (base_at named) (specifier_is_base named b r w) ∙ base_read named b r w stays
 
 -- a base that was read
 pub record BaseStands (named : Span → Bool) (ts : List Lexeme) (x : BaseFormTree × List Lexeme) : Type 0 where
   pub text : ts ≡ prints_specifier_form x.0 x.1
-  pub bare : is_bare (s.base no_node x.0) ≡ true
+  pub unlaid : is_unbraced (s.base no_node x.0) ≡ true
   pub placed : base_form_placed x.0 ≡ true
   pub fits : base_form_fits named x.0 ≡ true
-  pub low : base_form_height x.0 ≡ 0
+  pub low : base_form_nesting x.0 ≡ 0
 
 pub specifier_found : (named : Span → Bool) (ts : List Lexeme) (x : BaseFormTree × List Lexeme) → base_at named ts ≡ Some x → BaseStands named ts x
 specifier_found named ts x e =
     let a = base_is named ts x e in
     let b = base_passes named no_node x.0 a.1 in
-    record { text = a.0 ∙ sym (specifier_is_base named x.0 x.1 a.1); bare = b.0; placed = b.1; fits = b.2; low = well_base_height named x.0 a.1 }
+    record { text = a.0 ∙ sym (specifier_is_base named x.0 x.1 a.1); unlaid = b.0; placed = b.1; fits = b.2; low = well_base_nesting named x.0 a.1 }
 
-specifier_begins_type : (named : Span → Bool) (n : Node) (b : BaseFormTree) (r : List Lexeme) → is_bare (s.base n b) ≡ true → base_form_placed b ≡ true → base_form_fits named b ≡ true
+specifier_begins_type : (named : Span → Bool) (n : Node) (b : BaseFormTree) (r : List Lexeme) → is_unbraced (s.base n b) ≡ true → base_form_placed b ≡ true → base_form_fits named b ≡ true
     → begins_type named (prints_specifier_form b r) ≡ true
-specifier_begins_type named n b r bare p q =
-    let w = base_well named n b bare p q in
+specifier_begins_type named n b r unlaid p q =
+    let w = base_well named n b unlaid p q in
     ap (begins_type named) (specifier_is_base named b r w) ∙ base_begins_type named b r w
 
-pub declarator_above : (d : DeclrTree) → 0 < declarator_height d
+pub declarator_above : (d : DeclrTree) → 0 < declarator_nesting d
 declarator_above (s.declarator n count at t i) = omega arith
 
 -- ---- one parameter
 
 -- the four tests of a parameter
-parameter_tests : (n : Node) (b : BaseTree) (d : DeclrTree) → parameter_placed (s.parameter n b d) ≡ true → (is_bare b ≡ true) × (base_placed b ≡ true) × (parameter_declarator d ≡ true) × (declarator_placed d ≡ true)
+parameter_tests : (n : Node) (b : BaseTree) (d : DeclrTree) → parameter_placed (s.parameter n b d) ≡ true → (is_unbraced b ≡ true) × (base_placed b ≡ true) × (parameter_declarator d ≡ true) × (declarator_placed d ≡ true)
 parameter_tests n b d p =
     let a = both_true _ _ p in
     let c = both_true _ _ a.0 in
     let e = both_true _ _ c.0 in
     (e.0, e.1, c.1, a.1)
 
-pub parameter_read : (x : ParamTree) (named : Span → Bool) (room : ℕ) (r : List Lexeme) → parameter_placed x ≡ true → parameter_fits named x ≡ true → parameter_height x ≤ room → ends_declarator r ≡ true
-    → parameter_at named room (prints_parameter x r) ≡ Some (bare_parameter x, r)
+pub parameter_read : (x : ParamTree) (named : Span → Bool) (room : ℕ) (r : List Lexeme) → parameter_placed x ≡ true → parameter_fits named x ≡ true → parameter_nesting x ≤ room → ends_declarator r ≡ true
+    → parameter_at named room (prints_parameter x r) ≡ Some (unlaid_parameter x, r)
 unfolding parameter_at
 parameter_read (s.parameter n (s.base m b) d) named zero r p q low ends = absurd (omega arith)
 parameter_read (s.parameter n (s.base m b) d) named (suc inner) r p q low ends =
@@ -93,10 +93,10 @@ parameter_read (s.parameter n (s.base m b) d) named (suc inner) r p q low ends =
     let c = both_true _ _ q in
     ap (λ (o : Found BaseFormTree). o >>= λ b. array_declarator_at named inner true b.1 >>= λ d. let x : Found ParamTree = Some (s.parameter no_node (s.base no_node b.0) d.0, d.1) in x)
     (specifier_read named m b (prints_declarator d r) a.0 a.1 c.0 (array_declarator_no_words d r a.2 ends))
-    ∙ ap (λ (o : Found DeclrTree). o >>= λ d. let x : Found ParamTree = Some (s.parameter no_node (s.base no_node (bare_base_form b)) d.0, d.1) in x)
+    ∙ ap (λ (o : Found DeclrTree). o >>= λ d. let x : Found ParamTree = Some (s.parameter no_node (s.base no_node (unlaid_base_form b)) d.0, d.1) in x)
     (array_declarator_read d named inner true r a.2 refl a.3 c.1 (omega arith) ends)
 
-pub parameter_found : (named : Span → Bool) (room : ℕ) → FindsOnly prints_parameter parameter_placed (parameter_fits named) parameter_height room (parameter_at named room)
+pub parameter_found : (named : Span → Bool) (room : ℕ) → FindsOnly prints_parameter parameter_placed (parameter_fits named) parameter_nesting room (parameter_at named room)
 unfolding parameter_at
 parameter_found named zero ts x e = absurd cc
 parameter_found named (suc inner) ts x e =
@@ -105,10 +105,10 @@ parameter_found named (suc inner) ts x e =
     let p = specifier_found named ts a.0 a.1 in
     let q = array_declarator_found named inner true a.0.1 d.0 d.1 in
     let k = both_true _ _ q.placed in
-    subst (Stands prints_parameter parameter_placed (parameter_fits named) parameter_height (suc inner) ts) (some_is (s.parameter no_node (s.base no_node a.0.0) d.0.0, d.0.1) x d.2)
+    subst (Stands prints_parameter parameter_placed (parameter_fits named) parameter_nesting (suc inner) ts) (some_is (s.parameter no_node (s.base no_node a.0.0) d.0.0, d.0.1) x d.2)
     (record {
       text = p.text ∙ ap (prints_specifier_form a.0.0) q.text;
-      placed = true_both _ _ (true_both _ _ (true_both _ _ p.bare p.placed) (both_true _ _ k.0).0) k.1;
+      placed = true_both _ _ (true_both _ _ (true_both _ _ p.unlaid p.placed) (both_true _ _ k.0).0) k.1;
       fits = true_both _ _ p.fits q.fits;
       low = omega (arith, p.low, q.low, declarator_above d.0.0);
     })
@@ -147,29 +147,29 @@ parameters_end one f false r = refl
 parameter_longer : (x : ParamTree) (r : List Lexeme) → length r ≤ length (prints_parameter x r)
 parameter_longer x r = omega (arith, ap length (parameter-append x r), length-append (parameter_tokens x) r)
 
-more_parameters_read : (xs : ParamTrees) (named : Span → Bool) (room f : ℕ) (more : Bool) (r : List Lexeme) → parameters_placed xs ≡ true → parameters_fits named xs ≡ true → parameters_height xs ≤ room
-    → length (prints_parameters_left (xs, more) r) < f → more_parameters_at (parameter_at named room) f (prints_parameters_left (xs, more) r) ≡ Some ((bare_parameters xs, more), r)
+more_parameters_read : (xs : ParamTrees) (named : Span → Bool) (room f : ℕ) (more : Bool) (r : List Lexeme) → parameters_placed xs ≡ true → parameters_fits named xs ≡ true → parameters_nesting xs ≤ room
+    → length (prints_parameters_left (xs, more) r) < f → more_parameters_at (parameter_at named room) f (prints_parameters_left (xs, more) r) ≡ Some ((unlaid_parameters xs, more), r)
 more_parameters_read xs named room zero more r p q low much = absurd (omega arith)
 more_parameters_read s.no_parameters named room (suc f) more r p q low much = parameters_end (parameter_at named room) f more r
 more_parameters_read (s.then_parameter x xs) named room (suc f) more r p q low much =
     let a = both_true _ _ p in
     let b = both_true _ _ q in
     let behind : List Lexeme = prints_parameters_left (xs, more) r in
-    parameter_next (parameter_at named room) f (bare_parameter x) (bare_parameters xs) more (prints_parameter x behind) behind r
+    parameter_next (parameter_at named room) f (unlaid_parameter x) (unlaid_parameters xs) more (prints_parameter x behind) behind r
     (no_more_ends named x behind a.0 b.0)
     (parameter_read x named room behind a.0 b.0 (omega arith) (parameters_left_end xs more r))
     (more_parameters_read xs named room f more r a.1 b.1 (omega arith) (omega (arith, parameter_longer x behind)))
 
 -- what was found of a list's rest
 abbrev ParametersStand : (Span → Bool) → ℕ → List Lexeme → (ParamTrees × Bool) × List Lexeme → Type 0
-ParametersStand named room = Stands prints_parameters_left (λ x. parameters_placed x.0) (λ x. parameters_fits named x.0) (λ x. parameters_height x.0) room
+ParametersStand named room = Stands prints_parameters_left (λ x. parameters_placed x.0) (λ x. parameters_fits named x.0) (λ x. parameters_nesting x.0) room
 
 more_ends_is : (ts rest : List Lexeme) → more_ends ts ≡ Some rest → ts ≡ Token fixed.Ellipsis ∷ Token fixed.RightParen ∷ rest
 more_ends_is ts rest e =
     let a = bind_some (behind_ellipsis ts) _ rest e in
     ellipsis_is ts a.0 a.1 ∙ ap (λ x. Token fixed.Ellipsis ∷ x) (right_paren_is a.0 rest a.2)
 
-module _ (named : Span → Bool) (room : ℕ) (one : Reader ParamTree) (finds : FindsOnly prints_parameter parameter_placed (parameter_fits named) parameter_height room one) where
+module _ (named : Span → Bool) (room : ℕ) (one : Reader ParamTree) (finds : FindsOnly prints_parameter parameter_placed (parameter_fits named) parameter_nesting room one) where
   go_found : (go_on : Reader (ParamTrees × Bool)) (o : Option (List Lexeme)) (ts : List Lexeme) (x : (ParamTrees × Bool) × List Lexeme)
       → ((us : List Lexeme) (y : (ParamTrees × Bool) × List Lexeme) → go_on us ≡ Some y → ParametersStand named room us y)
       → more_ends ts ≡ o → parameters_go go_on one o ts ≡ Some x → ParametersStand named room (Token fixed.Comma ∷ ts) x
@@ -213,7 +213,7 @@ parameter_tail other = true
 abbrev pub parameter_tail_placed : TailTree → Bool
 parameter_tail_placed t = parameter_tail t && tail_placed t
 
--- behind a bare `void` stands the `)` only where it is the one parameter
+-- behind a lone `void` stands the `)` only where it is the one parameter
 empty_no_paren : (n m k : Node) (xs : ParamTrees) (more : Bool) (r : List Lexeme)
     → lone_void (s.then_parameter (s.parameter n (s.base m (s.words (fixed.Void ∷ []))) (s.declarator k 0 None (s.arrays s.no_dimensions) s.no_initialiser)) xs) more ≡ false
     → behind_right_paren (prints_parameters_left (xs, more) r) ≡ None
@@ -271,8 +271,8 @@ tail_is_inside s.void_parameters r h = refl
 tail_is_inside (s.with_parameters ps more) r h = refl
 
 parameters_read : (x : ParamTree) (xs : ParamTrees) (more : Bool) (named : Span → Bool) (room : ℕ) (r : List Lexeme) → parameters_placed (s.then_parameter x xs) ≡ true → parameters_fits named (s.then_parameter x xs) ≡ true
-    → parameters_height (s.then_parameter x xs) ≤ room → lone_void (s.then_parameter x xs) more ≡ false
-    → parameter_tail_at (parameter_at named room) (prints_parameter x (prints_parameters_left (xs, more) r)) ≡ Some (s.with_parameters (s.then_parameter (bare_parameter x) (bare_parameters xs)) more, r)
+    → parameters_nesting (s.then_parameter x xs) ≤ room → lone_void (s.then_parameter x xs) more ≡ false
+    → parameter_tail_at (parameter_at named room) (prints_parameter x (prints_parameters_left (xs, more) r)) ≡ Some (s.with_parameters (s.then_parameter (unlaid_parameter x) (unlaid_parameters xs)) more, r)
 parameters_read x xs more named room r p q low lone =
     let a = both_true _ _ p in
     let b = both_true _ _ q in
@@ -280,13 +280,13 @@ parameters_read x xs more named room r p q low lone =
     tail_by_parameters (parameter_at named room) (prints_parameter x behind) _
     (type_no_paren named _ (parameter_begins_type named x behind a.0 b.0))
     (no_void x xs more r a.0 lone)
-    (parameters_some (parameter_at named room) (bare_parameter x) (bare_parameters xs) more (prints_parameter x behind) behind r
+    (parameters_some (parameter_at named room) (unlaid_parameter x) (unlaid_parameters xs) more (prints_parameter x behind) behind r
     (parameter_read x named room behind a.0 b.0 (omega arith) (parameters_left_end xs more r))
     (more_parameters_read xs named room (suc (length behind)) more r a.1 b.1 (omega arith) (omega arith)))
 
 -- what stands in the parentheses is read as that
-pub parameter_tail_read : (t : TailTree) (named : Span → Bool) (room : ℕ) (r : List Lexeme) → parameter_tail t ≡ true → tail_placed t ≡ true → tail_fits named t ≡ true → tail_height t ≤ room
-    → parameter_tail_at (parameter_at named room) (prints_inside t r) ≡ Some (bare_tail t, r)
+pub parameter_tail_read : (t : TailTree) (named : Span → Bool) (room : ℕ) (r : List Lexeme) → parameter_tail t ≡ true → tail_placed t ≡ true → tail_fits named t ≡ true → tail_nesting t ≤ room
+    → parameter_tail_at (parameter_at named room) (prints_inside t r) ≡ Some (unlaid_tail t, r)
 unfolding parameter_tail_at
 parameter_tail_read (s.arrays ds) named room r h p q low = absurd cc
 parameter_tail_read s.unspecified named room r h p q low = refl
@@ -335,9 +335,9 @@ void_is [] rest e = absurd cc
 void_is (Token fixed.Void ∷ ts) rest e = ap (λ x. Token fixed.Void ∷ x) (right_paren_is ts rest e)
 void_is (t ∷ ts) rest e = absurd cc
 
-module _ (named : Span → Bool) (room : ℕ) (one : Reader ParamTree) (finds : FindsOnly prints_parameter parameter_placed (parameter_fits named) parameter_height room one) where
+module _ (named : Span → Bool) (room : ℕ) (one : Reader ParamTree) (finds : FindsOnly prints_parameter parameter_placed (parameter_fits named) parameter_nesting room one) where
   abbrev TailStands : List Lexeme → TailTree × List Lexeme → Type 0
-  TailStands ts = Stands prints_tail parameter_tail_placed (tail_fits named) tail_height room (Token fixed.LeftParen ∷ ts)
+  TailStands ts = Stands prints_tail parameter_tail_placed (tail_fits named) tail_nesting room (Token fixed.LeftParen ∷ ts)
 
   parameters_found : (ts : List Lexeme) (x : TailTree × List Lexeme) → behind_void ts ≡ None → parameters_at one ts ≡ Some x → TailStands ts x
   unfolding parameters_at
@@ -368,5 +368,5 @@ module _ (named : Span → Bool) (room : ℕ) (one : Reader ParamTree) (finds : 
 
 -- what is read in the parentheses stands there
 pub parameter_tail_found : (named : Span → Bool) (room : ℕ) (ts : List Lexeme) (x : TailTree × List Lexeme) → parameter_tail_at (parameter_at named room) ts ≡ Some x
-    → Stands prints_tail parameter_tail_placed (tail_fits named) tail_height room (Token fixed.LeftParen ∷ ts) x
+    → Stands prints_tail parameter_tail_placed (tail_fits named) tail_nesting room (Token fixed.LeftParen ∷ ts) x
 parameter_tail_found named room ts x e = tail_found named room (parameter_at named room) (parameter_found named room) ts x e

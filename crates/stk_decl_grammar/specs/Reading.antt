@@ -1,19 +1,20 @@
 -- Reading declarations from left to right: what the readers compute, over lexemes (C11 6.7). Only contracts of private functions speak of it.
--- `named` says whether the word at a span is a typedef name, and `room` is the height that a tree may have. A number of turns bounds each row; it is more than the tokens that are left.
+-- `named` says whether the word at a span is a typedef name, and `room` is the nesting that a tree may have. A number of turns bounds each row; it is more than the tokens that are left.
 use Rattle.std.specs.Prelude.{ℕ, zero, suc, Bool, true, false, cond, nat_le, List, [], ◌∷◌, length, Option, Some, None}
 use Rattle.stk_base.specs.declared.span.Span.{Span}
 use Rattle.stk_base.specs.declared.token.Class.TheVariants.{Word}
+use Rattle.stk_tree.specs.Levels.{assignment_level, conditional_level}
 use Rattle.stk_tree.specs.declared.fixed.Fixed.{Fixed}
 use Rattle.stk_tree.specs.declared.fixed.Fixed.TheVariants as fixed
 use Rattle.stk_tree.specs.declared.fixed.Lexeme.{Lexeme}
 use Rattle.stk_tree.specs.declared.fixed.Lexeme.TheVariants.{Leaf, Fixed as Token}
 use Rattle.stk_tree.specs.declared.declaration.Storage.{Storage}
 use Rattle.stk_tree.specs.declared.declaration.Storage.TheVariants.{Typedef, Extern, Static}
-use Rattle.stk_tree.specs.Height.{declarator_height, designators_height}
+use Rattle.stk_tree.specs.Nesting.{declarator_nesting, designators_nesting}
 use Rattle.stk_tree.specs.Placed.{is_basic, local_storage}
 use Rattle.stk_tree.specs.Syntax.{BaseFormTree, BaseTree, DeclarationTree, DeclrTree, DeclrTrees, DesigTree, DesigTrees, EnumrTree, EnumrTrees, InitTree, ItemTree, ItemTrees, MaybeExprTree, MaybeInitTree, MemberTree, MemberTrees, ParamTree, ParamTrees, TailTree}
 use Rattle.stk_tree.specs.Syntax as s
-use Rattle.stk_grammar.specs.Bare.{no_node}
+use Rattle.stk_tree.specs.Unlaid.{no_node}
 use Rattle.stk_grammar.specs.Reading.{◌>>=◌, Found, base_at, behind_assign, behind_comma, behind_dot, behind_ellipsis, behind_left_brace, behind_left_bracket, behind_left_paren, behind_right_brace, behind_right_bracket, behind_right_paren, behind_semicolon, dimensions_at, stars_at, word_at, words_at, words_base}
 use Rattle.stk_grammar.specs.Stopped.{stopped_at}
 
@@ -52,7 +53,7 @@ declared_name_at named false ts = name_at named ts >>= λ w. Some (Some w.0, w.1
 
 -- a declarator, where it isn't too high
 abbrev pub low_declarator : ℕ → DeclrTree → List Lexeme → Found DeclrTree
-low_declarator room d rest = cond (nat_le (declarator_height d) room) (Some (d, rest)) None
+low_declarator room d rest = cond (nat_le (declarator_nesting d) room) (Some (d, rest)) None
 
 abbrev pub arrays_behind : (Span → Bool) → ℕ → ℕ → Option Span → List Lexeme → Found DeclrTree
 arrays_behind named room count at ts = dimensions_at (stopped_at named room) (suc (length ts)) ts
@@ -113,7 +114,7 @@ parameter_tail_at one ts = parameters_from one (behind_right_paren ts) (behind_v
 -- a designator: `.member` or `[e]`
 abbrev pub designator_on : (Span → Bool) → ℕ → Option (List Lexeme) → Option (List Lexeme) → Found DesigTree
 designator_on named room (Some inside) bracket = word_at inside >>= λ w. Some (s.dot_designator w.0, w.1)
-designator_on named room None (Some inside) = stopped_at named room 3 inside >>= λ e. behind_right_bracket e.1 >>= λ rest. Some (s.at_designator e.0, rest)
+designator_on named room None (Some inside) = stopped_at named room conditional_level inside >>= λ e. behind_right_bracket e.1 >>= λ rest. Some (s.at_designator e.0, rest)
 designator_on named room None None = None
 
 -- whether a designator begins here
@@ -141,7 +142,7 @@ behind_path (s.then_designator d ds) ts = behind_assign ts
 
 -- a path that isn't too high
 abbrev pub low_path : ℕ → DesigTrees → List Lexeme → Found DesigTrees
-low_path room ds ts = cond (nat_le (designators_height ds) room) (behind_path ds ts >>= λ rest. Some (ds, rest)) None
+low_path room ds ts = cond (nat_le (designators_nesting ds) room) (behind_path ds ts >>= λ rest. Some (ds, rest)) None
 
 -- the designators of an item, with their `=`
 unfoldable pub path_at : (Span → Bool) → ℕ → Reader DesigTrees
@@ -175,9 +176,9 @@ items_at one ts = items_from one (behind_right_brace ts) ts
 
 abbrev pub initialiser_on : Reader (ItemTrees × Bool) → (Span → Bool) → ℕ → Option (List Lexeme) → List Lexeme → Found InitTree
 initialiser_on items named room (Some inside) ts = items inside >>= λ x. Some (s.braces x.0.0 x.0.1, x.1)
-initialiser_on items named room None ts = stopped_at named room 2 ts >>= λ e. Some (s.plain e.0, e.1)
+initialiser_on items named room None ts = stopped_at named room assignment_level ts >>= λ e. Some (s.plain e.0, e.1)
 
--- an initialiser, of at most this height
+-- an initialiser, of at most this nesting
 unfoldable pub initialiser_at : (Span → Bool) → ℕ → Reader InitTree
 initialiser_at named zero ts = None
 initialiser_at named (suc inner) ts = initialiser_on (items_at (item_at (path_at named inner) (initialiser_at named inner))) named (suc inner) (behind_left_brace ts) ts
@@ -250,7 +251,7 @@ members_at one ts = one ts >>= λ x. more_members_at one (suc (length x.1)) x.1 
 
 abbrev pub optional_value : (Span → Bool) → ℕ → Option (List Lexeme) → List Lexeme → Found MaybeExprTree
 optional_value named room None ts = Some (s.no_expression, ts)
-optional_value named room (Some next) ts = stopped_at named room 3 next >>= λ e. Some (s.some_expression e.0, e.1)
+optional_value named room (Some next) ts = stopped_at named room conditional_level next >>= λ e. Some (s.some_expression e.0, e.1)
 
 -- the value that may be given to an enumerator
 abbrev pub value_at : (Span → Bool) → ℕ → Reader MaybeExprTree
@@ -307,7 +308,7 @@ full_base_from named members enumerators (Leaf Word at ∷ ts) = cond (named at)
 full_base_from named members enumerators (Leaf class at ∷ ts) = None
 full_base_from named members enumerators (Token f ∷ ts) = full_base_on members enumerators f ts
 
--- a base that may have braces, of at most this height
+-- a base that may have braces, of at most this nesting
 unfoldable pub full_base_at : (Span → Bool) → ℕ → Reader BaseFormTree
 full_base_at named zero ts = None
 full_base_at named (suc inner) ts = full_base_from named (members_at (member_at named inner (full_base_at named inner))) (enumerators_at (enumerator_at named inner)) ts
@@ -338,7 +339,7 @@ local_behind named room w = base_at named w.1 >>= λ b. declarators_at (declarat
 abbrev pub local_on : (Span → Bool) → ℕ → Option Storage × List Lexeme → Found DeclarationTree
 local_on named room w = cond (local_storage w.0) (local_behind named room w) None
 
--- a declaration with its `;`, of at most this height: at file scope, or in a block
+-- a declaration with its `;`, of at most this nesting: at file scope, or in a block
 unfoldable pub declaration_at : (Span → Bool) → Bool → ℕ → Reader DeclarationTree
 declaration_at named true room ts = file_behind named room (storage_at ts)
 declaration_at named false zero ts = None
@@ -368,6 +369,6 @@ front_behind named room w = base_at named w.1 >>= λ b. function_declarator_at n
 abbrev pub if_body : DeclarationTree × List Lexeme → Found DeclarationTree
 if_body x = behind_left_brace x.1 >>= λ inside. Some x
 
--- what stands before the body, as a declaration with this one declarator, of at most this height
+-- what stands before the body, as a declaration with this one declarator, of at most this nesting
 unfoldable pub front_at : (Span → Bool) → ℕ → Reader DeclarationTree
 front_at named room ts = front_behind named room (storage_at ts) >>= if_body

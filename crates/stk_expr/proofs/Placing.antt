@@ -5,19 +5,19 @@ use Rattle.stk_base.specs.declared.span.Span.{Span}
 use Rattle.stk_tree.specs.declared.node.Node.{Node}
 use Rattle.stk_tree.specs.declared.fixed.Lexeme.{Lexeme}
 use Rattle.stk_tree.specs.Syntax.{ExprTree}
-use Rattle.stk_tree.specs.Height.{expression_height}
+use Rattle.stk_tree.specs.Nesting.{expression_nesting}
 use Rattle.stk_tree.specs.Layout.{laid_expression}
 use Rattle.stk_tree.specs.Nodes.{expression_nodes}
 use Rattle.stk_tree.specs.Placed.{expression_placed}
 use Rattle.stk_tree.specs.Tokens.{expression_tokens}
-use Rattle.stk_layout.proofs.Few.{expression_tokens-few}
-use Rattle.stk_layout.proofs.LaidHeights.{expression_height-laid}
-use Rattle.stk_layout.proofs.LaidPlaces.{expression_placed-laid}
-use Rattle.stk_layout.proofs.LaidTokens.{expression_tokens-laid}
-use Rattle.stk_grammar.specs.Bare.{bare_expression}
+use Rattle.stk_tree_layout.proofs.Few.{expression_tokens-few}
+use Rattle.stk_tree_layout.proofs.LaidNestings.{expression_nesting-laid}
+use Rattle.stk_tree_layout.proofs.LaidPlaces.{expression_placed-laid}
+use Rattle.stk_tree_layout.proofs.LaidTokens.{expression_tokens-laid}
+use Rattle.stk_tree.specs.Unlaid.{unlaid_expression}
 use Rattle.stk_grammar.specs.Expressions.{IsExpression}
-use Rattle.stk_grammar.specs.Fits.{expression_fits}
-use Rattle.stk_grammar.proofs.LaidBare.{bare_expression-laid}
+use Rattle.stk_tree.specs.Fits.{expression_fits}
+use Rattle.stk_grammar.proofs.LaidUnlaid.{unlaid_expression-laid}
 use Rattle.stk_grammar.proofs.LaidFits.{expression_fits-laid}
 
 pub laid_is : (set : ℕ → ℕ → ℕ → Node) (named : Span → Bool) (least : ℕ) (ts : List Lexeme) (from to : ℕ) (t : ExprTree) (n m : ℕ) → IsExpression named least ts from to t → IsExpression named least ts from to (laid_expression set n m t)
@@ -26,7 +26,7 @@ laid_is set named least ts from to t n m h = record {
   tokens = h.tokens ∙ sym (expression_tokens-laid set t n m);
   placed = expression_placed-laid set least t n m ∙ h.placed;
   fits = expression_fits-laid set named t n m ∙ h.fits;
-  height = rw (expression_height-laid set t n m) h.height;
+  nesting = rw (expression_nesting-laid set t n m) h.nesting;
   stop = h.stop;
 }
 
@@ -37,6 +37,6 @@ width_of named least ts from to t h =
     let all : length (take (to - from) (drop from ts)) ≡ to - from = length-take-le (to - from) (drop from ts) (omega (arith, length-drop from ts, h.within.1)) in
     omega (arith, size, all, h.within.0, h.within.1)
 
--- a bare tree that is laid out is the layout of the bare tree
-pub laid_bare : (set : ℕ → ℕ → ℕ → Node) (t u : ExprTree) (n m : ℕ) → bare_expression t ≡ t → u ≡ laid_expression set n m t → u ≡ laid_expression set n m (bare_expression u)
-laid_bare set t u n m bare e = e ∙ ap (laid_expression set n m) (sym (ap bare_expression e ∙ bare_expression-laid set t n m ∙ bare))
+-- a unlaid tree that is laid out is the layout of the unlaid tree
+pub laid_unlaid : (set : ℕ → ℕ → ℕ → Node) (t u : ExprTree) (n m : ℕ) → unlaid_expression t ≡ t → u ≡ laid_expression set n m t → u ≡ laid_expression set n m (unlaid_expression u)
+laid_unlaid set t u n m unlaid e = e ∙ ap (laid_expression set n m) (sym (ap unlaid_expression e ∙ unlaid_expression-laid set t n m ∙ unlaid))

@@ -3,7 +3,7 @@ use Rattle.std.proofs.Common.{◌≡◌, ℕ, zero, suc, ◌+◌, ◌<◌, ◌�
 use Rattle.std.proofs.lemmas.Bool.{le-leb, lt-leb}
 use Rattle.stk_base.specs.declared.span.Span.{Span}
 use Rattle.stk_tree.specs.declared.fixed.Lexeme.{Lexeme}
-use Rattle.stk_tree.specs.Height.{dimension_height, dimensions_height, expression_height, expressions_height}
+use Rattle.stk_tree.specs.Nesting.{dimension_nesting, dimensions_nesting, expression_nesting, expressions_nesting}
 use Rattle.stk_tree.specs.Syntax.{DimensionTree, DimensionTrees, ExprTree, ExprTrees}
 use Rattle.stk_tree.specs.Syntax as s
 use Rattle.stk_tree.specs.View.{chained}
@@ -31,27 +31,27 @@ rest_within named room least ts t rest wide e =
 
 -- ---- suffixes
 
-on_too_high : (go_on : ExprTree → List Lexeme → Found ExprTree) (sub : Sub) (inner : ℕ) (a : ExprTree) (ts : List Lexeme) (x : Suffix × List Lexeme) → inner < expression_height a → climb_on go_on sub inner a ts (Some x) ≡ None
-on_too_high go_on sub inner a ts x h = rw (lt-leb (expression_height a) inner h) refl
+on_too_high : (go_on : ExprTree → List Lexeme → Found ExprTree) (sub : Sub) (inner : ℕ) (a : ExprTree) (ts : List Lexeme) (x : Suffix × List Lexeme) → inner < expression_nesting a → climb_on go_on sub inner a ts (Some x) ≡ None
+on_too_high go_on sub inner a ts x h = rw (lt-leb (expression_nesting a) inner h) refl
 
-on_next : (go_on : ExprTree → List Lexeme → Found ExprTree) (sub : Sub) (inner : ℕ) (a : ExprTree) (ts : List Lexeme) (x : Suffix × List Lexeme) → expression_height a ≤ inner → climb_on go_on sub inner a ts (Some x) ≡ (tail_at sub x.0 a x.1 >>= λ b. go_on b.0 b.1)
-on_next go_on sub inner a ts x h = rw (le-leb (expression_height a) inner h) refl
+on_next : (go_on : ExprTree → List Lexeme → Found ExprTree) (sub : Sub) (inner : ℕ) (a : ExprTree) (ts : List Lexeme) (x : Suffix × List Lexeme) → expression_nesting a ≤ inner → climb_on go_on sub inner a ts (Some x) ≡ (tail_at sub x.0 a x.1 >>= λ b. go_on b.0 b.1)
+on_next go_on sub inner a ts x h = rw (le-leb (expression_nesting a) inner h) refl
 
-pub too_high : (sub : Sub) (inner least f at : ℕ) (a : ExprTree) (ts : List Lexeme) (x : Suffix × List Lexeme) → at ≡ level a → Some x ≡ taken least at ts → inner < expression_height a → climb sub inner least f a ts ≡ None
+pub too_high : (sub : Sub) (inner least f at : ℕ) (a : ExprTree) (ts : List Lexeme) (x : Suffix × List Lexeme) → at ≡ level a → Some x ≡ taken least at ts → inner < expression_nesting a → climb sub inner least f a ts ≡ None
 unfolding climb
 too_high sub inner least zero at a ts x l e h = refl
 too_high sub inner least (suc f) at a ts x l e h =
     ap (climb_on (climb sub inner least f) sub inner a ts) (ap (λ n. taken least n ts) (sym l) ∙ sym e)
     ∙ on_too_high (climb sub inner least f) sub inner a ts x h
 
-goes_on : (sub : Sub) (inner least f at : ℕ) (a : ExprTree) (ts : List Lexeme) (x : Suffix × List Lexeme) → at ≡ level a → Some x ≡ taken least at ts → expression_height a ≤ inner
+goes_on : (sub : Sub) (inner least f at : ℕ) (a : ExprTree) (ts : List Lexeme) (x : Suffix × List Lexeme) → at ≡ level a → Some x ≡ taken least at ts → expression_nesting a ≤ inner
     → climb sub inner least (suc f) a ts ≡ (tail_at sub x.0 a x.1 >>= λ b. climb sub inner least f b.0 b.1)
 unfolding climb
 goes_on sub inner least f at a ts x l e h =
     ap (climb_on (climb sub inner least f) sub inner a ts) (ap (λ n. taken least n ts) (sym l) ∙ sym e)
     ∙ on_next (climb sub inner least f) sub inner a ts x h
 
-pub fails_in : (e : Parse) (sub : Sub) (inner least f at : ℕ) (a : ExprTree) (ts : List Lexeme) (x : Suffix × List Lexeme) → at ≡ level a → Some x ≡ taken least at ts → expression_height a ≤ inner
+pub fails_in : (e : Parse) (sub : Sub) (inner least f at : ℕ) (a : ExprTree) (ts : List Lexeme) (x : Suffix × List Lexeme) → at ≡ level a → Some x ≡ taken least at ts → expression_nesting a ≤ inner
     → Fails e (tail_at sub x.0 a x.1) → Fails e (climb sub inner least f a ts)
 unfolding climb
 fails_in parse.NoMemory sub inner least f at a ts x l e h k = tt
@@ -66,9 +66,9 @@ ends sub inner least (suc f) at a ts much l e = ap (climb_on (climb sub inner le
 
 -- one more turn, which has a number of turns less
 pub turn : (sub : Sub) (inner least f at : ℕ) (a : ExprTree) (ts : List Lexeme) (x : Suffix × List Lexeme) (b : ExprTree) (rest : List Lexeme) (total : Found ExprTree)
-    → at ≡ level a → Some x ≡ taken least at ts → expression_height a ≤ inner → expression_height a < expression_height b → tail_at sub x.0 a x.1 ≡ Some (b, rest)
-    → suc inner < f + expression_height a → climb sub inner least f a ts ≡ total
-    → (g : ℕ) × (suc inner < g + expression_height b) × (climb sub inner least g b rest ≡ total)
+    → at ≡ level a → Some x ≡ taken least at ts → expression_nesting a ≤ inner → expression_nesting a < expression_nesting b → tail_at sub x.0 a x.1 ≡ Some (b, rest)
+    → suc inner < f + expression_nesting a → climb sub inner least f a ts ≡ total
+    → (g : ℕ) × (suc inner < g + expression_nesting b) × (climb sub inner least g b rest ≡ total)
 turn sub inner least zero at a ts x b rest total l e h higher by much so_far = absurd (omega arith)
 turn sub inner least (suc f) at a ts x b rest total l e h higher by much so_far =
     (f, omega arith, sym (goes_on sub inner least f at a ts x l e h ∙ ap (λ o. o >>= λ c. climb sub inner least f c.0 c.1) by) ∙ so_far)
@@ -148,11 +148,11 @@ bracket_shorter ts inside e = ap length (left_bracket_is ts inside (sym e))
 pub closed_shorter : (ts rest : List Lexeme) → Some rest ≡ behind_right_bracket ts → length ts ≡ suc (length rest)
 closed_shorter ts rest e = ap length (right_bracket_is ts rest (sym e))
 
--- the height of a row of array parts with one more behind it
-pub parts_height-push : (xs : List DimensionTree) (x : DimensionTree)
-    → dimensions_height (chained s.then_dimension s.no_dimensions (xs ++ (x ∷ []))) ≡ max (dimensions_height (chained s.then_dimension s.no_dimensions xs)) (dimension_height x + suc (length xs))
-parts_height-push [] x = omega arith
-parts_height-push (y ∷ ys) x = omega (arith, parts_height-push ys x)
+-- the nesting of a row of array parts with one more behind it
+pub parts_nesting-push : (xs : List DimensionTree) (x : DimensionTree)
+    → dimensions_nesting (chained s.then_dimension s.no_dimensions (xs ++ (x ∷ []))) ≡ max (dimensions_nesting (chained s.then_dimension s.no_dimensions xs)) (dimension_nesting x + suc (length xs))
+parts_nesting-push [] x = omega arith
+parts_nesting-push (y ∷ ys) x = omega (arith, parts_nesting-push ys x)
 
 -- ---- arguments
 
@@ -218,11 +218,11 @@ more_done sub f xs ts o total much c close so_far =
 pub comma_shorter : (ts rest : List Lexeme) → Some rest ≡ behind_comma ts → length ts ≡ suc (length rest)
 comma_shorter ts rest e = ap length (comma_is ts rest (sym e))
 
--- the height of a row of arguments with one more behind it
-pub more_height-push : (xs : List ExprTree) (x : ExprTree)
-    → expressions_height (chained s.then_expression s.no_expressions (xs ++ (x ∷ []))) ≡ max (expressions_height (chained s.then_expression s.no_expressions xs)) (expression_height x)
-more_height-push [] x = omega arith
-more_height-push (y ∷ ys) x = omega (arith, more_height-push ys x)
+-- the nesting of a row of arguments with one more behind it
+pub more_nesting-push : (xs : List ExprTree) (x : ExprTree)
+    → expressions_nesting (chained s.then_expression s.no_expressions (xs ++ (x ∷ []))) ≡ max (expressions_nesting (chained s.then_expression s.no_expressions xs)) (expression_nesting x)
+more_nesting-push [] x = omega arith
+more_nesting-push (y ∷ ys) x = omega (arith, more_nesting-push ys x)
 
 -- ---- what was collected
 
@@ -237,10 +237,10 @@ length_map : {A B : Type 0} (f : A → B) (xs : List A) → length (map f xs) �
 length_map f [] = refl
 length_map f (x ∷ xs) = ap suc (length_map f xs)
 
--- the height of array parts with one more behind them, by how many they were
-pub parts_height-items : {A : Type 0} (f : A → DimensionTree) (items : List A) (x : DimensionTree)
-    → dimensions_height (chained s.then_dimension s.no_dimensions (map f items ++ (x ∷ []))) ≡ max (dimensions_height (chained s.then_dimension s.no_dimensions (map f items))) (dimension_height x + suc (length items))
-parts_height-items f items x = parts_height-push (map f items) x ∙ ap (λ n. max (dimensions_height (chained s.then_dimension s.no_dimensions (map f items))) (dimension_height x + suc n)) (length_map f items)
+-- the nesting of array parts with one more behind them, by how many they were
+pub parts_nesting-items : {A : Type 0} (f : A → DimensionTree) (items : List A) (x : DimensionTree)
+    → dimensions_nesting (chained s.then_dimension s.no_dimensions (map f items ++ (x ∷ []))) ≡ max (dimensions_nesting (chained s.then_dimension s.no_dimensions (map f items))) (dimension_nesting x + suc (length items))
+parts_nesting-items f items x = parts_nesting-push (map f items) x ∙ ap (λ n. max (dimensions_nesting (chained s.then_dimension s.no_dimensions (map f items))) (dimension_nesting x + suc n)) (length_map f items)
 
 -- an array part takes a token or more
 part_on : (named : Span → Bool) (inner : ℕ) (inside : List Lexeme) (o : Option (List Lexeme)) (x : DimensionTree × List Lexeme) → behind_right_bracket inside ≡ o → dimension_at (expression_at named inner) o inside ≡ Some x

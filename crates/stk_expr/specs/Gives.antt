@@ -1,18 +1,10 @@
 -- What the readers return, as against the functional reader.
-use Rattle.std.specs.Prelude.{◌≡◌, ℕ, ◌≤◌, Bool, List, Option, Some, None, Result, Ok, Err}
-use Rattle.stk_base.specs.declared.span.Span.{Span}
-use Rattle.stk_base.specs.Text.{text_of}
-use Rattle.stk_tree.specs.Height.{expression_height, expressions_height, type_name_height}
+use Rattle.std.specs.Prelude.{◌≡◌, ℕ, ◌≤◌, Option, Some, None, Result, Ok, Err}
+use Rattle.stk_tree.specs.Nesting.{expression_nesting, expressions_nesting, type_name_nesting}
 use Rattle.stk_tree.specs.Syntax.{ExprTree, ExprTrees, TypeNameTree}
-use Rattle.stk_ctype.specs.declared.symbol.NameEntry.{NameEntry}
-use Rattle.stk_ctype.specs.Names.{is_type}
 use Rattle.stk_grammar.specs.Reading.{level}
 use Rattle.stk_expr.specs.declared.parse.Parse.{Parse}
 use Rattle.stk_expr.specs.declared.parse.Parse.TheVariants as parse
-
--- whether the word at a span is a typedef name in force
-unfoldable pub named : List ℕ → List NameEntry → Span → Bool
-named bytes names at = is_type (text_of bytes at) names
 
 abbrev pub Fails : {A : Type 0} → Parse → Option A → Type 0
 Fails parse.NoTree read = read ≡ None
@@ -23,12 +15,12 @@ abbrev pub Gives : {X A : Type 0} → (X → A) → Result X Parse → Option A 
 Gives view (Ok x) read = read ≡ Some (view x)
 Gives view (Err e) read = Fails e read
 
--- the height and the level of a tree that fits in a room
+-- the nesting and the level of a tree that fits in a room
 abbrev pub IsRead : ℕ → ExprTree → ℕ → ℕ → Type 0
-IsRead room t high at = (high ≡ expression_height t) × (high ≤ room) × (at ≡ level t)
+IsRead room t high at = (high ≡ expression_nesting t) × (high ≤ room) × (at ≡ level t)
 
 abbrev pub AreRead : ℕ → ExprTrees → ℕ → Type 0
-AreRead room ts high = (high ≡ expressions_height ts) × (high ≤ room)
+AreRead room ts high = (high ≡ expressions_nesting ts) × (high ≤ room)
 
 abbrev pub IsTypeRead : ℕ → TypeNameTree → ℕ → Type 0
-IsTypeRead room y high = (high ≡ type_name_height y) × (high ≤ room)
+IsTypeRead room y high = (high ≡ type_name_nesting y) × (high ≤ room)

@@ -5,14 +5,15 @@ ghost use Rattle.stk_tree.specs.View.{dimensions, expressions, view_base, view_b
 ghost use Rattle.stk_tree.specs.Syntax.{open_dimension, sized};
 ghost use Rattle.stk_tree.specs.Syntax as s;
 ghost use Rattle.stk_tree.specs.declared.expression.StepOp.TheVariants.{IncAfter, DecAfter};
-ghost use Rattle.stk_grammar.specs.Bare.{no_node};
+ghost use Rattle.stk_tree.specs.Unlaid.{no_node};
 ghost use Rattle.stk_grammar.specs.Reading.{made};
 ghost use Rattle.stk_expr.specs.Prefixes.{prefix_form, prefix_operand};
 
 use std::alloc::{AllocError, Global};
 use stk_base::{Boxed, List, Span};
 use stk_tree::{
-    AssignOp, Base, BaseForm, BinaryOp, Dimension, Expr, ExprForm, Node, StepOp, TypeName, UnaryOp,
+    AssignOp, Base, BaseForm, BinaryOp, Dimension, Expr, ExprForm, StepOp, TypeName, UnaryOp,
+    levels, no_node,
 };
 
 /// An operator before its operand.
@@ -30,19 +31,9 @@ impl Prefix {
         ensures { result ≡ prefix_operand self }
     {
         match self {
-            Prefix::Unary(_) => 14,
-            Prefix::Increment | Prefix::Decrement | Prefix::Size => 15,
+            Prefix::Unary(_) => levels::CAST,
+            Prefix::Increment | Prefix::Decrement | Prefix::Size => levels::UNARY,
         }
-    }
-}
-
-/// The record of a node that isn't laid out yet.
-fn no_node() -> Node
-    ensures { result ≡ no_node }
-{
-    Node {
-        number: 0,
-        span: Span { from: 0, to: 0 },
     }
 }
 
@@ -209,32 +200,4 @@ pub fn type_name(form: BaseForm, stars: u32, arrays: List<Dimension>) -> TypeNam
         stars,
         arrays,
     }
-}
-
-/// Basic words.
-pub fn words(list: List<stk_tree::Fixed>) -> BaseForm
-    ensures { view_base_form result ≡ s.words list }
-{
-    BaseForm::Words(list)
-}
-
-/// `struct tag`
-pub fn struct_ref(tag: Span) -> BaseForm
-    ensures { view_base_form result ≡ s.struct_ref tag }
-{
-    BaseForm::StructRef(tag)
-}
-
-/// `enum tag`
-pub fn enum_ref(tag: Span) -> BaseForm
-    ensures { view_base_form result ≡ s.enum_ref tag }
-{
-    BaseForm::EnumRef(tag)
-}
-
-/// A typedef name.
-pub fn named(at: Span) -> BaseForm
-    ensures { view_base_form result ≡ s.named at }
-{
-    BaseForm::Named(at)
 }

@@ -1,22 +1,25 @@
 //! What stands at the front of some tokens.
 
-ghost use Rattle.std.specs.Prelude.{◌≡◌, ◌∷◌, IfOk, option_map};
+ghost use Rattle.std.specs.Prelude.{◌≡◌, ◌∷◌, None, IfOk, cond, option_map};
+ghost use Rattle.stk_tree.specs.Nesting.{base_form_nesting};
+ghost use Rattle.stk_tree.specs.Placed.{is_basic};
 ghost use Rattle.stk_tree.specs.View.{view_base_form};
 ghost use Rattle.stk_grammar.specs.Expressions.{stop_mark, stops};
-ghost use Rattle.stk_grammar.specs.Reading.{base_at, begins_type, behind_left_paren, first_head, opens_type, tag_base, taken, texts_at, words_at};
+ghost use Rattle.stk_grammar.specs.Reading.{base_at, begins_type, behind_left_paren, first_opener, opens_type, tag_base, taken, texts_at, words_at, words_base};
 ghost use Rattle.stk_expr.specs.Fronts.{text_at};
-ghost use Rattle.stk_expr.specs.Gives.{Gives, named};
+ghost use Rattle.stk_ctype.specs.Names.{named};
+ghost use Rattle.stk_expr.specs.Gives.{Gives};
 
-use crate::build;
+use crate::bases;
 use crate::parse::Parse;
 use std::alloc::{AllocError, AllocFailed, Global};
 use stk_base::{Class, List, Span};
 use stk_ctype::Names;
 use stk_grammar::{
-    Head, Suffix, basic_at, behind_left_paren, head_of, is_basic, is_tag_word, suffix_left,
-    suffix_level, suffix_of, word_at,
+    Opener, Suffix, basic_at, behind_left_paren, is_tag_word, opener_of, suffix_left, suffix_level,
+    suffix_of, word_at,
 };
-use stk_tree::{BaseForm, Fixed, Lexeme};
+use stk_tree::{BaseForm, Fixed, Lexeme, is_basic};
 
 fn text_at(lexemes: &[Lexeme]) -> Option<(Span, &[Lexeme])>
     ensures { option_map (λ x. (x.0, x.1.now)) result ≡ text_at lexemes.now }
@@ -28,11 +31,11 @@ fn text_at(lexemes: &[Lexeme]) -> Option<(Span, &[Lexeme])>
 }
 
 /// What an operand begins with, where one begins here.
-pub fn first_head(lexemes: &[Lexeme]) -> Option<(Head, &[Lexeme])>
-    ensures { option_map (λ x. (x.0, x.1.now)) result ≡ first_head lexemes.now }
+pub fn first_opener(lexemes: &[Lexeme]) -> Option<(Opener, &[Lexeme])>
+    ensures { option_map (λ x. (x.0, x.1.now)) result ≡ first_opener lexemes.now }
 {
     let (lexeme, rest) = lexemes.split_first()?;
-    let head = head_of(*lexeme)?;
+    let head = opener_of(*lexeme)?;
     Some((head, rest))
 }
 
@@ -75,7 +78,7 @@ pub fn stops(least: usize, lexemes: &[Lexeme]) -> bool
 }
 
 /// Whether the word at a span is a typedef name in force.
-#[tactic(auto, unfolding(crate::specs::Gives::named))]
+#[tactic(auto, unfolding(stk_ctype::specs::Names::named))]
 pub fn is_named(bytes: &[u8], names: &Names, at: Span) -> bool
     ensures { result ≡ named bytes.now names.now at }
 {
@@ -140,14 +143,16 @@ pub fn words(
     Ok((List::from_vec(list), rest))
 }
 
-/// The base of a type name.
+/// A base without braces, as a type name has it (C11 6.7.2): words of the basic types, `struct` or `enum` with a tag, or a
+/// typedef name in force; and the tokens behind it. It nests nothing. `NoTree` where none stands at the front.
 pub fn base<'a>(
     alloc: Global,
     bytes: &[u8],
     names: &Names,
     lexemes: &'a [Lexeme],
 ) -> Result<(BaseForm, &'a [Lexeme]), Parse>
-    ensures { Gives (λ x. (view_base_form x.0, x.1.now)) result (base_at (named bytes.now names.now) lexemes.now) }
+    ensures value { Gives (λ x. (view_base_form x.0, x.1.now)) result (base_at (named bytes.now names.now) lexemes.now) }
+    ensures flat { IfOk result (λ x. base_form_nesting (view_base_form x.0) ≡ 0) }
 {
     let Some((lexeme, rest)) = lexemes.split_first() else {
         return Err(Parse::NoTree);
@@ -155,7 +160,7 @@ pub fn base<'a>(
     match lexeme {
         Lexeme::Leaf(Class::Word, at) => {
             if is_named(bytes, names, *at) {
-                Ok((build::named(*at), rest))
+                Ok((bases::named(*at), rest))
             } else {
                 Err(Parse::NoTree)
             }
@@ -164,12 +169,29 @@ pub fn base<'a>(
         Lexeme::Fixed(word) => {
             if is_basic(*word) {
                 let (list, rest) = words(alloc, *word, rest)?;
-                Ok((build::words(list), rest))
+                Ok((bases::words(list), rest))
             } else {
                 tag_base(*word, rest).ok_or(Parse::NoTree)
             }
         }
     }
+}
+
+/// Words of the basic types in a row (C11 6.7.2), the first of which is past, as a base; and the tokens behind them. `NoTree`
+/// where the first isn't one of them.
+pub fn basic_base(
+    alloc: Global,
+    word: Fixed,
+    lexemes: &[Lexeme],
+) -> Result<(BaseForm, &[Lexeme]), Parse>
+    ensures value { Gives (λ x. (view_base_form x.0, x.1.now)) result (cond (is_basic word) (words_base word (words_at lexemes.now)) None) }
+    ensures flat { IfOk result (λ x. base_form_nesting (view_base_form x.0) ≡ 0) }
+{
+    if !is_basic(word) {
+        return Err(Parse::NoTree);
+    }
+    let (list, rest) = words(alloc, word, lexemes)?;
+    Ok((bases::words(list), rest))
 }
 
 /// `struct tag` or `enum tag`, whose first word is past.
@@ -179,11 +201,11 @@ fn tag_base(word: Fixed, lexemes: &[Lexeme]) -> Option<(BaseForm, &[Lexeme])>
     match word {
         Fixed::Struct => {
             let (tag, rest) = word_at(lexemes)?;
-            Some((build::struct_ref(tag), rest))
+            Some((bases::struct_ref(tag), rest))
         }
         Fixed::Enum => {
             let (tag, rest) = word_at(lexemes)?;
-            Some((build::enum_ref(tag), rest))
+            Some((bases::enum_ref(tag), rest))
         }
         _ => None,
     }

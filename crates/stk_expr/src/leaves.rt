@@ -1,12 +1,14 @@
 //! The readers that read no expression behind what they begin with: of leaves, members and steps.
 
 ghost use Rattle.std.specs.Prelude.{◌≡◌, ◌+◌, ◌∷◌, ◌<◌, ◌≤◌, cond, IfOk, None};
+ghost use Rattle.stk_tree.specs.Nesting.{most_nesting};
 ghost use Rattle.stk_tree.specs.Placed.{step_level};
 ghost use Rattle.stk_tree.specs.Syntax as s;
 ghost use Rattle.stk_tree.specs.View.{view_expression};
 ghost use Rattle.stk_grammar.specs.Reading.{texts_at};
 ghost use Rattle.stk_expr.specs.Fronts.{found, member_at};
-ghost use Rattle.stk_expr.specs.Gives.{Gives, IsRead, named};
+ghost use Rattle.stk_ctype.specs.Names.{named};
+ghost use Rattle.stk_expr.specs.Gives.{Gives, IsRead};
 
 use crate::build;
 use crate::front::{is_named, texts};
@@ -15,13 +17,13 @@ use std::alloc::Global;
 use stk_base::{Boxed, Span};
 use stk_ctype::Names;
 use stk_grammar::word_at;
-use stk_tree::{Expr, Lexeme, StepOp};
+use stk_tree::{Expr, Lexeme, StepOp, levels};
 
-/// An expression that was read, its height and its level, and the tokens behind it.
+/// An expression that was read, its nesting and its level, and the tokens behind it.
 #[derive(Drop)]
 pub struct Found<'a> {
     pub tree: Boxed<Expr>,
-    pub height: usize,
+    pub nesting: usize,
     pub level: usize,
     pub rest: &'a [Lexeme],
 }
@@ -35,15 +37,15 @@ pub fn name<'a>(
     lexemes: &'a [Lexeme],
 ) -> Result<Found<'a>, Parse>
     ensures value { Gives (λ x. (view_expression x.tree, x.rest.now)) result (cond (named bytes.now names.now at) None (found (s.name at) lexemes.now)) }
-    ensures height { IfOk result (λ x. IsRead 1 (view_expression x.tree) x.height x.level) }
+    ensures nesting { IfOk result (λ x. IsRead 1 (view_expression x.tree) x.nesting x.level) }
 {
     if is_named(bytes, names, at) {
         return Err(Parse::NoTree);
     }
     Ok(Found {
         tree: build::name(alloc, at)?,
-        height: 1,
-        level: 17,
+        nesting: 1,
+        level: levels::PRIMARY,
         rest: lexemes,
     })
 }
@@ -51,12 +53,12 @@ pub fn name<'a>(
 /// A number.
 pub fn number<'a>(alloc: Global, at: Span, lexemes: &'a [Lexeme]) -> Result<Found<'a>, Parse>
     ensures value { Gives (λ x. (view_expression x.tree, x.rest.now)) result (found (s.number at) lexemes.now) }
-    ensures height { IfOk result (λ x. IsRead 1 (view_expression x.tree) x.height x.level) }
+    ensures nesting { IfOk result (λ x. IsRead 1 (view_expression x.tree) x.nesting x.level) }
 {
     Ok(Found {
         tree: build::number(alloc, at)?,
-        height: 1,
-        level: 17,
+        nesting: 1,
+        level: levels::PRIMARY,
         rest: lexemes,
     })
 }
@@ -64,12 +66,12 @@ pub fn number<'a>(alloc: Global, at: Span, lexemes: &'a [Lexeme]) -> Result<Foun
 /// A character.
 pub fn character<'a>(alloc: Global, at: Span, lexemes: &'a [Lexeme]) -> Result<Found<'a>, Parse>
     ensures value { Gives (λ x. (view_expression x.tree, x.rest.now)) result (found (s.character at) lexemes.now) }
-    ensures height { IfOk result (λ x. IsRead 1 (view_expression x.tree) x.height x.level) }
+    ensures nesting { IfOk result (λ x. IsRead 1 (view_expression x.tree) x.nesting x.level) }
 {
     Ok(Found {
         tree: build::character(alloc, at)?,
-        height: 1,
-        level: 17,
+        nesting: 1,
+        level: levels::PRIMARY,
         rest: lexemes,
     })
 }
@@ -77,13 +79,13 @@ pub fn character<'a>(alloc: Global, at: Span, lexemes: &'a [Lexeme]) -> Result<F
 /// String literals in a row, behind the first.
 pub fn text<'a>(alloc: Global, at: Span, lexemes: &'a [Lexeme]) -> Result<Found<'a>, Parse>
     ensures value { Gives (λ x. (view_expression x.tree, x.rest.now)) result (found (s.text (at ∷ (texts_at lexemes.now).0)) (texts_at lexemes.now).1) }
-    ensures height { IfOk result (λ x. IsRead 1 (view_expression x.tree) x.height x.level) }
+    ensures nesting { IfOk result (λ x. IsRead 1 (view_expression x.tree) x.nesting x.level) }
 {
     let (parts, rest) = texts(alloc, at, lexemes)?;
     Ok(Found {
         tree: build::text(alloc, parts)?,
-        height: 1,
-        level: 17,
+        nesting: 1,
+        level: levels::PRIMARY,
         rest,
     })
 }
@@ -94,19 +96,19 @@ pub fn dot_tail<'a>(
     left: Found<'a>,
     lexemes: &'a [Lexeme],
 ) -> Result<Found<'a>, Parse>
-    requires room { left.height < 400 }
-    requires height { IsRead left.height (view_expression left.tree) left.height left.level }
+    requires room { left.nesting < most_nesting }
+    requires nesting { IsRead left.nesting (view_expression left.tree) left.nesting left.level }
     ensures value { Gives (λ x. (view_expression x.tree, x.rest.now)) result (member_at (s.dot (view_expression left.entry.tree)) lexemes.now) }
-    ensures height { IfOk result (λ x. IsRead (left.entry.height + 1) (view_expression x.tree) x.height x.level) }
-    ensures higher { IfOk result (λ x. left.entry.height < x.height) }
+    ensures nesting { IfOk result (λ x. IsRead (left.entry.nesting + 1) (view_expression x.tree) x.nesting x.level) }
+    ensures higher { IfOk result (λ x. left.entry.nesting < x.nesting) }
 {
     let Some((member, rest)) = word_at(lexemes) else {
         return Err(Parse::NoTree);
     };
     Ok(Found {
         tree: build::dot(alloc, left.tree, member)?,
-        height: left.height + 1,
-        level: 16,
+        nesting: left.nesting + 1,
+        level: levels::POSTFIX,
         rest,
     })
 }
@@ -117,19 +119,19 @@ pub fn arrow_tail<'a>(
     left: Found<'a>,
     lexemes: &'a [Lexeme],
 ) -> Result<Found<'a>, Parse>
-    requires room { left.height < 400 }
-    requires height { IsRead left.height (view_expression left.tree) left.height left.level }
+    requires room { left.nesting < most_nesting }
+    requires nesting { IsRead left.nesting (view_expression left.tree) left.nesting left.level }
     ensures value { Gives (λ x. (view_expression x.tree, x.rest.now)) result (member_at (s.arrow (view_expression left.entry.tree)) lexemes.now) }
-    ensures height { IfOk result (λ x. IsRead (left.entry.height + 1) (view_expression x.tree) x.height x.level) }
-    ensures higher { IfOk result (λ x. left.entry.height < x.height) }
+    ensures nesting { IfOk result (λ x. IsRead (left.entry.nesting + 1) (view_expression x.tree) x.nesting x.level) }
+    ensures higher { IfOk result (λ x. left.entry.nesting < x.nesting) }
 {
     let Some((member, rest)) = word_at(lexemes) else {
         return Err(Parse::NoTree);
     };
     Ok(Found {
         tree: build::arrow(alloc, left.tree, member)?,
-        height: left.height + 1,
-        level: 16,
+        nesting: left.nesting + 1,
+        level: levels::POSTFIX,
         rest,
     })
 }
@@ -141,17 +143,17 @@ pub fn stepped_tail<'a>(
     left: Found<'a>,
     lexemes: &'a [Lexeme],
 ) -> Result<Found<'a>, Parse>
-    requires room { left.height < 400 }
-    requires height { IsRead left.height (view_expression left.tree) left.height left.level }
+    requires room { left.nesting < most_nesting }
+    requires nesting { IsRead left.nesting (view_expression left.tree) left.nesting left.level }
     requires behind { step_level op ≡ 16 }
     ensures value { Gives (λ x. (view_expression x.tree, x.rest.now)) result (found (s.step op (view_expression left.entry.tree)) lexemes.now) }
-    ensures height { IfOk result (λ x. IsRead (left.entry.height + 1) (view_expression x.tree) x.height x.level) }
-    ensures higher { IfOk result (λ x. left.entry.height < x.height) }
+    ensures nesting { IfOk result (λ x. IsRead (left.entry.nesting + 1) (view_expression x.tree) x.nesting x.level) }
+    ensures higher { IfOk result (λ x. left.entry.nesting < x.nesting) }
 {
     Ok(Found {
         tree: build::stepped(alloc, op, left.tree)?,
-        height: left.height + 1,
-        level: 16,
+        nesting: left.nesting + 1,
+        level: levels::POSTFIX,
         rest: lexemes,
     })
 }

@@ -1,53 +1,56 @@
 //! The readers of expressions: each reads what its definition reads, until memory runs out.
 //!
-//! They call one another no deeper than the height that is left, and each loop takes a token or more in a turn.
+//! They call one another no deeper than the nesting that is left, and each loop takes a token or more in a turn.
 
 ghost use Rattle.std.specs.Prelude.{◌≡◌, ◌+◌, ◌*◌, ◌<◌, ◌≤◌, max, suc, true, false, IfOk, length, map};
-ghost use Rattle.stk_tree.specs.Height.{dimension_height, dimensions_height};
+ghost use Rattle.stk_tree.specs.Nesting.{dimension_nesting, dimensions_nesting, most_nesting};
 ghost use Rattle.stk_tree.specs.View.{dimensions, expressions, view_dimension, view_expression, view_type_name};
-ghost use Rattle.stk_grammar.specs.Reading.{arguments, before_at, begins_type, behind_left_paren, behind_right_bracket, climb, dimension_at, dimensions_at, expression_at, head_at, opens_type, paren_at, size_at, tail_at, type_at};
+ghost use Rattle.stk_grammar.specs.Reading.{arguments, before_at, begins_type, behind_left_paren, behind_right_bracket, climb, dimension_at, dimensions_at, expression_at, operand_at, opens_type, paren_at, size_at, tail_at, type_at};
 ghost use Rattle.stk_grammar.specs.declared.tables.Suffix.TheVariants.{Assign, Binary, Call, Choice, Index};
-ghost use Rattle.stk_expr.specs.Gives.{AreRead, Gives, IsRead, IsTypeRead, named};
+ghost use Rattle.stk_ctype.specs.Names.{named};
+ghost use Rattle.stk_expr.specs.Gives.{AreRead, Gives, IsRead, IsTypeRead};
 ghost use Rattle.stk_expr.specs.Prefixes.{prefix_form, prefix_operand};
 
 use crate::build::{self, Prefix};
-use crate::front::{base, begins_type, first_head, opens_type, taken};
+use crate::front::{base, begins_type, first_opener, opens_type, taken};
 use crate::leaves::{self, Found};
 use crate::parse::Parse;
 use std::alloc::Global;
 use stk_base::{Boxed, List};
 use stk_ctype::Names;
 use stk_grammar::{
-    Head, Suffix, behind_colon, behind_comma, behind_left_bracket, behind_left_paren,
-    behind_right_bracket, behind_right_paren, binary_level, stars_at,
+    Opener, Suffix, behind_colon, behind_comma, behind_left_bracket, behind_left_paren,
+    behind_right_bracket, behind_right_paren, stars_at,
 };
-use stk_tree::{AssignOp, BinaryOp, Dimension, Expr, Lexeme, StepOp, TypeName};
+use stk_tree::{
+    AssignOp, BinaryOp, Dimension, Expr, Lexeme, StepOp, TypeName, binary_level, levels,
+};
 
-/// A type name that was read, its height, and the tokens behind it.
+/// A type name that was read, its nesting, and the tokens behind it.
 #[derive(Drop)]
 struct FoundType<'a> {
     name: TypeName,
-    height: usize,
+    nesting: usize,
     rest: &'a [Lexeme],
 }
 
-/// Array parts that were read, how high they are, and the tokens behind them.
+/// Array parts that were read, how deep they nest, and the tokens behind them.
 #[derive(Drop)]
-struct FoundDimensions<'a> {
-    list: List<Dimension>,
-    height: usize,
-    rest: &'a [Lexeme],
+pub struct FoundDimensions<'a> {
+    pub list: List<Dimension>,
+    pub nesting: usize,
+    pub rest: &'a [Lexeme],
 }
 
-/// Arguments that were read, the greatest height among them, and the tokens behind them.
+/// Arguments that were read, the greatest nesting among them, and the tokens behind them.
 #[derive(Drop)]
 struct FoundAll<'a> {
     list: List<Expr>,
-    height: usize,
+    nesting: usize,
     rest: &'a [Lexeme],
 }
 
-/// An expression of the level `least` or a higher one, of at most the height `room`.
+/// An expression of the level `least` or a higher one, of at most the nesting `room`.
 #[cycle(reader)]
 #[tactic(auto, unfolding(stk_grammar::specs::Reading::expression_at))]
 pub fn expression<'a>(
@@ -58,15 +61,15 @@ pub fn expression<'a>(
     least: usize,
     lexemes: &'a [Lexeme],
 ) -> Result<Found<'a>, Parse>
-    requires { room ≤ 400 }
+    requires { room ≤ most_nesting }
     ensures value { Gives (λ x. (view_expression x.tree, x.rest.now)) result (expression_at (named bytes.now names.now) room least lexemes.now) }
-    ensures height { IfOk result (λ x. IsRead room (view_expression x.tree) x.height x.level) }
+    ensures nesting { IfOk result (λ x. IsRead room (view_expression x.tree) x.nesting x.level) }
 {
     if room == 0 {
         return Err(Parse::NoTree);
     }
     let inner = room - 1;
-    let Some((head, rest)) = first_head(lexemes) else {
+    let Some((head, rest)) = first_opener(lexemes) else {
         return Err(Parse::NoTree);
     };
     let found = operand(alloc, bytes, names, inner, least, head, rest)?;
@@ -75,36 +78,36 @@ pub fn expression<'a>(
 
 /// What an expression begins with, whose first token is past.
 #[cycle(reader)]
-#[tactic(auto, unfolding(stk_grammar::specs::Reading::head_at))]
+#[tactic(auto, unfolding(stk_grammar::specs::Reading::operand_at))]
 fn operand<'a>(
     alloc: Global,
     bytes: &[u8],
     names: &Names,
     inner: usize,
     least: usize,
-    head: Head,
+    head: Opener,
     lexemes: &'a [Lexeme],
 ) -> Result<Found<'a>, Parse>
-    requires { inner < 400 }
-    ensures value { Gives (λ x. (view_expression x.tree, x.rest.now)) result (head_at (named bytes.now names.now) (expression_at (named bytes.now names.now) inner) inner least head lexemes.now) }
-    ensures height { IfOk result (λ x. IsRead (inner + 1) (view_expression x.tree) x.height x.level) }
+    requires { inner < most_nesting }
+    ensures value { Gives (λ x. (view_expression x.tree, x.rest.now)) result (operand_at (named bytes.now names.now) (expression_at (named bytes.now names.now) inner) inner least head lexemes.now) }
+    ensures nesting { IfOk result (λ x. IsRead (inner + 1) (view_expression x.tree) x.nesting x.level) }
 {
     match head {
-        Head::Name(at) => leaves::name(alloc, bytes, names, at, lexemes),
-        Head::Number(at) => leaves::number(alloc, at, lexemes),
-        Head::Character(at) => leaves::character(alloc, at, lexemes),
-        Head::Text(at) => leaves::text(alloc, at, lexemes),
-        Head::Paren => paren(alloc, bytes, names, inner, least, lexemes),
-        Head::SizeOf => size(alloc, bytes, names, inner, least, lexemes),
-        Head::Increment => {
+        Opener::Name(at) => leaves::name(alloc, bytes, names, at, lexemes),
+        Opener::Number(at) => leaves::number(alloc, at, lexemes),
+        Opener::Character(at) => leaves::character(alloc, at, lexemes),
+        Opener::Text(at) => leaves::text(alloc, at, lexemes),
+        Opener::Paren => paren(alloc, bytes, names, inner, least, lexemes),
+        Opener::SizeOf => size(alloc, bytes, names, inner, least, lexemes),
+        Opener::Increment => {
             let prefix = Prefix::Increment;
             before(alloc, bytes, names, inner, least, prefix, lexemes)
         }
-        Head::Decrement => {
+        Opener::Decrement => {
             let prefix = Prefix::Decrement;
             before(alloc, bytes, names, inner, least, prefix, lexemes)
         }
-        Head::Unary(op) => {
+        Opener::Unary(op) => {
             let prefix = Prefix::Unary(op);
             before(alloc, bytes, names, inner, least, prefix, lexemes)
         }
@@ -121,9 +124,9 @@ fn paren<'a>(
     least: usize,
     lexemes: &'a [Lexeme],
 ) -> Result<Found<'a>, Parse>
-    requires { inner < 400 }
+    requires { inner < most_nesting }
     ensures value { Gives (λ x. (view_expression x.tree, x.rest.now)) result (paren_at (named bytes.now names.now) (expression_at (named bytes.now names.now) inner) inner least (begins_type (named bytes.now names.now) lexemes.now) lexemes.now) }
-    ensures height { IfOk result (λ x. IsRead (inner + 1) (view_expression x.tree) x.height x.level) }
+    ensures nesting { IfOk result (λ x. IsRead (inner + 1) (view_expression x.tree) x.nesting x.level) }
 {
     if begins_type(bytes, names, lexemes) {
         cast(alloc, bytes, names, inner, least, lexemes)
@@ -142,9 +145,9 @@ fn cast<'a>(
     least: usize,
     lexemes: &'a [Lexeme],
 ) -> Result<Found<'a>, Parse>
-    requires { inner < 400 }
+    requires { inner < most_nesting }
     ensures value { Gives (λ x. (view_expression x.tree, x.rest.now)) result (paren_at (named bytes.now names.now) (expression_at (named bytes.now names.now) inner) inner least true lexemes.now) }
-    ensures height { IfOk result (λ x. IsRead (inner + 1) (view_expression x.tree) x.height x.level) }
+    ensures nesting { IfOk result (λ x. IsRead (inner + 1) (view_expression x.tree) x.nesting x.level) }
 {
     if least > 14 {
         return Err(Parse::NoTree);
@@ -153,11 +156,11 @@ fn cast<'a>(
     let Some(rest) = behind_right_paren(target.rest) else {
         return Err(Parse::NoTree);
     };
-    let found = expression(alloc, bytes, names, inner, 14, rest)?;
+    let found = expression(alloc, bytes, names, inner, levels::CAST, rest)?;
     Ok(Found {
         tree: build::cast(alloc, target.name, found.tree)?,
-        height: target.height.max(found.height) + 1,
-        level: 14,
+        nesting: target.nesting.max(found.nesting) + 1,
+        level: levels::CAST,
         rest: found.rest,
     })
 }
@@ -171,18 +174,18 @@ fn enclosed<'a>(
     inner: usize,
     lexemes: &'a [Lexeme],
 ) -> Result<Found<'a>, Parse>
-    requires { inner < 400 }
+    requires { inner < most_nesting }
     ensures value { Gives (λ x. (view_expression x.tree, x.rest.now)) result (paren_at (named bytes.now names.now) (expression_at (named bytes.now names.now) inner) inner 1 false lexemes.now) }
-    ensures height { IfOk result (λ x. IsRead (inner + 1) (view_expression x.tree) x.height x.level) }
+    ensures nesting { IfOk result (λ x. IsRead (inner + 1) (view_expression x.tree) x.nesting x.level) }
 {
-    let found = expression(alloc, bytes, names, inner, 1, lexemes)?;
+    let found = expression(alloc, bytes, names, inner, levels::COMMA, lexemes)?;
     let Some(rest) = behind_right_paren(found.rest) else {
         return Err(Parse::NoTree);
     };
     Ok(Found {
         tree: build::paren(alloc, found.tree)?,
-        height: found.height + 1,
-        level: 17,
+        nesting: found.nesting + 1,
+        level: levels::PRIMARY,
         rest,
     })
 }
@@ -197,9 +200,9 @@ fn size<'a>(
     least: usize,
     lexemes: &'a [Lexeme],
 ) -> Result<Found<'a>, Parse>
-    requires { inner < 400 }
+    requires { inner < most_nesting }
     ensures value { Gives (λ x. (view_expression x.tree, x.rest.now)) result (size_at (named bytes.now names.now) (expression_at (named bytes.now names.now) inner) inner least (opens_type (named bytes.now names.now) (behind_left_paren lexemes.now)) lexemes.now) }
-    ensures height { IfOk result (λ x. IsRead (inner + 1) (view_expression x.tree) x.height x.level) }
+    ensures nesting { IfOk result (λ x. IsRead (inner + 1) (view_expression x.tree) x.nesting x.level) }
 {
     if !opens_type(bytes, names, lexemes) {
         return before(alloc, bytes, names, inner, least, Prefix::Size, lexemes);
@@ -216,8 +219,8 @@ fn size<'a>(
     };
     Ok(Found {
         tree: build::size_name(alloc, target.name)?,
-        height: target.height + 1,
-        level: 15,
+        nesting: target.nesting + 1,
+        level: levels::UNARY,
         rest,
     })
 }
@@ -233,9 +236,9 @@ fn before<'a>(
     prefix: Prefix,
     lexemes: &'a [Lexeme],
 ) -> Result<Found<'a>, Parse>
-    requires { inner < 400 }
+    requires { inner < most_nesting }
     ensures value { Gives (λ x. (view_expression x.tree, x.rest.now)) result (before_at (expression_at (named bytes.now names.now) inner) least (prefix_operand prefix) (prefix_form prefix) lexemes.now) }
-    ensures height { IfOk result (λ x. IsRead (inner + 1) (view_expression x.tree) x.height x.level) }
+    ensures nesting { IfOk result (λ x. IsRead (inner + 1) (view_expression x.tree) x.nesting x.level) }
 {
     if least > 15 {
         return Err(Parse::NoTree);
@@ -243,13 +246,13 @@ fn before<'a>(
     let found = expression(alloc, bytes, names, inner, prefix.operand(), lexemes)?;
     Ok(Found {
         tree: build::prefixed(alloc, prefix, found.tree)?,
-        height: found.height + 1,
-        level: 15,
+        nesting: found.nesting + 1,
+        level: levels::UNARY,
         rest: found.rest,
     })
 }
 
-/// A type name, of at most the height `inner`.
+/// A type name, of at most the nesting `inner`.
 #[cycle(reader)]
 #[tactic(auto, unfolding(stk_grammar::specs::Reading::type_at))]
 fn type_name<'a>(
@@ -259,65 +262,65 @@ fn type_name<'a>(
     inner: usize,
     lexemes: &'a [Lexeme],
 ) -> Result<FoundType<'a>, Parse>
-    requires { inner < 400 }
+    requires { inner < most_nesting }
     ensures value { Gives (λ x. (view_type_name x.name, x.rest.now)) result (type_at (named bytes.now names.now) (expression_at (named bytes.now names.now) inner) inner lexemes.now) }
-    ensures height { IfOk result (λ x. IsTypeRead inner (view_type_name x.name) x.height) }
+    ensures nesting { IfOk result (λ x. IsTypeRead inner (view_type_name x.name) x.nesting) }
 {
     let (form, rest) = base(alloc, bytes, names, lexemes)?;
     let (stars, rest) = stars_at(rest);
     let found = array_parts(alloc, bytes, names, inner, rest)?;
-    let height = (found.height + stars).max(1) + 1;
-    if height > inner {
+    let nesting = (found.nesting + stars).max(1) + 1;
+    if nesting > inner {
         return Err(Parse::NoTree);
     }
     Ok(FoundType {
         name: build::type_name(form, stars as u32, found.list),
-        height,
+        nesting,
         rest: found.rest,
     })
 }
 
-/// The greater of two heights.
-fn higher(left: usize, right: usize) -> usize
+/// The greater of two nestings.
+pub fn higher(left: usize, right: usize) -> usize
     ensures { result ≡ max left right }
 {
     if left < right { right } else { left }
 }
 
-/// Array parts in a row.
+/// Array parts in a row, with sizes that nest at most `inner` deep (C11 6.7.6.2). `NoTree` where a `[` begins none.
 #[cycle(reader)]
-fn array_parts<'a>(
+pub fn array_parts<'a>(
     alloc: Global,
     bytes: &[u8],
     names: &Names,
     inner: usize,
     lexemes: &'a [Lexeme],
 ) -> Result<FoundDimensions<'a>, Parse>
-    requires { inner < 400 }
+    requires { inner ≤ most_nesting }
     ensures value { Gives (λ x. (dimensions (map view_dimension x.list), x.rest.now)) result (dimensions_at (expression_at (named bytes.now names.now) inner) (suc (length lexemes.now)) lexemes.now) }
-    ensures height { IfOk result (λ x. (x.height ≡ dimensions_height (dimensions (map view_dimension x.list))) × (x.height ≤ inner + length lexemes.now)) }
+    ensures nesting { IfOk result (λ x. (x.nesting ≡ dimensions_nesting (dimensions (map view_dimension x.list))) × (x.nesting ≤ inner + length lexemes.now)) }
 {
     let mut list = Vec::new(alloc);
-    let mut height = 0;
+    let mut nesting = 0;
     let mut rest = lexemes;
     while let Some(inside) = behind_left_bracket(rest) {
         let found = array_part(alloc, bytes, names, inner, inside)?;
         list.push(found.part)?;
-        height = higher(height, found.height + list.len());
+        nesting = higher(nesting, found.nesting + list.len());
         rest = found.rest;
     }
     Ok(FoundDimensions {
         list: List::from_vec(list),
-        height,
+        nesting,
         rest,
     })
 }
 
-/// An array part that was read, its height, and the tokens behind it.
+/// An array part that was read, its nesting, and the tokens behind it.
 #[derive(Drop)]
 struct FoundDimension<'a> {
     part: Dimension,
-    height: usize,
+    nesting: usize,
     rest: &'a [Lexeme],
 }
 
@@ -330,24 +333,24 @@ fn array_part<'a>(
     inner: usize,
     lexemes: &'a [Lexeme],
 ) -> Result<FoundDimension<'a>, Parse>
-    requires { inner < 400 }
+    requires { inner ≤ most_nesting }
     ensures value { Gives (λ x. (view_dimension x.part, x.rest.now)) result (dimension_at (expression_at (named bytes.now names.now) inner) (behind_right_bracket lexemes.now) lexemes.now) }
-    ensures height { IfOk result (λ x. (x.height ≡ dimension_height (view_dimension x.part)) × (x.height ≤ inner)) }
+    ensures nesting { IfOk result (λ x. (x.nesting ≡ dimension_nesting (view_dimension x.part)) × (x.nesting ≤ inner)) }
 {
     if let Some(rest) = behind_right_bracket(lexemes) {
         return Ok(FoundDimension {
             part: build::open(),
-            height: 0,
+            nesting: 0,
             rest,
         });
     }
-    let found = expression(alloc, bytes, names, inner, 3, lexemes)?;
+    let found = expression(alloc, bytes, names, inner, levels::CONDITIONAL, lexemes)?;
     let Some(rest) = behind_right_bracket(found.rest) else {
         return Err(Parse::NoTree);
     };
     Ok(FoundDimension {
         part: build::sized(found.tree),
-        height: found.height,
+        nesting: found.nesting,
         rest,
     })
 }
@@ -362,14 +365,14 @@ fn climb<'a>(
     least: usize,
     found: Found<'a>,
 ) -> Result<Found<'a>, Parse>
-    requires room { inner < 400 }
-    requires height { IsRead (inner + 1) (view_expression found.tree) found.height found.level }
+    requires room { inner < most_nesting }
+    requires nesting { IsRead (inner + 1) (view_expression found.tree) found.nesting found.level }
     ensures value { Gives (λ x. (view_expression x.tree, x.rest.now)) result (climb (expression_at (named bytes.now names.now) inner) inner least (suc (suc inner)) (view_expression found.entry.tree) found.entry.rest.now) }
-    ensures height { IfOk result (λ x. IsRead (inner + 1) (view_expression x.tree) x.height x.level) }
+    ensures nesting { IfOk result (λ x. IsRead (inner + 1) (view_expression x.tree) x.nesting x.level) }
 {
     let mut left = found;
     while let Some((suffix, rest)) = taken(least, left.level, left.rest) {
-        if left.height > inner {
+        if left.nesting > inner {
             return Err(Parse::NoTree);
         }
         left = tail(alloc, bytes, names, inner, suffix, left, rest)?;
@@ -389,11 +392,11 @@ fn tail<'a>(
     left: Found<'a>,
     lexemes: &'a [Lexeme],
 ) -> Result<Found<'a>, Parse>
-    requires room { inner < 400 }
-    requires height { IsRead inner (view_expression left.tree) left.height left.level }
+    requires room { inner < most_nesting }
+    requires nesting { IsRead inner (view_expression left.tree) left.nesting left.level }
     ensures value { Gives (λ x. (view_expression x.tree, x.rest.now)) result (tail_at (expression_at (named bytes.now names.now) inner) suffix (view_expression left.entry.tree) lexemes.now) }
-    ensures height { IfOk result (λ x. IsRead (inner + 1) (view_expression x.tree) x.height x.level) }
-    ensures higher { IfOk result (λ x. left.entry.height < x.height) }
+    ensures nesting { IfOk result (λ x. IsRead (inner + 1) (view_expression x.tree) x.nesting x.level) }
+    ensures higher { IfOk result (λ x. left.entry.nesting < x.nesting) }
 {
     match suffix {
         Suffix::Binary(op) => binary_tail(alloc, bytes, names, inner, op, left, lexemes),
@@ -420,17 +423,17 @@ fn binary_tail<'a>(
     left: Found<'a>,
     lexemes: &'a [Lexeme],
 ) -> Result<Found<'a>, Parse>
-    requires room { inner < 400 }
-    requires height { IsRead inner (view_expression left.tree) left.height left.level }
+    requires room { inner < most_nesting }
+    requires nesting { IsRead inner (view_expression left.tree) left.nesting left.level }
     ensures value { Gives (λ x. (view_expression x.tree, x.rest.now)) result (tail_at (expression_at (named bytes.now names.now) inner) (Binary op) (view_expression left.entry.tree) lexemes.now) }
-    ensures height { IfOk result (λ x. IsRead (inner + 1) (view_expression x.tree) x.height x.level) }
-    ensures higher { IfOk result (λ x. left.entry.height < x.height) }
+    ensures nesting { IfOk result (λ x. IsRead (inner + 1) (view_expression x.tree) x.nesting x.level) }
+    ensures higher { IfOk result (λ x. left.entry.nesting < x.nesting) }
 {
     let level = binary_level(op);
     let right = expression(alloc, bytes, names, inner, level + 1, lexemes)?;
     Ok(Found {
         tree: build::binary(alloc, op, left.tree, right.tree)?,
-        height: left.height.max(right.height) + 1,
+        nesting: left.nesting.max(right.nesting) + 1,
         level,
         rest: right.rest,
     })
@@ -448,17 +451,17 @@ fn assign_tail<'a>(
     left: Found<'a>,
     lexemes: &'a [Lexeme],
 ) -> Result<Found<'a>, Parse>
-    requires room { inner < 400 }
-    requires height { IsRead inner (view_expression left.tree) left.height left.level }
+    requires room { inner < most_nesting }
+    requires nesting { IsRead inner (view_expression left.tree) left.nesting left.level }
     ensures value { Gives (λ x. (view_expression x.tree, x.rest.now)) result (tail_at (expression_at (named bytes.now names.now) inner) (Assign op) (view_expression left.entry.tree) lexemes.now) }
-    ensures height { IfOk result (λ x. IsRead (inner + 1) (view_expression x.tree) x.height x.level) }
-    ensures higher { IfOk result (λ x. left.entry.height < x.height) }
+    ensures nesting { IfOk result (λ x. IsRead (inner + 1) (view_expression x.tree) x.nesting x.level) }
+    ensures higher { IfOk result (λ x. left.entry.nesting < x.nesting) }
 {
-    let right = expression(alloc, bytes, names, inner, 2, lexemes)?;
+    let right = expression(alloc, bytes, names, inner, levels::ASSIGNMENT, lexemes)?;
     Ok(Found {
         tree: build::assign(alloc, op, left.tree, right.tree)?,
-        height: left.height.max(right.height) + 1,
-        level: 2,
+        nesting: left.nesting.max(right.nesting) + 1,
+        level: levels::ASSIGNMENT,
         rest: right.rest,
     })
 }
@@ -474,21 +477,21 @@ fn choice_tail<'a>(
     left: Found<'a>,
     lexemes: &'a [Lexeme],
 ) -> Result<Found<'a>, Parse>
-    requires room { inner < 400 }
-    requires height { IsRead inner (view_expression left.tree) left.height left.level }
+    requires room { inner < most_nesting }
+    requires nesting { IsRead inner (view_expression left.tree) left.nesting left.level }
     ensures value { Gives (λ x. (view_expression x.tree, x.rest.now)) result (tail_at (expression_at (named bytes.now names.now) inner) Choice (view_expression left.entry.tree) lexemes.now) }
-    ensures height { IfOk result (λ x. IsRead (inner + 1) (view_expression x.tree) x.height x.level) }
-    ensures higher { IfOk result (λ x. left.entry.height < x.height) }
+    ensures nesting { IfOk result (λ x. IsRead (inner + 1) (view_expression x.tree) x.nesting x.level) }
+    ensures higher { IfOk result (λ x. left.entry.nesting < x.nesting) }
 {
-    let middle = expression(alloc, bytes, names, inner, 1, lexemes)?;
+    let middle = expression(alloc, bytes, names, inner, levels::COMMA, lexemes)?;
     let Some(rest) = behind_colon(middle.rest) else {
         return Err(Parse::NoTree);
     };
-    let last = expression(alloc, bytes, names, inner, 3, rest)?;
+    let last = expression(alloc, bytes, names, inner, levels::CONDITIONAL, rest)?;
     Ok(Found {
         tree: build::choice(alloc, left.tree, middle.tree, last.tree)?,
-        height: left.height.max(middle.height.max(last.height)) + 1,
-        level: 3,
+        nesting: left.nesting.max(middle.nesting.max(last.nesting)) + 1,
+        level: levels::CONDITIONAL,
         rest: last.rest,
     })
 }
@@ -504,20 +507,20 @@ fn index_tail<'a>(
     left: Found<'a>,
     lexemes: &'a [Lexeme],
 ) -> Result<Found<'a>, Parse>
-    requires room { inner < 400 }
-    requires height { IsRead inner (view_expression left.tree) left.height left.level }
+    requires room { inner < most_nesting }
+    requires nesting { IsRead inner (view_expression left.tree) left.nesting left.level }
     ensures value { Gives (λ x. (view_expression x.tree, x.rest.now)) result (tail_at (expression_at (named bytes.now names.now) inner) Index (view_expression left.entry.tree) lexemes.now) }
-    ensures height { IfOk result (λ x. IsRead (inner + 1) (view_expression x.tree) x.height x.level) }
-    ensures higher { IfOk result (λ x. left.entry.height < x.height) }
+    ensures nesting { IfOk result (λ x. IsRead (inner + 1) (view_expression x.tree) x.nesting x.level) }
+    ensures higher { IfOk result (λ x. left.entry.nesting < x.nesting) }
 {
-    let place = expression(alloc, bytes, names, inner, 1, lexemes)?;
+    let place = expression(alloc, bytes, names, inner, levels::COMMA, lexemes)?;
     let Some(rest) = behind_right_bracket(place.rest) else {
         return Err(Parse::NoTree);
     };
     Ok(Found {
         tree: build::index(alloc, left.tree, place.tree)?,
-        height: left.height.max(place.height) + 1,
-        level: 16,
+        nesting: left.nesting.max(place.nesting) + 1,
+        level: levels::POSTFIX,
         rest,
     })
 }
@@ -533,17 +536,17 @@ fn call_tail<'a>(
     left: Found<'a>,
     lexemes: &'a [Lexeme],
 ) -> Result<Found<'a>, Parse>
-    requires room { inner < 400 }
-    requires height { IsRead inner (view_expression left.tree) left.height left.level }
+    requires room { inner < most_nesting }
+    requires nesting { IsRead inner (view_expression left.tree) left.nesting left.level }
     ensures value { Gives (λ x. (view_expression x.tree, x.rest.now)) result (tail_at (expression_at (named bytes.now names.now) inner) Call (view_expression left.entry.tree) lexemes.now) }
-    ensures height { IfOk result (λ x. IsRead (inner + 1) (view_expression x.tree) x.height x.level) }
-    ensures higher { IfOk result (λ x. left.entry.height < x.height) }
+    ensures nesting { IfOk result (λ x. IsRead (inner + 1) (view_expression x.tree) x.nesting x.level) }
+    ensures higher { IfOk result (λ x. left.entry.nesting < x.nesting) }
 {
     let all = arguments(alloc, bytes, names, inner, lexemes)?;
     Ok(Found {
         tree: build::call(alloc, left.tree, all.list)?,
-        height: left.height.max(all.height) + 1,
-        level: 16,
+        nesting: left.nesting.max(all.nesting) + 1,
+        level: levels::POSTFIX,
         rest: all.rest,
     })
 }
@@ -558,26 +561,26 @@ fn arguments<'a>(
     inner: usize,
     lexemes: &'a [Lexeme],
 ) -> Result<FoundAll<'a>, Parse>
-    requires { inner < 400 }
+    requires { inner < most_nesting }
     ensures value { Gives (λ x. (expressions (map view_expression x.list), x.rest.now)) result (arguments (expression_at (named bytes.now names.now) inner) lexemes.now) }
-    ensures height { IfOk result (λ x. AreRead inner (expressions (map view_expression x.list)) x.height) }
+    ensures nesting { IfOk result (λ x. AreRead inner (expressions (map view_expression x.list)) x.nesting) }
 {
     if let Some(rest) = behind_right_paren(lexemes) {
         return Ok(FoundAll {
             list: List::empty(alloc),
-            height: 0,
+            nesting: 0,
             rest,
         });
     }
-    let first = expression(alloc, bytes, names, inner, 2, lexemes)?;
+    let first = expression(alloc, bytes, names, inner, levels::ASSIGNMENT, lexemes)?;
     let mut list = Vec::new(alloc);
     list.push(first.tree.into_inner())?;
-    let mut height = first.height;
+    let mut nesting = first.nesting;
     let mut rest = first.rest;
     while let Some(behind) = behind_comma(rest) {
-        let next = expression(alloc, bytes, names, inner, 2, behind)?;
+        let next = expression(alloc, bytes, names, inner, levels::ASSIGNMENT, behind)?;
         list.push(next.tree.into_inner())?;
-        height = height.max(next.height);
+        nesting = nesting.max(next.nesting);
         rest = next.rest;
     }
     let Some(rest) = behind_right_paren(rest) else {
@@ -585,7 +588,7 @@ fn arguments<'a>(
     };
     Ok(FoundAll {
         list: List::from_vec(list),
-        height,
+        nesting,
         rest,
     })
 }

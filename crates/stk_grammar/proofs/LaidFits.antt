@@ -5,7 +5,7 @@ use Rattle.stk_tree.specs.declared.node.Node.{Node}
 use Rattle.stk_tree.specs.Syntax.{BaseFormTree, BaseTree, DeclrTree, DeclrTrees, DesigTree, DesigTrees, DimensionTree, DimensionTrees, EnumrTree, EnumrTrees, ExprFormTree, ExprTree, ExprTrees, InitTree, ItemTree, ItemTrees, MaybeExprTree, MaybeInitTree, MemberTree, MemberTrees, ParamTree, ParamTrees, TailTree, TypeNameTree}
 use Rattle.stk_tree.specs.Syntax as s
 use Rattle.stk_tree.specs.Layout.{laid_base, laid_base_form, laid_declarator, laid_declarators, laid_designator, laid_designators, laid_dimension, laid_dimensions, laid_enumerator, laid_enumerators, laid_expression, laid_expression_form, laid_expressions, laid_initialiser, laid_item, laid_items, laid_maybe_expression, laid_maybe_initialiser, laid_member, laid_members, laid_parameter, laid_parameters, laid_tail, laid_type_name}
-use Rattle.stk_grammar.specs.Fits.{base_fits, base_form_fits, declarator_fits, declarators_fits, designator_fits, designators_fits, dimension_fits, dimensions_fits, enumerator_fits, enumerators_fits, expression_fits, expression_form_fits, expressions_fits, initialiser_fits, item_fits, items_fits, maybe_expression_fits, maybe_initialiser_fits, member_fits, members_fits, parameter_fits, parameters_fits, tail_fits, type_name_fits}
+use Rattle.stk_tree.specs.Fits.{base_fits, base_form_fits, declarator_fits, declarators_fits, designator_fits, designators_fits, dimension_fits, dimensions_fits, enumerator_fits, enumerators_fits, expression_fits, expression_form_fits, expressions_fits, initialiser_fits, item_fits, items_fits, maybe_expression_fits, maybe_initialiser_fits, member_fits, members_fits, parameter_fits, parameters_fits, tail_fits, type_name_fits}
 
 module _ (set : ℕ → ℕ → ℕ → Node) where
   mutual

@@ -9,16 +9,16 @@ use Rattle.stk_tree.specs.declared.fixed.Fixed.TheVariants as fixed
 use Rattle.stk_tree.specs.declared.fixed.Lexeme.{Lexeme}
 use Rattle.stk_tree.specs.declared.fixed.Lexeme.TheVariants.{Leaf, Fixed as Token}
 use Rattle.stk_tree.specs.Syntax.{ExprTree}
-use Rattle.stk_tree.specs.Height.{expression_height}
+use Rattle.stk_tree.specs.Nesting.{expression_nesting}
 use Rattle.stk_tree.specs.Tokens.{expression_tokens}
-use Rattle.stk_grammar.specs.Bare.{bare_expression}
+use Rattle.stk_tree.specs.Unlaid.{unlaid_expression}
 use Rattle.stk_grammar.specs.Expressions.{IsExpression, OnePlace, OneText, stop_mark, stops}
 use Rattle.stk_grammar.specs.Reading.{expression_at, level, suffix_mark}
 use Rattle.stk_grammar.proofs.Complete.{expression_reads}
 use Rattle.stk_grammar.proofs.Operators.{Ends, EndsAt, some_is}
 use Rattle.stk_grammar.proofs.Prints.{prints, tokens-append}
 use Rattle.stk_grammar.proofs.Sound.{expression_sound}
-use Rattle.stk_grammar.proofs.Well.{IsWell, height-bare, passes_of, well_of}
+use Rattle.stk_grammar.proofs.Well.{IsWell, nesting-unlaid, passes_of, well_of}
 
 mark_ends : (least : ℕ) (f : Fixed) → stop_mark least f ≡ true → EndsAt least (suffix_mark f)
 mark_ends least fixed.RightParen h = tt
@@ -37,13 +37,13 @@ Ends-stops least (Leaf class at ∷ ts) h = absurd cc
 
 -- two trees of a level that stand at the same place are one
 pub one_tree : (named : Span → Bool) (least : ℕ) (s t : ExprTree) (x y : List Lexeme) → IsWell named s → IsWell named t → least ≤ level s → least ≤ level t
-    → Ends least x → Ends least y → expression_tokens s ++ x ≡ expression_tokens t ++ y → (bare_expression s ≡ bare_expression t) × (x ≡ y)
+    → Ends least x → Ends least y → expression_tokens s ++ x ≡ expression_tokens t ++ y → (unlaid_expression s ≡ unlaid_expression t) × (x ≡ y)
 one_tree named least s t x y well_s well_t at_s at_t stop_x stop_y e =
-    let room : ℕ = max (expression_height s) (expression_height t) in
-    let a = expression_reads named room least s x well_s at_s (omega (arith, height-bare named s well_s)) stop_x in
-    let b = expression_reads named room least t y well_t at_t (omega (arith, height-bare named t well_t)) stop_y in
+    let room : ℕ = max (expression_nesting s) (expression_nesting t) in
+    let a = expression_reads named room least s x well_s at_s (omega (arith, nesting-unlaid named s well_s)) stop_x in
+    let b = expression_reads named room least t y well_t at_t (omega (arith, nesting-unlaid named t well_t)) stop_y in
     let same : prints s x ≡ prints t y = sym (tokens-append s x) ∙ e ∙ tokens-append t y in
-    let both = some_is (bare_expression s, x) (bare_expression t, y) (sym a ∙ ap (expression_at named room least) same ∙ b) in
+    let both = some_is (unlaid_expression s, x) (unlaid_expression t, y) (sym a ∙ ap (expression_at named room least) same ∙ b) in
     (ap (λ p. p.0) both, ap (λ p. p.1) both)
 
 pub one_text : OneText
@@ -72,21 +72,21 @@ one_place named least ts from to end s t h k =
 
 -- an expression at a place, and what the reader finds there
 pub found_of_expression : (named : Span → Bool) (least : ℕ) (ts : List Lexeme) (from to : ℕ) (t : ExprTree) → IsExpression named least ts from to t
-    → expression_at named 400 least (drop from ts) ≡ Some (bare_expression t, drop to ts)
+    → expression_at named 400 least (drop from ts) ≡ Some (unlaid_expression t, drop to ts)
 found_of_expression named least ts from to t h =
     let a = well_of named least t h.placed h.fits in
-    let low : expression_height (bare_expression t) ≤ 400 = omega (arith, height-bare named t a.1, h.height) in
+    let low : expression_nesting (unlaid_expression t) ≤ 400 = omega (arith, nesting-unlaid named t a.1, h.nesting) in
     ap (expression_at named 400 least) (tokens_from named least ts from to t h ∙ tokens-append t (drop to ts))
     ∙ expression_reads named 400 least t (drop to ts) a.1 a.0 low (Ends-stops least (drop to ts) h.stop)
 
 -- what the reader finds has no record of its nodes
-pub found_bare : (named : Span → Bool) (room least : ℕ) (ts : List Lexeme) (t : ExprTree) (rest : List Lexeme) → least ≤ 17 → expression_at named room least ts ≡ Some (t, rest) → Ends least rest
-    → bare_expression t ≡ t
-found_bare named room least ts t rest wide e ends =
+pub found_unlaid : (named : Span → Bool) (room least : ℕ) (ts : List Lexeme) (t : ExprTree) (rest : List Lexeme) → least ≤ 17 → expression_at named room least ts ≡ Some (t, rest) → Ends least rest
+    → unlaid_expression t ≡ t
+found_unlaid named room least ts t rest wide e ends =
     let p = expression_sound named room least wide ts (t, rest) e in
-    let low : expression_height (bare_expression t) ≤ room = omega (arith, height-bare named t p.well, p.low) in
+    let low : expression_nesting (unlaid_expression t) ≤ room = omega (arith, nesting-unlaid named t p.well, p.low) in
     let a = expression_reads named room least t rest p.well p.at low ends in
-    let both = some_is (bare_expression t, rest) (t, rest) (sym a ∙ ap (expression_at named room least) (sym p.text) ∙ e) in
+    let both = some_is (unlaid_expression t, rest) (t, rest) (sym a ∙ ap (expression_at named room least) (sym p.text) ∙ e) in
     ap (λ p. p.0) both
 
 pub expression_of_found : (named : Span → Bool) (least : ℕ) (ts : List Lexeme) (from : ℕ) (t : ExprTree) (rest : List Lexeme) → from ≤ length ts → least ≤ 17
@@ -105,7 +105,7 @@ expression_of_found named least ts from t rest within wide e s =
       tokens = ap (λ n. take n (drop from ts)) size ∙ ap (take (length (expression_tokens t))) text ∙ take-append_seam (expression_tokens t) rest;
       placed = passes.0;
       fits = passes.1;
-      height = p.low;
+      nesting = p.low;
       stop = ap (stops least) (sym behind) ∙ s;
     }
 
@@ -117,5 +117,5 @@ none_of_none named least ts from e t to h = let k = found_of_expression named le
 pub none_of_more : (named : Span → Bool) (least : ℕ) (ts : List Lexeme) (from : ℕ) (u : ExprTree) (rest : List Lexeme) → expression_at named 400 least (drop from ts) ≡ Some (u, rest) → stops least rest ≡ false
     → (t : ExprTree) (to : ℕ) → IsExpression named least ts from to t → ⊥
 none_of_more named least ts from u rest e s t to h =
-    let k = some_is (bare_expression t, drop to ts) (u, rest) (sym (found_of_expression named least ts from to t h) ∙ e) in
+    let k = some_is (unlaid_expression t, drop to ts) (u, rest) (sym (found_of_expression named least ts from to t h) ∙ e) in
     false≢true (sym s ∙ ap (stops least) (sym (ap (λ p. p.1) k)) ∙ h.stop)

@@ -1,5 +1,5 @@
 pub mod Complete
-pub mod LaidBare
+pub mod LaidUnlaid
 pub mod LaidFits
 pub mod Laws
 pub mod Operators

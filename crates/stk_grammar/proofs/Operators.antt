@@ -20,11 +20,11 @@ use Rattle.stk_tree.specs.Syntax.{BaseTree, BaseFormTree, TypeNameTree, Dimensio
 use Rattle.stk_tree.specs.Syntax as s
 use Rattle.stk_tree.specs.Placed.{binary_level, form_level, step_level}
 use Rattle.stk_tree.specs.Tokens.{assign_mark, binary_mark, unary_mark}
-use Rattle.stk_grammar.specs.declared.tables.Head.{Head}
-use Rattle.stk_grammar.specs.declared.tables.Head.TheVariants as head
+use Rattle.stk_grammar.specs.declared.tables.Opener.{Opener}
+use Rattle.stk_grammar.specs.declared.tables.Opener.TheVariants as opener
 use Rattle.stk_grammar.specs.declared.tables.Suffix.{Suffix}
 use Rattle.stk_grammar.specs.declared.tables.Suffix.TheVariants as suffix
-use Rattle.stk_grammar.specs.Reading.{◌>>=◌, head_leaf, head_mark, head_of, if_taken, level, suffix_left, suffix_level, suffix_mark, suffix_of, taken}
+use Rattle.stk_grammar.specs.Reading.{◌>>=◌, opener_leaf, opener_mark, opener_of, if_taken, level, suffix_left, suffix_level, suffix_mark, suffix_of, taken}
 
 -- ---- options
 
@@ -330,18 +330,18 @@ taken_is least left (t ∷ ts) x e =
     subst (λ (y : Suffix × List Lexeme). (t ∷ ts ≡ Token (suffix_mark_of y.0) ∷ y.1) × (least ≤ suffix_level y.0) × (suffix_left y.0 ≤ left)) d
     (ap (λ u. u ∷ ts) (suffix_is t a.0 a.1), leb-true _ _ c.0, leb-true _ _ c.1)
 
-abbrev pub head_token : Head → Lexeme
-head_token (head.Name at) = Leaf Word at
-head_token (head.Number at) = Leaf Number at
-head_token (head.Character at) = Leaf Character at
-head_token (head.Text at) = Leaf Text at
-head_token head.Paren = Token fixed.LeftParen
-head_token head.SizeOf = Token fixed.Sizeof
-head_token head.Increment = Token fixed.PlusPlus
-head_token head.Decrement = Token fixed.MinusMinus
-head_token (head.Unary o) = Token (unary_mark o)
+abbrev pub head_token : Opener → Lexeme
+head_token (opener.Name at) = Leaf Word at
+head_token (opener.Number at) = Leaf Number at
+head_token (opener.Character at) = Leaf Character at
+head_token (opener.Text at) = Leaf Text at
+head_token opener.Paren = Token fixed.LeftParen
+head_token opener.SizeOf = Token fixed.Sizeof
+head_token opener.Increment = Token fixed.PlusPlus
+head_token opener.Decrement = Token fixed.MinusMinus
+head_token (opener.Unary o) = Token (unary_mark o)
 
-mark_head_is : (f : Fixed) (h : Head) → head_mark f ≡ Some h → Token f ≡ head_token h
+mark_head_is : (f : Fixed) (h : Opener) → opener_mark f ≡ Some h → Token f ≡ head_token h
 mark_head_is fixed.LeftParen h e = ap head_token (some_is _ h e)
 mark_head_is fixed.Sizeof h e = ap head_token (some_is _ h e)
 mark_head_is fixed.PlusPlus h e = ap head_token (some_is _ h e)
@@ -354,7 +354,7 @@ mark_head_is fixed.Tilde h e = ap head_token (some_is _ h e)
 mark_head_is fixed.Exclamation h e = ap head_token (some_is _ h e)
 mark_head_is f h e = absurd cc
 
-leaf_head_is : (class : Class) (at : Span) (h : Head) → head_leaf class at ≡ Some h → Leaf class at ≡ head_token h
+leaf_head_is : (class : Class) (at : Span) (h : Opener) → opener_leaf class at ≡ Some h → Leaf class at ≡ head_token h
 leaf_head_is Word at h e = ap head_token (some_is _ h e)
 leaf_head_is Number at h e = ap head_token (some_is _ h e)
 leaf_head_is Character at h e = ap head_token (some_is _ h e)
@@ -362,11 +362,11 @@ leaf_head_is Text at h e = ap head_token (some_is _ h e)
 leaf_head_is Mark at h e = absurd cc
 leaf_head_is Stray at h e = absurd cc
 
-pub head_is : (t : Lexeme) (h : Head) → head_of t ≡ Some h → t ≡ head_token h
+pub head_is : (t : Lexeme) (h : Opener) → opener_of t ≡ Some h → t ≡ head_token h
 head_is (Token f) h e = mark_head_is f h e
 head_is (Leaf class at) h e = leaf_head_is class at h e
 
-pub head_of_unary : (o : UnaryOp) → head_of (Token (unary_mark o)) ≡ Some (head.Unary o)
+pub head_of_unary : (o : UnaryOp) → opener_of (Token (unary_mark o)) ≡ Some (opener.Unary o)
 head_of_unary unary.Address = refl
 head_of_unary unary.Deref = refl
 head_of_unary unary.Plus = refl

@@ -9,7 +9,7 @@ use Rattle.stk_tree.specs.declared.fixed.Lexeme.TheVariants.{Leaf, Fixed as Toke
 use Rattle.stk_tree.specs.declared.expression.StepOp.TheVariants.{IncBefore, DecBefore, IncAfter, DecAfter}
 use Rattle.stk_tree.specs.Syntax.{BaseTree, BaseFormTree, TypeNameTree, DimensionTree, DimensionTrees, ExprTree, ExprTrees, ExprFormTree}
 use Rattle.stk_tree.specs.Syntax as s
-use Rattle.stk_tree.specs.Height.{expression_height}
+use Rattle.stk_tree.specs.Nesting.{expression_nesting}
 use Rattle.stk_tree.specs.Tokens.{assign_mark, base_form_tokens, binary_mark, dimension_tokens, dimensions_tokens, expression_form_tokens, expression_tokens, expressions_tokens, more_expressions, reserved, stars, texts, type_name_tokens, unary_mark}
 
 abbrev pub prints_texts : List Span → List Lexeme → List Lexeme
@@ -163,8 +163,8 @@ mutual
       ∙ tokens-append a (Token fixed.Question ∷ prints b (Token fixed.Colon ∷ prints c r))
   form-append (s.assign op a b) r = infix_append (expression_tokens a) (Token (assign_mark op)) (expression_tokens b) r _ (tokens-append b r) ∙ tokens-append a (Token (assign_mark op) ∷ prints b r)
 
-pub height_above : (t : ExprTree) → 0 < expression_height t
-height_above (s.expression n f) = omega arith
+pub nesting_above : (t : ExprTree) → 0 < expression_nesting t
+nesting_above (s.expression n f) = omega arith
 
 texts_longer : (ps : List Span) (r : List Lexeme) → length r ≤ length (prints_texts ps r)
 texts_longer [] r = omega arith

@@ -12,14 +12,14 @@ use Rattle.stk_tree.specs.declared.expression.StepOp.TheVariants.{IncBefore, Dec
 use Rattle.stk_tree.specs.declared.expression.UnaryOp.{UnaryOp}
 use Rattle.stk_tree.specs.Syntax.{BaseTree, BaseFormTree, TypeNameTree, DimensionTree, DimensionTrees, ExprTree, ExprTrees, ExprFormTree}
 use Rattle.stk_tree.specs.Syntax as s
-use Rattle.stk_tree.specs.Height.{expression_height, expressions_height, type_name_height}
+use Rattle.stk_tree.specs.Nesting.{expression_nesting, expressions_nesting, type_name_nesting}
 use Rattle.stk_tree.specs.Placed.{all_basic, binary_level, is_basic}
 use Rattle.stk_tree.specs.Tokens.{assign_mark, binary_mark, unary_mark}
-use Rattle.stk_grammar.specs.declared.tables.Head.{Head}
-use Rattle.stk_grammar.specs.declared.tables.Head.TheVariants as head
+use Rattle.stk_grammar.specs.declared.tables.Opener.{Opener}
+use Rattle.stk_grammar.specs.declared.tables.Opener.TheVariants as opener
 use Rattle.stk_grammar.specs.declared.tables.Suffix.{Suffix}
 use Rattle.stk_grammar.specs.declared.tables.Suffix.TheVariants as suffix
-use Rattle.stk_grammar.specs.Reading.{Found, Sub, made, level, suffix_level, suffix_left, head_of, behind_right_paren, behind_left_paren, behind_right_bracket, behind_left_bracket, behind_colon, behind_comma, word_at, texts_at, begins_type, words_on, words_at, tag_base, words_base, base_at, stars_at, dimension_at, dimensions_on, dimensions_at, type_at, paren_at, before_at, opens_type, size_at, head_at, first_head, arguments_on, more_arguments, arguments_from, arguments, tail_at, taken, climb_on, climb, expression_at}
+use Rattle.stk_grammar.specs.Reading.{Found, Sub, made, level, suffix_level, suffix_left, opener_of, behind_right_paren, behind_left_paren, behind_right_bracket, behind_left_bracket, behind_colon, behind_comma, word_at, texts_at, begins_type, words_on, words_at, tag_base, words_base, base_at, stars_at, dimension_at, dimensions_on, dimensions_at, type_at, paren_at, before_at, opens_type, size_at, operand_at, first_opener, arguments_on, more_arguments, arguments_from, arguments, tail_at, taken, climb_on, climb, expression_at}
 use Rattle.stk_grammar.proofs.Prints.{prints, prints_all, prints_base, prints_dimension, prints_dimensions, prints_more, prints_stars, prints_texts, prints_type, prints_words}
 use Rattle.stk_grammar.proofs.Well.{IsWell, AreWell, IsWellBase, IsWellDimension, AreWellDimensions, IsWellType}
 use Rattle.stk_grammar.proofs.Operators.{bind_some, if_some, unless_some, some_is, true_both, binary_level_low, head_is, head_token, suffix_mark_of, taken_is}
@@ -31,7 +31,7 @@ pub record Answers (named : Span → Bool) (room least : ℕ) (ts : List Lexeme)
   pub text : ts ≡ prints x.0 x.1
   pub well : IsWell named x.0
   pub at : least ≤ level x.0
-  pub low : expression_height x.0 ≤ room
+  pub low : expression_nesting x.0 ≤ room
 
 abbrev pub IsSound : (Span → Bool) → ℕ → Sub → Type 0
 IsSound named room sub = (least : ℕ) → least ≤ 17 → (ts : List Lexeme) (x : ExprTree × List Lexeme) → sub least ts ≡ Some x → Answers named room least ts x
@@ -167,7 +167,7 @@ module _ (named : Span → Bool) (inner : ℕ) (sub : Sub) (sound : IsSound name
   dimensions_sound (suc f) ts x e = dimensions_on_sound (dimensions_at sub f) (behind_left_bracket ts) ts x (λ us y d. dimensions_sound f us y d) refl e
 
   abbrev IsTypeAt : List Lexeme → TypeNameTree × List Lexeme → Type 0
-  IsTypeAt ts y = (ts ≡ prints_type y.0 y.1) × IsWellType named y.0 × (type_name_height y.0 ≤ inner)
+  IsTypeAt ts y = (ts ≡ prints_type y.0 y.1) × IsWellType named y.0 × (type_name_nesting y.0 ≤ inner)
 
   type_sound : (ts : List Lexeme) (y : TypeNameTree × List Lexeme) → type_at named sub inner ts ≡ Some y → IsTypeAt ts y
   unfolding type_at
@@ -215,7 +215,7 @@ module _ (named : Span → Bool) (inner : ℕ) (sub : Sub) (sound : IsSound name
     text : (e : ExprTree) (r : List Lexeme) → u ∷ prints e r ≡ prints (made (form e)) r
     well : (e : ExprTree) → operand ≤ level e → IsWell named e → IsWell named (made (form e))
     at : (e : ExprTree) → level (made (form e)) ≡ 15
-    low : (e : ExprTree) → expression_height (made (form e)) ≡ expression_height e + 1
+    low : (e : ExprTree) → expression_nesting (made (form e)) ≡ expression_nesting e + 1
 
   before_sound : (least operand : ℕ) (form : ExprTree → ExprFormTree) (u : Lexeme) (ts : List Lexeme) (x : ExprTree × List Lexeme) → operand ≤ 17 → IsBefore operand form u
       → before_at sub least operand form ts ≡ Some x → Answers named (suc inner) least (u ∷ ts) x
@@ -259,32 +259,32 @@ module _ (named : Span → Bool) (inner : ℕ) (sub : Sub) (sound : IsSound name
         low = omega (arith, q.2);
       })
 
-  head_sound : (least : ℕ) (h : Head) (ts : List Lexeme) (x : ExprTree × List Lexeme) → least ≤ 17 → head_at named sub inner least h ts ≡ Some x → Answers named (suc inner) least (head_token h ∷ ts) x
-  unfolding head_at
-  head_sound least (head.Name at) ts x wide e =
+  head_sound : (least : ℕ) (h : Opener) (ts : List Lexeme) (x : ExprTree × List Lexeme) → least ≤ 17 → operand_at named sub inner least h ts ≡ Some x → Answers named (suc inner) least (head_token h ∷ ts) x
+  unfolding operand_at
+  head_sound least (opener.Name at) ts x wide e =
       let a = unless_some (named at) _ x e in
       subst (Answers named (suc inner) least (Leaf Word at ∷ ts)) (some_is (made (s.name at), ts) x a.1)
       (record { text = refl; well = a.0; at = wide; low = omega arith })
-  head_sound least (head.Number at) ts x wide e =
+  head_sound least (opener.Number at) ts x wide e =
       subst (Answers named (suc inner) least (Leaf Number at ∷ ts)) (some_is (made (s.number at), ts) x e)
       (record { text = refl; well = tt; at = wide; low = omega arith })
-  head_sound least (head.Character at) ts x wide e =
+  head_sound least (opener.Character at) ts x wide e =
       subst (Answers named (suc inner) least (Leaf Character at ∷ ts)) (some_is (made (s.character at), ts) x e)
       (record { text = refl; well = tt; at = wide; low = omega arith })
-  head_sound least (head.Text at) ts x wide e =
+  head_sound least (opener.Text at) ts x wide e =
       subst (Answers named (suc inner) least (Leaf Text at ∷ ts)) (some_is (made (s.text (at ∷ (texts_at ts).0)), (texts_at ts).1) x e)
       (record { text = ap (λ r. Leaf Text at ∷ r) (texts_is ts); well = refl; at = wide; low = omega arith })
-  head_sound least head.Paren ts x wide e = paren_sound least (begins_type named ts) ts x wide e
-  head_sound least (head.Unary o) ts x wide e = before_sound least 14 (s.unary o) (Token (unary_mark o)) ts x (omega arith) (unary_before o) e
-  head_sound least head.Increment ts x wide e = before_sound least 15 (s.step IncBefore) (Token fixed.PlusPlus) ts x (omega arith) increment_before e
-  head_sound least head.Decrement ts x wide e = before_sound least 15 (s.step DecBefore) (Token fixed.MinusMinus) ts x (omega arith) decrement_before e
-  head_sound least head.SizeOf ts x wide e = size_sound least (opens_type named (behind_left_paren ts)) ts x e
+  head_sound least opener.Paren ts x wide e = paren_sound least (begins_type named ts) ts x wide e
+  head_sound least (opener.Unary o) ts x wide e = before_sound least 14 (s.unary o) (Token (unary_mark o)) ts x (omega arith) (unary_before o) e
+  head_sound least opener.Increment ts x wide e = before_sound least 15 (s.step IncBefore) (Token fixed.PlusPlus) ts x (omega arith) increment_before e
+  head_sound least opener.Decrement ts x wide e = before_sound least 15 (s.step DecBefore) (Token fixed.MinusMinus) ts x (omega arith) decrement_before e
+  head_sound least opener.SizeOf ts x wide e = size_sound least (opens_type named (behind_left_paren ts)) ts x e
 
-  first_sound : (ts : List Lexeme) (h : Head × List Lexeme) → first_head ts ≡ Some h → ts ≡ head_token h.0 ∷ h.1
+  first_sound : (ts : List Lexeme) (h : Opener × List Lexeme) → first_opener ts ≡ Some h → ts ≡ head_token h.0 ∷ h.1
   first_sound [] h e = absurd cc
   first_sound (t ∷ ts) h e =
-      let a = bind_some (head_of t) _ h e in
-      subst (λ (y : Head × List Lexeme). t ∷ ts ≡ head_token y.0 ∷ y.1) (some_is (a.0, ts) h a.2) (ap (λ u. u ∷ ts) (head_is t a.0 a.1))
+      let a = bind_some (opener_of t) _ h e in
+      subst (λ (y : Opener × List Lexeme). t ∷ ts ≡ head_token y.0 ∷ y.1) (some_is (a.0, ts) h a.2) (ap (λ u. u ∷ ts) (head_is t a.0 a.1))
 
   -- ---- what stands behind an operand
 
@@ -292,12 +292,12 @@ module _ (named : Span → Bool) (inner : ℕ) (sub : Sub) (sound : IsSound name
   record AnswersMore (ts : List Lexeme) (x : ExprTrees × List Lexeme) : Type 0 where
     text : ts ≡ prints_more x.0 (Token fixed.RightParen ∷ x.1)
     well : AreWell named x.0
-    low : expressions_height x.0 ≤ inner
+    low : expressions_nesting x.0 ≤ inner
 
   record AnswersAll (ts : List Lexeme) (x : ExprTrees × List Lexeme) : Type 0 where
     text : ts ≡ prints_all x.0 (Token fixed.RightParen ∷ x.1)
     well : AreWell named x.0
-    low : expressions_height x.0 ≤ inner
+    low : expressions_nesting x.0 ≤ inner
 
   arguments_on_sound : (go_on : List Lexeme → Found ExprTrees) (o : Option (List Lexeme)) (ts : List Lexeme) (x : ExprTrees × List Lexeme)
       → ((us : List Lexeme) (y : ExprTrees × List Lexeme) → go_on us ≡ Some y → AnswersMore us y)
@@ -341,7 +341,7 @@ module _ (named : Span → Bool) (inner : ℕ) (sub : Sub) (sound : IsSound name
   unfolding arguments
   arguments_sound ts x e = arguments_from_sound (behind_right_paren ts) ts x refl e
 
-  tail_sound : (y : Suffix) (a : ExprTree) (ts : List Lexeme) (x : ExprTree × List Lexeme) → IsWell named a → suffix_left y ≤ level a → expression_height a ≤ inner → tail_at sub y a ts ≡ Some x
+  tail_sound : (y : Suffix) (a : ExprTree) (ts : List Lexeme) (x : ExprTree × List Lexeme) → IsWell named a → suffix_left y ≤ level a → expression_nesting a ≤ inner → tail_at sub y a ts ≡ Some x
       → Answers named (suc inner) (suffix_level y) (prints a (Token (suffix_mark_of y) ∷ ts)) x
   unfolding tail_at
   tail_sound (suffix.Binary o) a ts x well left low e =
@@ -419,7 +419,7 @@ module _ (named : Span → Bool) (inner : ℕ) (sub : Sub) (sound : IsSound name
       → Answers named (suc inner) least whole x
   climb_on_sound go_on least whole a ts None x later so_far is e = subst (Answers named (suc inner) least whole) (some_is (a, ts) x e) so_far
   climb_on_sound go_on least whole a ts (Some y) x later so_far is e =
-      let c = if_some (nat_le (expression_height a) inner) _ x e in
+      let c = if_some (nat_le (expression_nesting a) inner) _ x e in
       let b = bind_some (tail_at sub y.0 a y.1) (λ z. go_on z.0 z.1) x c.1 in
       let k = taken_is least (level a) ts y is in
       let p = tail_sound y.0 a y.1 b.0 so_far.well k.2 (leb-true _ _ c.0) b.1 in
@@ -438,8 +438,8 @@ expression_sound named zero least wide ts x e = absurd cc
 expression_sound named (suc inner) least wide ts x e =
     let sub = expression_at named inner in
     let sound = expression_sound named inner in
-    let h = bind_some (first_head ts) _ x e in
-    let a = bind_some (head_at named sub inner least h.0.0 h.0.1) (λ a. climb sub inner least (suc (suc inner)) a.0 a.1) x h.2 in
+    let h = bind_some (first_opener ts) _ x e in
+    let a = bind_some (operand_at named sub inner least h.0.0 h.0.1) (λ a. climb sub inner least (suc (suc inner)) a.0 a.1) x h.2 in
     let p = head_sound named inner sub sound least h.0.0 h.0.1 a.0 wide a.1 in
     climb_sound named inner sub sound (suc (suc inner)) least ts a.0.0 a.0.1 x
     (subst (λ us. Answers named (suc inner) least us (a.0.0, a.0.1)) (sym (first_sound named inner sub sound ts h.0 h.1)) p) a.2

@@ -5,10 +5,10 @@ use Rattle.stk_base.specs.declared.span.Span.{Span}
 use Rattle.stk_tree.specs.declared.node.Node.{Node}
 use Rattle.stk_tree.specs.Syntax.{BaseTree, BaseFormTree, TypeNameTree, DimensionTree, DimensionTrees, ExprTree, ExprTrees, ExprFormTree}
 use Rattle.stk_tree.specs.Syntax as s
-use Rattle.stk_tree.specs.Height.{expression_height, expressions_height, expression_form_height, dimension_height, dimensions_height, type_name_height, base_form_height}
-use Rattle.stk_tree.specs.Placed.{arguments_placed, base_form_placed, basic_words, binary_level, dimension_placed, dimensions_placed, expression_form_placed, expression_placed, form_level, is_bare, is_filled, step_level, type_name_placed}
-use Rattle.stk_grammar.specs.Bare.{bare_base_form, bare_dimension, bare_dimensions, bare_expression, bare_expression_form, bare_expressions, bare_type_name}
-use Rattle.stk_grammar.specs.Fits.{base_form_fits, dimension_fits, dimensions_fits, expression_fits, expression_form_fits, expressions_fits, type_name_fits}
+use Rattle.stk_tree.specs.Nesting.{expression_nesting, expressions_nesting, expression_form_nesting, dimension_nesting, dimensions_nesting, type_name_nesting, base_form_nesting}
+use Rattle.stk_tree.specs.Placed.{arguments_placed, base_form_placed, basic_words, binary_level, dimension_placed, dimensions_placed, expression_form_placed, expression_placed, form_level, is_unbraced, is_filled, step_level, type_name_placed}
+use Rattle.stk_tree.specs.Unlaid.{unlaid_base_form, unlaid_dimension, unlaid_dimensions, unlaid_expression, unlaid_expression_form, unlaid_expressions, unlaid_type_name}
+use Rattle.stk_tree.specs.Fits.{base_form_fits, dimension_fits, dimensions_fits, expression_fits, expression_form_fits, expressions_fits, type_name_fits}
 use Rattle.stk_grammar.specs.Reading.{level}
 use Rattle.stk_grammar.proofs.Operators.{both_true, true_both}
 
@@ -69,13 +69,13 @@ pub true_not : (b : Bool) → b ≡ false → not b ≡ true
 true_not true e = absurd cc
 true_not false e = refl
 
-pub base_well : (named : Span → Bool) (n : Node) (b : BaseFormTree) → is_bare (s.base n b) ≡ true → base_form_placed b ≡ true → base_form_fits named b ≡ true → IsWellBase named b
-base_well named n (s.words ws) bare p f = p
-base_well named n (s.struct_ref tag) bare p f = tt
-base_well named n (s.struct_def tag ms) bare p f = absurd cc
-base_well named n (s.enum_ref tag) bare p f = tt
-base_well named n (s.enum_def tag es comma) bare p f = absurd cc
-base_well named n (s.named at) bare p f = f
+pub base_well : (named : Span → Bool) (n : Node) (b : BaseFormTree) → is_unbraced (s.base n b) ≡ true → base_form_placed b ≡ true → base_form_fits named b ≡ true → IsWellBase named b
+base_well named n (s.words ws) unlaid p f = p
+base_well named n (s.struct_ref tag) unlaid p f = tt
+base_well named n (s.struct_def tag ms) unlaid p f = absurd cc
+base_well named n (s.enum_ref tag) unlaid p f = tt
+base_well named n (s.enum_def tag es comma) unlaid p f = absurd cc
+base_well named n (s.named at) unlaid p f = f
 
 mutual
   pub well_of : (named : Span → Bool) (least : ℕ) (t : ExprTree) → expression_placed least t ≡ true → expression_fits named t ≡ true → (least ≤ level t) × IsWell named t
@@ -164,7 +164,7 @@ Passes p q = (p ≡ true) × (q ≡ true)
 both_pass : (p q p' q' : Bool) → Passes p q → Passes p' q' → Passes (p && p') (q && q')
 both_pass p q p' q' a b = (true_both p p' a.0 b.0, true_both q q' a.1 b.1)
 
-pub base_passes : (named : Span → Bool) (n : Node) (b : BaseFormTree) → IsWellBase named b → (is_bare (s.base n b) ≡ true) × (base_form_placed b ≡ true) × (base_form_fits named b ≡ true)
+pub base_passes : (named : Span → Bool) (n : Node) (b : BaseFormTree) → IsWellBase named b → (is_unbraced (s.base n b) ≡ true) × (base_form_placed b ≡ true) × (base_form_fits named b ≡ true)
 base_passes named n (s.words ws) w = (refl, w, refl)
 base_passes named n (s.struct_ref tag) w = (refl, refl, refl)
 base_passes named n (s.struct_def tag ms) w = absurd w
@@ -215,70 +215,70 @@ mutual
 
 -- ---- trees without the records of their nodes
 
-form_level-bare : (f : ExprFormTree) → form_level (bare_expression_form f) ≡ form_level f
-form_level-bare (s.name at) = refl
-form_level-bare (s.number at) = refl
-form_level-bare (s.character at) = refl
-form_level-bare (s.text parts) = refl
-form_level-bare (s.paren e) = refl
-form_level-bare (s.index a b) = refl
-form_level-bare (s.call f args) = refl
-form_level-bare (s.dot e at) = refl
-form_level-bare (s.arrow e at) = refl
-form_level-bare (s.step op e) = refl
-form_level-bare (s.unary op e) = refl
-form_level-bare (s.size_expression e) = refl
-form_level-bare (s.size_name y) = refl
-form_level-bare (s.cast y e) = refl
-form_level-bare (s.binary op a b) = refl
-form_level-bare (s.choice a b c) = refl
-form_level-bare (s.assign op a b) = refl
+form_level-unlaid : (f : ExprFormTree) → form_level (unlaid_expression_form f) ≡ form_level f
+form_level-unlaid (s.name at) = refl
+form_level-unlaid (s.number at) = refl
+form_level-unlaid (s.character at) = refl
+form_level-unlaid (s.text parts) = refl
+form_level-unlaid (s.paren e) = refl
+form_level-unlaid (s.index a b) = refl
+form_level-unlaid (s.call f args) = refl
+form_level-unlaid (s.dot e at) = refl
+form_level-unlaid (s.arrow e at) = refl
+form_level-unlaid (s.step op e) = refl
+form_level-unlaid (s.unary op e) = refl
+form_level-unlaid (s.size_expression e) = refl
+form_level-unlaid (s.size_name y) = refl
+form_level-unlaid (s.cast y e) = refl
+form_level-unlaid (s.binary op a b) = refl
+form_level-unlaid (s.choice a b c) = refl
+form_level-unlaid (s.assign op a b) = refl
 
-pub level-bare : (t : ExprTree) → level (bare_expression t) ≡ level t
-level-bare (s.expression n f) = form_level-bare f
+pub level-unlaid : (t : ExprTree) → level (unlaid_expression t) ≡ level t
+level-unlaid (s.expression n f) = form_level-unlaid f
 
-base_height-bare : (named : Span → Bool) (b : BaseFormTree) → IsWellBase named b → base_form_height (bare_base_form b) ≡ base_form_height b
-base_height-bare named (s.words ws) w = refl
-base_height-bare named (s.struct_ref tag) w = refl
-base_height-bare named (s.struct_def tag ms) w = absurd w
-base_height-bare named (s.enum_ref tag) w = refl
-base_height-bare named (s.enum_def tag es comma) w = absurd w
-base_height-bare named (s.named at) w = refl
+base_nesting-unlaid : (named : Span → Bool) (b : BaseFormTree) → IsWellBase named b → base_form_nesting (unlaid_base_form b) ≡ base_form_nesting b
+base_nesting-unlaid named (s.words ws) w = refl
+base_nesting-unlaid named (s.struct_ref tag) w = refl
+base_nesting-unlaid named (s.struct_def tag ms) w = absurd w
+base_nesting-unlaid named (s.enum_ref tag) w = refl
+base_nesting-unlaid named (s.enum_def tag es comma) w = absurd w
+base_nesting-unlaid named (s.named at) w = refl
 
 mutual
-  pub height-bare : (named : Span → Bool) (t : ExprTree) → IsWell named t → expression_height (bare_expression t) ≡ expression_height t
-  height-bare named (s.expression n f) w = ap (λ h. h + 1) (form_height-bare named f w)
+  pub nesting-unlaid : (named : Span → Bool) (t : ExprTree) → IsWell named t → expression_nesting (unlaid_expression t) ≡ expression_nesting t
+  nesting-unlaid named (s.expression n f) w = ap (λ h. h + 1) (form_nesting-unlaid named f w)
 
-  heights-bare : (named : Span → Bool) (es : ExprTrees) → AreWell named es → expressions_height (bare_expressions es) ≡ expressions_height es
-  heights-bare named s.no_expressions w = refl
-  heights-bare named (s.then_expression x xs) w = rw (height-bare named x w.1, heights-bare named xs w.2) refl
+  nestings-unlaid : (named : Span → Bool) (es : ExprTrees) → AreWell named es → expressions_nesting (unlaid_expressions es) ≡ expressions_nesting es
+  nestings-unlaid named s.no_expressions w = refl
+  nestings-unlaid named (s.then_expression x xs) w = rw (nesting-unlaid named x w.1, nestings-unlaid named xs w.2) refl
 
-  dimension_height-bare : (named : Span → Bool) (d : DimensionTree) → IsWellDimension named d → dimension_height (bare_dimension d) ≡ dimension_height d
-  dimension_height-bare named s.open_dimension w = refl
-  dimension_height-bare named (s.sized e) w = height-bare named e w.1
+  dimension_nesting-unlaid : (named : Span → Bool) (d : DimensionTree) → IsWellDimension named d → dimension_nesting (unlaid_dimension d) ≡ dimension_nesting d
+  dimension_nesting-unlaid named s.open_dimension w = refl
+  dimension_nesting-unlaid named (s.sized e) w = nesting-unlaid named e w.1
 
-  dimensions_height-bare : (named : Span → Bool) (ds : DimensionTrees) → AreWellDimensions named ds → dimensions_height (bare_dimensions ds) ≡ dimensions_height ds
-  dimensions_height-bare named s.no_dimensions w = refl
-  dimensions_height-bare named (s.then_dimension x xs) w = rw (dimension_height-bare named x w.0, dimensions_height-bare named xs w.1) refl
+  dimensions_nesting-unlaid : (named : Span → Bool) (ds : DimensionTrees) → AreWellDimensions named ds → dimensions_nesting (unlaid_dimensions ds) ≡ dimensions_nesting ds
+  dimensions_nesting-unlaid named s.no_dimensions w = refl
+  dimensions_nesting-unlaid named (s.then_dimension x xs) w = rw (dimension_nesting-unlaid named x w.0, dimensions_nesting-unlaid named xs w.1) refl
 
-  type_height-bare : (named : Span → Bool) (y : TypeNameTree) → IsWellType named y → type_name_height (bare_type_name y) ≡ type_name_height y
-  type_height-bare named (s.type_name n (s.base m b) count ds) w = rw (base_height-bare named b w.0, dimensions_height-bare named ds w.1) refl
+  type_nesting-unlaid : (named : Span → Bool) (y : TypeNameTree) → IsWellType named y → type_name_nesting (unlaid_type_name y) ≡ type_name_nesting y
+  type_nesting-unlaid named (s.type_name n (s.base m b) count ds) w = rw (base_nesting-unlaid named b w.0, dimensions_nesting-unlaid named ds w.1) refl
 
-  form_height-bare : (named : Span → Bool) (f : ExprFormTree) → IsWellForm named f → expression_form_height (bare_expression_form f) ≡ expression_form_height f
-  form_height-bare named (s.name at) w = refl
-  form_height-bare named (s.number at) w = refl
-  form_height-bare named (s.character at) w = refl
-  form_height-bare named (s.text parts) w = refl
-  form_height-bare named (s.paren e) w = height-bare named e w.1
-  form_height-bare named (s.index a b) w = rw (height-bare named a w.1, height-bare named b w.3) refl
-  form_height-bare named (s.call f args) w = rw (height-bare named f w.1, heights-bare named args w.2) refl
-  form_height-bare named (s.dot e at) w = height-bare named e w.1
-  form_height-bare named (s.arrow e at) w = height-bare named e w.1
-  form_height-bare named (s.step op e) w = height-bare named e w.1
-  form_height-bare named (s.unary op e) w = height-bare named e w.1
-  form_height-bare named (s.size_expression e) w = height-bare named e w.1
-  form_height-bare named (s.size_name y) w = type_height-bare named y w
-  form_height-bare named (s.cast y e) w = rw (type_height-bare named y w.0, height-bare named e w.2) refl
-  form_height-bare named (s.binary op a b) w = rw (height-bare named a w.1, height-bare named b w.3) refl
-  form_height-bare named (s.choice a b c) w = rw (height-bare named a w.1, height-bare named b w.3, height-bare named c w.5) refl
-  form_height-bare named (s.assign op a b) w = rw (height-bare named a w.1, height-bare named b w.3) refl
+  form_nesting-unlaid : (named : Span → Bool) (f : ExprFormTree) → IsWellForm named f → expression_form_nesting (unlaid_expression_form f) ≡ expression_form_nesting f
+  form_nesting-unlaid named (s.name at) w = refl
+  form_nesting-unlaid named (s.number at) w = refl
+  form_nesting-unlaid named (s.character at) w = refl
+  form_nesting-unlaid named (s.text parts) w = refl
+  form_nesting-unlaid named (s.paren e) w = nesting-unlaid named e w.1
+  form_nesting-unlaid named (s.index a b) w = rw (nesting-unlaid named a w.1, nesting-unlaid named b w.3) refl
+  form_nesting-unlaid named (s.call f args) w = rw (nesting-unlaid named f w.1, nestings-unlaid named args w.2) refl
+  form_nesting-unlaid named (s.dot e at) w = nesting-unlaid named e w.1
+  form_nesting-unlaid named (s.arrow e at) w = nesting-unlaid named e w.1
+  form_nesting-unlaid named (s.step op e) w = nesting-unlaid named e w.1
+  form_nesting-unlaid named (s.unary op e) w = nesting-unlaid named e w.1
+  form_nesting-unlaid named (s.size_expression e) w = nesting-unlaid named e w.1
+  form_nesting-unlaid named (s.size_name y) w = type_nesting-unlaid named y w
+  form_nesting-unlaid named (s.cast y e) w = rw (type_nesting-unlaid named y w.0, nesting-unlaid named e w.2) refl
+  form_nesting-unlaid named (s.binary op a b) w = rw (nesting-unlaid named a w.1, nesting-unlaid named b w.3) refl
+  form_nesting-unlaid named (s.choice a b c) w = rw (nesting-unlaid named a w.1, nesting-unlaid named b w.3, nesting-unlaid named c w.5) refl
+  form_nesting-unlaid named (s.assign op a b) w = rw (nesting-unlaid named a w.1, nesting-unlaid named b w.3) refl

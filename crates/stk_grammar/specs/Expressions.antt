@@ -1,16 +1,17 @@
 -- Where an expression stands among tokens, and the laws of it (C11 6.5).
 use Rattle.std.specs.Prelude.{◌≡◌, ℕ, ◌≤◌, Bool, true, false, IsTrue, List, [], ◌∷◌, ◌++◌, length, drop, slice_range, nat_le}
 use Rattle.stk_base.specs.declared.span.Span.{Span}
+use Rattle.stk_tree.specs.Levels.{comma_level}
 use Rattle.stk_tree.specs.declared.fixed.Fixed.{Fixed}
 use Rattle.stk_tree.specs.declared.fixed.Fixed.TheVariants as fixed
 use Rattle.stk_tree.specs.declared.fixed.Lexeme.{Lexeme}
 use Rattle.stk_tree.specs.declared.fixed.Lexeme.TheVariants.{Leaf, Fixed as Token}
-use Rattle.stk_tree.specs.Height.{expression_height}
+use Rattle.stk_tree.specs.Nesting.{expression_nesting, most_nesting}
 use Rattle.stk_tree.specs.Placed.{expression_placed}
 use Rattle.stk_tree.specs.Syntax.{ExprTree}
 use Rattle.stk_tree.specs.Tokens.{expression_tokens}
-use Rattle.stk_grammar.specs.Bare.{bare_expression}
-use Rattle.stk_grammar.specs.Fits.{expression_fits}
+use Rattle.stk_tree.specs.Unlaid.{unlaid_expression}
+use Rattle.stk_tree.specs.Fits.{expression_fits}
 
 -- whether an expression of a level may end before this mark: before `)`, `]`, `}`, `;`, `:`, and before `,` from level 2 on
 abbrev pub stop_mark : ℕ → Fixed → Bool
@@ -34,7 +35,7 @@ pub record IsExpression (named : Span → Bool) (least : ℕ) (ts : List Lexeme)
   pub tokens : slice_range ts from to ≡ expression_tokens t
   pub placed : IsTrue (expression_placed least t)
   pub fits : IsTrue (expression_fits named t)
-  pub height : expression_height t ≤ 400
+  pub nesting : expression_nesting t ≤ most_nesting
   pub stop : IsTrue (stops least (drop to ts))
 
 -- Some tokens begin with this expression, of a level or a higher one and no higher than there is room; the rest stands behind it, and begins with a stop.
@@ -42,15 +43,15 @@ pub record Leads (named : Span → Bool) (room least : ℕ) (ts : List Lexeme) (
   pub tokens : ts ≡ expression_tokens t ++ rest
   pub placed : IsTrue (expression_placed least t)
   pub fits : IsTrue (expression_fits named t)
-  pub height : expression_height t ≤ room
+  pub nesting : expression_nesting t ≤ room
   pub stop : IsTrue (stops least rest)
 
 -- an expression as one that prints all of some tokens: two of them are equal apart from the records of their nodes
 abbrev pub OneText : Type 0
-OneText = (named : Span → Bool) (x y : ExprTree) → IsTrue (expression_placed 1 x) → IsTrue (expression_placed 1 y) → IsTrue (expression_fits named x) → IsTrue (expression_fits named y)
-    → expression_tokens x ≡ expression_tokens y → bare_expression x ≡ bare_expression y
+OneText = (named : Span → Bool) (x y : ExprTree) → IsTrue (expression_placed comma_level x) → IsTrue (expression_placed comma_level y) → IsTrue (expression_fits named x) → IsTrue (expression_fits named y)
+    → expression_tokens x ≡ expression_tokens y → unlaid_expression x ≡ unlaid_expression y
 
 -- two expressions of a level that begin at one place end at one place, and are equal apart from the records of their nodes
 abbrev pub OnePlace : Type 0
 OnePlace = (named : Span → Bool) (least : ℕ) (ts : List Lexeme) (from to end : ℕ) (x y : ExprTree) → IsExpression named least ts from to x → IsExpression named least ts from end y
-    → (bare_expression x ≡ bare_expression y) × (to ≡ end)
+    → (unlaid_expression x ≡ unlaid_expression y) × (to ≡ end)

@@ -1,5 +1,3 @@
-pub mod Bare
 pub mod Expressions
-pub mod Fits
 pub mod Reading
 pub mod Stopped

@@ -3,6 +3,7 @@ use Rattle.std.specs.Prelude.{ℕ, zero, suc, ◌+◌, Bool, true, false, cond, 
 use Rattle.stk_base.specs.declared.span.Span.{Span}
 use Rattle.stk_base.specs.declared.token.Class.{Class}
 use Rattle.stk_base.specs.declared.token.Class.TheVariants.{Word, Number, Character, Text, Mark, Stray}
+use Rattle.stk_tree.specs.Levels.{comma_level, assignment_level, conditional_level, logical_or_level, cast_level, unary_level, postfix_level}
 use Rattle.stk_tree.specs.declared.fixed.Fixed.{Fixed}
 use Rattle.stk_tree.specs.declared.fixed.Fixed.TheVariants as fixed
 use Rattle.stk_tree.specs.declared.fixed.Lexeme.{Lexeme}
@@ -11,15 +12,15 @@ use Rattle.stk_tree.specs.declared.expression.BinaryOp.TheVariants as binary
 use Rattle.stk_tree.specs.declared.expression.AssignOp.TheVariants as assign
 use Rattle.stk_tree.specs.declared.expression.UnaryOp.TheVariants as unary
 use Rattle.stk_tree.specs.declared.expression.StepOp.TheVariants.{IncBefore, DecBefore, IncAfter, DecAfter}
-use Rattle.stk_tree.specs.Height.{expression_height, type_name_height}
+use Rattle.stk_tree.specs.Nesting.{expression_nesting, type_name_nesting}
 use Rattle.stk_tree.specs.Placed.{binary_level, form_level, is_basic}
 use Rattle.stk_tree.specs.Syntax.{BaseFormTree, DimensionTree, DimensionTrees, ExprFormTree, ExprTree, ExprTrees, TypeNameTree}
 use Rattle.stk_tree.specs.Syntax as s
-use Rattle.stk_grammar.specs.declared.tables.Head.{Head}
-use Rattle.stk_grammar.specs.declared.tables.Head.TheVariants as head
+use Rattle.stk_grammar.specs.declared.tables.Opener.{Opener}
+use Rattle.stk_grammar.specs.declared.tables.Opener.TheVariants as opener
 use Rattle.stk_grammar.specs.declared.tables.Suffix.{Suffix}
 use Rattle.stk_grammar.specs.declared.tables.Suffix.TheVariants as suffix
-use Rattle.stk_grammar.specs.Bare.{no_node}
+use Rattle.stk_tree.specs.Unlaid.{no_node}
 
 infixl 10 ◌>>=◌
 abbrev pub ◌>>=◌ : {A B : Type 0} → Option A → (A → Option B) → Option B
@@ -91,51 +92,51 @@ suffix_of (Leaf class at) = None
 -- the level of the expression that a suffix makes, and the least levels of its first and last operands
 abbrev pub suffix_level : Suffix → ℕ
 suffix_level (suffix.Binary o) = binary_level o
-suffix_level (suffix.Assign o) = 2
-suffix_level suffix.Choice = 3
-suffix_level suffix.Index = 16
-suffix_level suffix.Call = 16
-suffix_level suffix.Dot = 16
-suffix_level suffix.Arrow = 16
-suffix_level suffix.Increment = 16
-suffix_level suffix.Decrement = 16
+suffix_level (suffix.Assign o) = assignment_level
+suffix_level suffix.Choice = conditional_level
+suffix_level suffix.Index = postfix_level
+suffix_level suffix.Call = postfix_level
+suffix_level suffix.Dot = postfix_level
+suffix_level suffix.Arrow = postfix_level
+suffix_level suffix.Increment = postfix_level
+suffix_level suffix.Decrement = postfix_level
 
 abbrev pub suffix_left : Suffix → ℕ
 suffix_left (suffix.Binary o) = binary_level o
-suffix_left (suffix.Assign o) = 15
-suffix_left suffix.Choice = 4
-suffix_left suffix.Index = 16
-suffix_left suffix.Call = 16
-suffix_left suffix.Dot = 16
-suffix_left suffix.Arrow = 16
-suffix_left suffix.Increment = 16
-suffix_left suffix.Decrement = 16
+suffix_left (suffix.Assign o) = unary_level
+suffix_left suffix.Choice = logical_or_level
+suffix_left suffix.Index = postfix_level
+suffix_left suffix.Call = postfix_level
+suffix_left suffix.Dot = postfix_level
+suffix_left suffix.Arrow = postfix_level
+suffix_left suffix.Increment = postfix_level
+suffix_left suffix.Decrement = postfix_level
 
 -- what an operand begins with
-abbrev pub head_mark : Fixed → Option Head
-head_mark fixed.LeftParen = Some head.Paren
-head_mark fixed.Sizeof = Some head.SizeOf
-head_mark fixed.PlusPlus = Some head.Increment
-head_mark fixed.MinusMinus = Some head.Decrement
-head_mark fixed.Ampersand = Some (head.Unary unary.Address)
-head_mark fixed.Star = Some (head.Unary unary.Deref)
-head_mark fixed.Plus = Some (head.Unary unary.Plus)
-head_mark fixed.Minus = Some (head.Unary unary.Minus)
-head_mark fixed.Tilde = Some (head.Unary unary.Flip)
-head_mark fixed.Exclamation = Some (head.Unary unary.Not)
-head_mark other = None
+abbrev pub opener_mark : Fixed → Option Opener
+opener_mark fixed.LeftParen = Some opener.Paren
+opener_mark fixed.Sizeof = Some opener.SizeOf
+opener_mark fixed.PlusPlus = Some opener.Increment
+opener_mark fixed.MinusMinus = Some opener.Decrement
+opener_mark fixed.Ampersand = Some (opener.Unary unary.Address)
+opener_mark fixed.Star = Some (opener.Unary unary.Deref)
+opener_mark fixed.Plus = Some (opener.Unary unary.Plus)
+opener_mark fixed.Minus = Some (opener.Unary unary.Minus)
+opener_mark fixed.Tilde = Some (opener.Unary unary.Flip)
+opener_mark fixed.Exclamation = Some (opener.Unary unary.Not)
+opener_mark other = None
 
-abbrev pub head_leaf : Class → Span → Option Head
-head_leaf Word at = Some (head.Name at)
-head_leaf Number at = Some (head.Number at)
-head_leaf Character at = Some (head.Character at)
-head_leaf Text at = Some (head.Text at)
-head_leaf Mark at = None
-head_leaf Stray at = None
+abbrev pub opener_leaf : Class → Span → Option Opener
+opener_leaf Word at = Some (opener.Name at)
+opener_leaf Number at = Some (opener.Number at)
+opener_leaf Character at = Some (opener.Character at)
+opener_leaf Text at = Some (opener.Text at)
+opener_leaf Mark at = None
+opener_leaf Stray at = None
 
-abbrev pub head_of : Lexeme → Option Head
-head_of (Token f) = head_mark f
-head_of (Leaf class at) = head_leaf class at
+abbrev pub opener_of : Lexeme → Option Opener
+opener_of (Token f) = opener_mark f
+opener_of (Leaf class at) = opener_leaf class at
 
 -- ---- marks and words
 
@@ -251,7 +252,7 @@ stars_at n (t ∷ ts) = (n, t ∷ ts)
 -- an array part, behind its `[`
 abbrev pub dimension_at : Sub → Option (List Lexeme) → List Lexeme → Found DimensionTree
 dimension_at sub (Some rest) ts = Some (s.open_dimension, rest)
-dimension_at sub None ts = sub 3 ts >>= λ e. behind_right_bracket e.1 >>= λ rest. Some (s.sized e.0, rest)
+dimension_at sub None ts = sub conditional_level ts >>= λ e. behind_right_bracket e.1 >>= λ rest. Some (s.sized e.0, rest)
 
 abbrev pub dimensions_on : (List Lexeme → Found DimensionTrees) → Sub → Option (List Lexeme) → List Lexeme → Found DimensionTrees
 dimensions_on go_on sub None ts = Some (s.no_dimensions, ts)
@@ -264,12 +265,12 @@ dimensions_at sub (suc f) ts = dimensions_on (dimensions_at sub f) sub (behind_l
 
 -- a type name, where it isn't too high
 abbrev pub low_type : ℕ → TypeNameTree → List Lexeme → Found TypeNameTree
-low_type inner y rest = cond (nat_le (type_name_height y) inner) (Some (y, rest)) None
+low_type inner y rest = cond (nat_le (type_name_nesting y) inner) (Some (y, rest)) None
 
 abbrev pub behind_stars : Sub → ℕ → BaseFormTree → ℕ × List Lexeme → Found TypeNameTree
 behind_stars sub inner b x = dimensions_at sub (suc (length x.1)) x.1 >>= λ ds. low_type inner (s.type_name no_node (s.base no_node b) x.0 ds.0) ds.1
 
--- a type name, of at most this height
+-- a type name, of at most this nesting
 unfoldable pub type_at : (Span → Bool) → Sub → ℕ → List Lexeme → Found TypeNameTree
 type_at named sub inner ts = base_at named ts >>= λ b. behind_stars sub inner b.0 (stars_at 0 b.1)
 
@@ -277,12 +278,12 @@ type_at named sub inner ts = base_at named ts >>= λ b. behind_stars sub inner b
 
 -- behind a left parenthesis: a cast where a type name begins, and else an expression in parentheses
 abbrev pub paren_at : (Span → Bool) → Sub → ℕ → ℕ → Bool → List Lexeme → Found ExprTree
-paren_at named sub inner least false ts = sub 1 ts >>= λ e. behind_right_paren e.1 >>= λ rest. Some (made (s.paren e.0), rest)
-paren_at named sub inner least true ts = cond (nat_le least 14) (type_at named sub inner ts >>= λ y. behind_right_paren y.1 >>= λ rest. sub 14 rest >>= λ e. Some (made (s.cast y.0 e.0), e.1)) None
+paren_at named sub inner least false ts = sub comma_level ts >>= λ e. behind_right_paren e.1 >>= λ rest. Some (made (s.paren e.0), rest)
+paren_at named sub inner least true ts = cond (nat_le least cast_level) (type_at named sub inner ts >>= λ y. behind_right_paren y.1 >>= λ rest. sub cast_level rest >>= λ e. Some (made (s.cast y.0 e.0), e.1)) None
 
 -- an operator before its operand
 abbrev pub before_at : Sub → ℕ → ℕ → (ExprTree → ExprFormTree) → List Lexeme → Found ExprTree
-before_at sub least operand form ts = cond (nat_le least 15) (sub operand ts >>= λ e. Some (made (form e.0), e.1)) None
+before_at sub least operand form ts = cond (nat_le least unary_level) (sub operand ts >>= λ e. Some (made (form e.0), e.1)) None
 
 -- whether a type name in parentheses begins here
 abbrev pub opens_type : (Span → Bool) → Option (List Lexeme) → Bool
@@ -292,29 +293,29 @@ opens_type named (Some ts) = begins_type named ts
 -- behind `sizeof`
 abbrev pub size_at : (Span → Bool) → Sub → ℕ → ℕ → Bool → List Lexeme → Found ExprTree
 size_at named sub inner least false ts = before_at sub least 15 s.size_expression ts
-size_at named sub inner least true ts = cond (nat_le least 15) (behind_left_paren ts >>= λ inside. type_at named sub inner inside >>= λ y. behind_right_paren y.1 >>= λ rest. Some (made (s.size_name y.0), rest)) None
+size_at named sub inner least true ts = cond (nat_le least unary_level) (behind_left_paren ts >>= λ inside. type_at named sub inner inside >>= λ y. behind_right_paren y.1 >>= λ rest. Some (made (s.size_name y.0), rest)) None
 
-unfoldable pub head_at : (Span → Bool) → Sub → ℕ → ℕ → Head → List Lexeme → Found ExprTree
-head_at named sub inner least (head.Name at) ts = cond (named at) None (Some (made (s.name at), ts))
-head_at named sub inner least (head.Number at) ts = Some (made (s.number at), ts)
-head_at named sub inner least (head.Character at) ts = Some (made (s.character at), ts)
-head_at named sub inner least (head.Text at) ts = Some (made (s.text (at ∷ (texts_at ts).0)), (texts_at ts).1)
-head_at named sub inner least head.Paren ts = paren_at named sub inner least (begins_type named ts) ts
-head_at named sub inner least (head.Unary o) ts = before_at sub least 14 (s.unary o) ts
-head_at named sub inner least head.Increment ts = before_at sub least 15 (s.step IncBefore) ts
-head_at named sub inner least head.Decrement ts = before_at sub least 15 (s.step DecBefore) ts
-head_at named sub inner least head.SizeOf ts = size_at named sub inner least (opens_type named (behind_left_paren ts)) ts
+unfoldable pub operand_at : (Span → Bool) → Sub → ℕ → ℕ → Opener → List Lexeme → Found ExprTree
+operand_at named sub inner least (opener.Name at) ts = cond (named at) None (Some (made (s.name at), ts))
+operand_at named sub inner least (opener.Number at) ts = Some (made (s.number at), ts)
+operand_at named sub inner least (opener.Character at) ts = Some (made (s.character at), ts)
+operand_at named sub inner least (opener.Text at) ts = Some (made (s.text (at ∷ (texts_at ts).0)), (texts_at ts).1)
+operand_at named sub inner least opener.Paren ts = paren_at named sub inner least (begins_type named ts) ts
+operand_at named sub inner least (opener.Unary o) ts = before_at sub least 14 (s.unary o) ts
+operand_at named sub inner least opener.Increment ts = before_at sub least 15 (s.step IncBefore) ts
+operand_at named sub inner least opener.Decrement ts = before_at sub least 15 (s.step DecBefore) ts
+operand_at named sub inner least opener.SizeOf ts = size_at named sub inner least (opens_type named (behind_left_paren ts)) ts
 
 -- what an expression begins with, and what stands behind that token
-abbrev pub first_head : List Lexeme → Option (Head × List Lexeme)
-first_head [] = None
-first_head (t ∷ ts) = head_of t >>= λ h. Some (h, ts)
+abbrev pub first_opener : List Lexeme → Option (Opener × List Lexeme)
+first_opener [] = None
+first_opener (t ∷ ts) = opener_of t >>= λ h. Some (h, ts)
 
 -- ---- what stands behind an operand
 
 abbrev pub arguments_on : (List Lexeme → Found ExprTrees) → Sub → Option (List Lexeme) → List Lexeme → Found ExprTrees
 arguments_on go_on sub None ts = behind_right_paren ts >>= λ rest. Some (s.no_expressions, rest)
-arguments_on go_on sub (Some next) ts = sub 2 next >>= λ e. go_on e.1 >>= λ es. Some (s.then_expression e.0 es.0, es.1)
+arguments_on go_on sub (Some next) ts = sub assignment_level next >>= λ e. go_on e.1 >>= λ es. Some (s.then_expression e.0 es.0, es.1)
 
 -- arguments with a comma before each, up to the `)`; the number bounds the turns
 unfoldable pub more_arguments : Sub → ℕ → List Lexeme → Found ExprTrees
@@ -322,7 +323,7 @@ more_arguments sub zero ts = None
 more_arguments sub (suc f) ts = arguments_on (more_arguments sub f) sub (behind_comma ts) ts
 
 abbrev pub first_argument : Sub → List Lexeme → Found ExprTrees
-first_argument sub ts = sub 2 ts >>= λ e. more_arguments sub (suc (length e.1)) e.1 >>= λ es. Some (s.then_expression e.0 es.0, es.1)
+first_argument sub ts = sub assignment_level ts >>= λ e. more_arguments sub (suc (length e.1)) e.1 >>= λ es. Some (s.then_expression e.0 es.0, es.1)
 
 abbrev pub arguments_from : Sub → Option (List Lexeme) → List Lexeme → Found ExprTrees
 arguments_from sub (Some rest) ts = Some (s.no_expressions, rest)
@@ -334,9 +335,9 @@ arguments sub ts = arguments_from sub (behind_right_paren ts) ts
 
 unfoldable pub tail_at : Sub → Suffix → ExprTree → List Lexeme → Found ExprTree
 tail_at sub (suffix.Binary o) a ts = sub (binary_level o + 1) ts >>= λ b. Some (made (s.binary o a b.0), b.1)
-tail_at sub (suffix.Assign o) a ts = sub 2 ts >>= λ b. Some (made (s.assign o a b.0), b.1)
-tail_at sub suffix.Choice a ts = sub 1 ts >>= λ b. behind_colon b.1 >>= λ rest. sub 3 rest >>= λ c. Some (made (s.choice a b.0 c.0), c.1)
-tail_at sub suffix.Index a ts = sub 1 ts >>= λ i. behind_right_bracket i.1 >>= λ rest. Some (made (s.index a i.0), rest)
+tail_at sub (suffix.Assign o) a ts = sub assignment_level ts >>= λ b. Some (made (s.assign o a b.0), b.1)
+tail_at sub suffix.Choice a ts = sub comma_level ts >>= λ b. behind_colon b.1 >>= λ rest. sub conditional_level rest >>= λ c. Some (made (s.choice a b.0 c.0), c.1)
+tail_at sub suffix.Index a ts = sub comma_level ts >>= λ i. behind_right_bracket i.1 >>= λ rest. Some (made (s.index a i.0), rest)
 tail_at sub suffix.Call a ts = arguments sub ts >>= λ es. Some (made (s.call a es.0), es.1)
 tail_at sub suffix.Dot a ts = word_at ts >>= λ w. Some (made (s.dot a w.0), w.1)
 tail_at sub suffix.Arrow a ts = word_at ts >>= λ w. Some (made (s.arrow a w.0), w.1)
@@ -353,15 +354,15 @@ taken least left (t ∷ ts) = suffix_of t >>= if_taken least left ts
 
 abbrev pub climb_on : (ExprTree → List Lexeme → Found ExprTree) → Sub → ℕ → ExprTree → List Lexeme → Option (Suffix × List Lexeme) → Found ExprTree
 climb_on go_on sub inner a ts None = Some (a, ts)
-climb_on go_on sub inner a ts (Some x) = cond (nat_le (expression_height a) inner) (tail_at sub x.0 a x.1 >>= λ b. go_on b.0 b.1) None
+climb_on go_on sub inner a ts (Some x) = cond (nat_le (expression_nesting a) inner) (tail_at sub x.0 a x.1 >>= λ b. go_on b.0 b.1) None
 
 -- an operand and what stands behind it; the number bounds the turns
 unfoldable pub climb : Sub → ℕ → ℕ → ℕ → ExprTree → List Lexeme → Found ExprTree
 climb sub inner least zero a ts = None
 climb sub inner least (suc f) a ts = climb_on (climb sub inner least f) sub inner a ts (taken least (level a) ts)
 
--- an expression of a level or a higher one, of at most this height
+-- an expression of a level or a higher one, of at most this nesting
 unfoldable pub expression_at : (Span → Bool) → ℕ → Sub
 expression_at named zero least ts = None
-expression_at named (suc inner) least ts = first_head ts >>= λ h. head_at named (expression_at named inner) inner least h.0 h.1
+expression_at named (suc inner) least ts = first_opener ts >>= λ h. operand_at named (expression_at named inner) inner least h.0 h.1
     >>= λ a. climb (expression_at named inner) inner least (suc (suc inner)) a.0 a.1

@@ -10,6 +10,6 @@ use Rattle.stk_grammar.specs.Reading.{◌>>=◌, Found, expression_at}
 abbrev pub if_stopped : ℕ → ExprTree × List Lexeme → Found ExprTree
 if_stopped least e = cond (stops least e.1) (Some e) None
 
--- an expression of a level or a higher one, of at most this height, with a stop behind it
+-- an expression of a level or a higher one, of at most this nesting, with a stop behind it
 unfoldable pub stopped_at : (Span → Bool) → ℕ → ℕ → List Lexeme → Found ExprTree
 stopped_at named room least ts = expression_at named room least ts >>= if_stopped least

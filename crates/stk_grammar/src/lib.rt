@@ -9,11 +9,10 @@ mod tables;
 pub use marks::{
     basic_at, behind_assign, behind_colon, behind_comma, behind_dot, behind_ellipsis,
     behind_left_brace, behind_left_bracket, behind_left_paren, behind_right_brace,
-    behind_right_bracket, behind_right_paren, behind_semicolon, is_basic, is_tag_word, stars_at,
-    word_at,
+    behind_right_bracket, behind_right_paren, behind_semicolon, is_tag_word, stars_at, word_at,
 };
 pub use one_way::{one_place, one_text};
 pub use tables::{
-    Head, Suffix, binary_level, head_leaf, head_mark, head_of, suffix_left, suffix_level,
-    suffix_mark, suffix_of,
+    Opener, Suffix, opener_leaf, opener_mark, opener_of, suffix_left, suffix_level, suffix_mark,
+    suffix_of,
 };

@@ -1,11 +1,10 @@
 //! The tokens behind a mark or a word, where one stands at the front of some tokens.
 
 ghost use Rattle.std.specs.Prelude.{◌≡◌, ◌+◌, ◌≤◌, length, option_map};
-ghost use Rattle.stk_tree.specs.Placed.{is_basic};
 ghost use Rattle.stk_grammar.specs.Reading.{basic_at, behind_assign, behind_colon, behind_comma, behind_dot, behind_ellipsis, behind_left_brace, behind_left_bracket, behind_left_paren, behind_right_brace, behind_right_bracket, behind_right_paren, behind_semicolon, is_tag_word, stars_at, word_at};
 
 use stk_base::{Class, Span};
-use stk_tree::{Fixed, Lexeme};
+use stk_tree::{Fixed, Lexeme, is_basic};
 
 /// The tokens behind a `)`; `None` where something else stands at the front.
 pub fn behind_right_paren(lexemes: &[Lexeme]) -> Option<&[Lexeme]>
@@ -135,23 +134,6 @@ pub fn word_at(lexemes: &[Lexeme]) -> Option<(Span, &[Lexeme])>
         (Lexeme::Leaf(Class::Word, at), rest) => Some((*at, rest)),
         _ => None,
     }
-}
-
-/// Whether a reserved word is one of the words of the basic types (C11 6.7.2).
-pub fn is_basic(word: Fixed) -> bool
-    ensures { result ≡ is_basic word }
-{
-    matches!(
-        word,
-        Fixed::Void
-            | Fixed::Char
-            | Fixed::Short
-            | Fixed::Int
-            | Fixed::Long
-            | Fixed::Signed
-            | Fixed::Unsigned
-            | Fixed::Bool
-    )
 }
 
 /// Whether a tag follows this reserved word: `struct` and `enum` (C11 6.7.2).

@@ -1,15 +1,14 @@
 //! Which token begins what: the tables that the readers of expressions go by.
 
-ghost use Rattle.std.specs.Prelude.{◌≡◌, ◌≤◌};
-ghost use Rattle.stk_tree.specs.Placed.{binary_level};
-ghost use Rattle.stk_grammar.specs.Reading.{head_leaf, head_mark, head_of, suffix_left, suffix_level, suffix_mark, suffix_of};
+ghost use Rattle.std.specs.Prelude.{◌≡◌};
+ghost use Rattle.stk_grammar.specs.Reading.{opener_leaf, opener_mark, opener_of, suffix_left, suffix_level, suffix_mark, suffix_of};
 
 use stk_base::{Class, Span};
-use stk_tree::{AssignOp, BinaryOp, Fixed, Lexeme, UnaryOp};
+use stk_tree::{AssignOp, BinaryOp, Fixed, Lexeme, UnaryOp, binary_level, levels};
 
 /// What an operand begins with, by its first token.
 #[derive(Clone, Copy, Debug, PartialEq, Eq)]
-pub enum Head {
+pub enum Opener {
     Name(Span),
     Number(Span),
     Character(Span),
@@ -91,40 +90,20 @@ pub fn suffix_of(lexeme: Lexeme) -> Option<Suffix>
     }
 }
 
-/// The level of a binary operator (C11 6.5.5 to 6.5.14, 6.5.17).
-pub fn binary_level(op: BinaryOp) -> usize
-    ensures value { result ≡ binary_level op }
-    ensures low { result ≤ 13 }
-{
-    match op {
-        BinaryOp::Comma => 1,
-        BinaryOp::OrElse => 4,
-        BinaryOp::AndAlso => 5,
-        BinaryOp::Or => 6,
-        BinaryOp::Xor => 7,
-        BinaryOp::And => 8,
-        BinaryOp::Eq | BinaryOp::Ne => 9,
-        BinaryOp::Lt | BinaryOp::Gt | BinaryOp::Le | BinaryOp::Ge => 10,
-        BinaryOp::Left | BinaryOp::Right => 11,
-        BinaryOp::Add | BinaryOp::Sub => 12,
-        BinaryOp::Mul | BinaryOp::Div | BinaryOp::Rem => 13,
-    }
-}
-
 /// The level of the expression that a suffix makes.
 pub fn suffix_level(suffix: Suffix) -> usize
     ensures { result ≡ suffix_level suffix }
 {
     match suffix {
         Suffix::Binary(op) => binary_level(op),
-        Suffix::Assign(_) => 2,
-        Suffix::Choice => 3,
+        Suffix::Assign(_) => levels::ASSIGNMENT,
+        Suffix::Choice => levels::CONDITIONAL,
         Suffix::Index
         | Suffix::Call
         | Suffix::Dot
         | Suffix::Arrow
         | Suffix::Increment
-        | Suffix::Decrement => 16,
+        | Suffix::Decrement => levels::POSTFIX,
     }
 }
 
@@ -134,55 +113,55 @@ pub fn suffix_left(suffix: Suffix) -> usize
 {
     match suffix {
         Suffix::Binary(op) => binary_level(op),
-        Suffix::Assign(_) => 15,
-        Suffix::Choice => 4,
+        Suffix::Assign(_) => levels::UNARY,
+        Suffix::Choice => levels::LOGICAL_OR,
         Suffix::Index
         | Suffix::Call
         | Suffix::Dot
         | Suffix::Arrow
         | Suffix::Increment
-        | Suffix::Decrement => 16,
+        | Suffix::Decrement => levels::POSTFIX,
     }
 }
 
 /// What an operand that begins with this mark begins with; `None` where none does.
-pub fn head_mark(mark: Fixed) -> Option<Head>
-    ensures { result ≡ head_mark mark }
+pub fn opener_mark(mark: Fixed) -> Option<Opener>
+    ensures { result ≡ opener_mark mark }
 {
     match mark {
-        Fixed::LeftParen => Some(Head::Paren),
-        Fixed::Sizeof => Some(Head::SizeOf),
-        Fixed::PlusPlus => Some(Head::Increment),
-        Fixed::MinusMinus => Some(Head::Decrement),
-        Fixed::Ampersand => Some(Head::Unary(UnaryOp::Address)),
-        Fixed::Star => Some(Head::Unary(UnaryOp::Deref)),
-        Fixed::Plus => Some(Head::Unary(UnaryOp::Plus)),
-        Fixed::Minus => Some(Head::Unary(UnaryOp::Minus)),
-        Fixed::Tilde => Some(Head::Unary(UnaryOp::Flip)),
-        Fixed::Exclamation => Some(Head::Unary(UnaryOp::Not)),
+        Fixed::LeftParen => Some(Opener::Paren),
+        Fixed::Sizeof => Some(Opener::SizeOf),
+        Fixed::PlusPlus => Some(Opener::Increment),
+        Fixed::MinusMinus => Some(Opener::Decrement),
+        Fixed::Ampersand => Some(Opener::Unary(UnaryOp::Address)),
+        Fixed::Star => Some(Opener::Unary(UnaryOp::Deref)),
+        Fixed::Plus => Some(Opener::Unary(UnaryOp::Plus)),
+        Fixed::Minus => Some(Opener::Unary(UnaryOp::Minus)),
+        Fixed::Tilde => Some(Opener::Unary(UnaryOp::Flip)),
+        Fixed::Exclamation => Some(Opener::Unary(UnaryOp::Not)),
         _ => None,
     }
 }
 
 /// What an operand that begins with a leaf of this class begins with; `None` where none does.
-pub fn head_leaf(class: Class, at: Span) -> Option<Head>
-    ensures { result ≡ head_leaf class at }
+pub fn opener_leaf(class: Class, at: Span) -> Option<Opener>
+    ensures { result ≡ opener_leaf class at }
 {
     match class {
-        Class::Word => Some(Head::Name(at)),
-        Class::Number => Some(Head::Number(at)),
-        Class::Character => Some(Head::Character(at)),
-        Class::Text => Some(Head::Text(at)),
+        Class::Word => Some(Opener::Name(at)),
+        Class::Number => Some(Opener::Number(at)),
+        Class::Character => Some(Opener::Character(at)),
+        Class::Text => Some(Opener::Text(at)),
         Class::Mark | Class::Stray => None,
     }
 }
 
 /// What an operand that begins with this token begins with; `None` where none does.
-pub fn head_of(lexeme: Lexeme) -> Option<Head>
-    ensures { result ≡ head_of lexeme }
+pub fn opener_of(lexeme: Lexeme) -> Option<Opener>
+    ensures { result ≡ opener_of lexeme }
 {
     match lexeme {
-        Lexeme::Fixed(mark) => head_mark(mark),
-        Lexeme::Leaf(class, at) => head_leaf(class, at),
+        Lexeme::Fixed(mark) => opener_mark(mark),
+        Lexeme::Leaf(class, at) => opener_leaf(class, at),
     }
 }

@@ -1,3 +1,4 @@
 pub mod Maps
 pub mod Judging
 pub mod SetLaws
+pub mod Lawful

@@ -6,4 +6,6 @@ mod maps;
 mod set_laws;
 
 pub use judging::judge;
-pub use set_laws::{each_member_is_needed, sufficient_set_has_member};
+pub use set_laws::{
+    each_candidate_has_a_finding, each_member_is_needed, sufficient_set_has_member,
+};

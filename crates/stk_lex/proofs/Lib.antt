@@ -8,7 +8,7 @@ pub mod Digits
 pub mod Parts
 pub mod Lines
 pub mod Stands
-pub mod Marks
+pub mod ReadMarkers
 pub mod GapsLongest
 pub mod OnePlace
 pub mod PlaceOf

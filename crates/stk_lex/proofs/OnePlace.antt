@@ -3,11 +3,11 @@ use Rattle.std.proofs.Common.{◌≡◌, ℕ, zero, suc, ◌+◌, ◌-◌, ◌<�
 use Rattle.std.proofs.lemmas.Bool.{false≢true, eqb-true, cases_order}
 use Rattle.stk_base.specs.declared.span.Span.{Span}
 use Rattle.stk_base.specs.declared.token.Place.{Place}
-use Rattle.stk_lex.specs.declared.markers.Mark.{Mark}
+use Rattle.stk_lex.specs.declared.markers.Marker.{Marker}
 use Rattle.stk_lex.specs.Gaps.{begins, gap}
 use Rattle.stk_lex.specs.Place.{gap_part, MarkerStands, line_after, newlines_before, IsLineAt, unmarked, marked, IsLineStart, IsPlace}
 use Rattle.stk_lex.proofs.Lines.{before_newline, before_more}
-use Rattle.stk_lex.proofs.Marks.{mark_is_read}
+use Rattle.stk_lex.proofs.ReadMarkers.{marker_is_read}
 use Rattle.stk_lex.proofs.Parts.{parts_apart}
 
 -- ---- where a line begins
@@ -38,39 +38,39 @@ one_start text place s t first second = elim (cases_order s t) [
 
 -- ---- the last marker
 
-no_earlier : (text : List ℕ) (a b : ℕ) (m n : Mark) → MarkerStands text a m → MarkerStands text b n → line_after text a ≡ line_after text b → a < b → ⊥
+no_earlier : (text : List ℕ) (a b : ℕ) (m n : Marker) → MarkerStands text a m → MarkerStands text b n → line_after text a ≡ line_after text b → a < b → ⊥
 no_earlier text a b m n first second e before =
     let apart = parts_apart text a b (gap text a) first.part second.part (gap_part first.directive.0 refl) before in
     omega (arith, apart, e, second.directive.0)
 
-one_hash : (text : List ℕ) (a b : ℕ) (m n : Mark) → MarkerStands text a m → MarkerStands text b n → line_after text a ≡ line_after text b → a ≡ b
+one_hash : (text : List ℕ) (a b : ℕ) (m n : Marker) → MarkerStands text a m → MarkerStands text b n → line_after text a ≡ line_after text b → a ≡ b
 one_hash text a b m n first second e = elim (cases_order a b) [
   | inl same ↦ same
   | inr o ↦ elim o [ inl less ↦ absurd (no_earlier text a b m n first second e less) | inr more ↦ absurd (no_earlier text b a n m second first (sym e) more) ]
 ]
 
-some_mark : (m n : Mark) → ◌≡◌ {A = Option Mark} (Some m) (Some n) → m ≡ n
-some_mark m n e = cc
+some_marker : (m n : Marker) → ◌≡◌ {A = Option Marker} (Some m) (Some n) → m ≡ n
+some_marker m n e = cc
 
-one_mark : (text : List ℕ) (a : ℕ) (m n : Mark) → MarkerStands text a m → MarkerStands text a n → m ≡ n
-one_mark text a m n first second =
-    some_mark m n (sym (mark_is_read (take (gap text a) (drop a text)) m first.form) ∙ mark_is_read (take (gap text a) (drop a text)) n second.form)
+one_marker : (text : List ℕ) (a : ℕ) (m n : Marker) → MarkerStands text a m → MarkerStands text a n → m ≡ n
+one_marker text a m n first second =
+    some_marker m n (sym (marker_is_read (take (gap text a) (drop a text)) m first.form) ∙ marker_is_read (take (gap text a) (drop a text)) n second.form)
 
-same_file : (a b : ℕ) (m n : Mark) → a ≡ b → m ≡ n → ◌≡◌ {A = Option Span} (Some (record { from = a + m.from; to = a + m.to })) (Some (record { from = b + n.from; to = b + n.to }))
+same_file : (a b : ℕ) (m n : Marker) → a ≡ b → m ≡ n → ◌≡◌ {A = Option Span} (Some (record { from = a + m.from; to = a + m.to })) (Some (record { from = b + n.from; to = b + n.to }))
 same_file a b m n e f = cc
 
 one_line : (text : List ℕ) (place : ℕ) (file file' : Option Span) (number number' : ℕ) → IsLineAt text place file number → IsLineAt text place file' number' → (file ≡ file') × (number ≡ number')
 one_line text place file file' number number' (unmarked none e f) (unmarked none' e' f') = (e ∙ sym e', f ∙ sym f')
-one_line text place file file' number number' (unmarked none e f) (marked {at = at} {mark = mark} is fits none' e' f') = absurd (none at mark is (omega arith) fits)
-one_line text place file file' number number' (marked {at = at} {mark = mark} is fits none e f) (unmarked none' e' f') = absurd (none' at mark is (omega arith) fits)
-one_line text place file file' number number' (marked {at = a} {mark = m} is fits none e f) (marked {at = b} {mark = n} is' fits' none' e' f') = by_order (cases_order (line_after text a) (line_after text b)) where
+one_line text place file file' number number' (unmarked none e f) (marked {at = at} {marker = marker} is fits none' e' f') = absurd (none at marker is (omega arith) fits)
+one_line text place file file' number number' (marked {at = at} {marker = marker} is fits none e f) (unmarked none' e' f') = absurd (none' at marker is (omega arith) fits)
+one_line text place file file' number number' (marked {at = a} {marker = m} is fits none e f) (marked {at = b} {marker = n} is' fits' none' e' f') = by_order (cases_order (line_after text a) (line_after text b)) where
   agree : line_after text a ≡ line_after text b → (file ≡ file') × (number ≡ number')
   agree same =
       let hash : a ≡ b = one_hash text a b m n is is' same in
-      let mark : m ≡ n = one_mark text b m n (subst (λ x. MarkerStands text x m) hash is) is' in
-      let named : m.number ≡ n.number = ap (λ (x : Mark). x.number) mark in
+      let marker : m ≡ n = one_marker text b m n (subst (λ x. MarkerStands text x m) hash is) is' in
+      let named : m.number ≡ n.number = ap (λ (x : Marker). x.number) marker in
       let counted : newlines_before text (line_after text a) ≡ newlines_before text (line_after text b) = ap (newlines_before text) same in
-      (e ∙ same_file a b m n hash mark ∙ sym e', omega (arith, f, f', named, counted))
+      (e ∙ same_file a b m n hash marker ∙ sym e', omega (arith, f, f', named, counted))
 
   by_order : (line_after text a ≡ line_after text b) ⊎ ((line_after text a < line_after text b) ⊎ (line_after text b < line_after text a)) → (file ≡ file') × (number ≡ number')
   by_order (inl same) = agree same

@@ -6,14 +6,14 @@ use Rattle.std.proofs.lemmas.List.{length-drop, drop_more}
 use Rattle.stk_base.specs.declared.token.Class.{Class}
 use Rattle.stk_base.specs.declared.token.Class.TheVariants as classes
 use Rattle.stk_base.specs.declared.token.Place.{Place}
-use Rattle.stk_lex.specs.declared.markers.Mark.{Mark}
+use Rattle.stk_lex.specs.declared.markers.Marker.{Marker}
 use Rattle.stk_lex.specs.declared.placing.Line.{Line}
 use Rattle.stk_lex.specs.declared.placing.Stand.{Stand}
 use Rattle.stk_lex.specs.Classes.{is_word, is_number, is_character, is_text, is_mark, is_digraph}
 use Rattle.stk_lex.specs.Gaps.{line, begins, comment, only_blanks, gap}
 use Rattle.stk_lex.specs.Cut.{begins_quote, begins_comment, is_form, digraph, InClass, IsFirst}
 use Rattle.stk_lex.specs.Lengths.{character_length, text_length, form_length}
-use Rattle.stk_lex.specs.MarkerReading.{mark_of}
+use Rattle.stk_lex.specs.MarkerReading.{marker_of}
 use Rattle.stk_lex.specs.Place.{IsPart, gap_part, token_part, PartBegins, MarkerStands, NoMarker, IsPlace}
 use Rattle.stk_lex.specs.Stands.{IsLine, IsStand}
 use Rattle.stk_lex.specs.Placing.{or_else, first_length, part_length, marker_at, next_line, line_along, stand_behind, next_stand, first_stand, stand_up_to, place_behind, place_of}
@@ -21,7 +21,7 @@ use Rattle.stk_lex.proofs.Digits.{few_decimal}
 use Rattle.stk_lex.proofs.First.{form_is_longest, stray_quote, stray_comment, first_form, stray_byte, endless}
 use Rattle.stk_lex.proofs.GapsLongest.{gap_is_longest}
 use Rattle.stk_lex.proofs.Lines.{none_within, line_turns, line_stays}
-use Rattle.stk_lex.proofs.Marks.{marker_is_there, no_marker_there}
+use Rattle.stk_lex.proofs.ReadMarkers.{marker_is_there, no_marker_there}
 use Rattle.stk_lex.proofs.Stands.{is_first_stand, none_between, plain_stand, marker_stand, marker_part}
 use Rattle.stk_lex.proofs.OnePlace.{one_place}
 
@@ -117,16 +117,16 @@ along_is text at (suc n) here fits none is =
 
 -- ---- the marker at a place
 
-pub data IsMarkerOf (text : List ℕ) (at : ℕ) : Option Mark → Type 0 where
-  no_mark : ((mark : Mark) → MarkerStands text at mark → ⊥) → IsMarkerOf text at None
-  a_mark : {mark : Mark} → MarkerStands text at mark → mark.number < 1000000000 → IsMarkerOf text at (Some mark)
+pub data IsMarkerOf (text : List ℕ) (at : ℕ) : Option Marker → Type 0 where
+  no_marker : ((marker : Marker) → MarkerStands text at marker → ⊥) → IsMarkerOf text at None
+  a_marker : {marker : Marker} → MarkerStands text at marker → marker.number < 1000000000 → IsMarkerOf text at (Some marker)
 
-marker_bound : (text : List ℕ) (at : ℕ) (mark : Mark) → MarkerStands text at mark → mark.number < 1000000000
-marker_bound text at mark is = let f = is.form in rw f.number (few_decimal f.digits f.are_digits.1 f.are_digits.2)
+marker_bound : (text : List ℕ) (at : ℕ) (marker : Marker) → MarkerStands text at marker → marker.number < 1000000000
+marker_bound text at marker is = let f = is.form in rw f.number (few_decimal f.digits f.are_digits.1 f.are_digits.2)
 
-marker_found : (text : List ℕ) (at : ℕ) (found : Option Mark) → IfSome found (λ m. MarkerStands text at m) → IfNone found ((m : Mark) → MarkerStands text at m → ⊥) → IsMarkerOf text at found
-marker_found text at None some none = no_mark none
-marker_found text at (Some mark) some none = a_mark some (marker_bound text at mark some)
+marker_found : (text : List ℕ) (at : ℕ) (found : Option Marker) → IfSome found (λ m. MarkerStands text at m) → IfNone found ((m : Marker) → MarkerStands text at m → ⊥) → IsMarkerOf text at found
+marker_found text at None some none = no_marker none
+marker_found text at (Some marker) some none = a_marker some (marker_bound text at marker some)
 
 three_true : (p q r : Bool) → (p && q && r) ≡ true → (p ≡ true) × (q ≡ true) × (r ≡ true)
 three_true true true true e = (refl, refl, refl)
@@ -135,12 +135,12 @@ three_true true false r e = absurd (false≢true e)
 three_true false q r e = absurd (false≢true e)
 
 marker_on : (text : List ℕ) (at : ℕ) (p : Bool) → (nat_lt 0 (gap text at) && nat_lt (at + gap text at) (length text) && begins 35 (drop at text)) ≡ p → PartBegins text at
-    → IsMarkerOf text at (cond p (mark_of (drop 1 (take (gap text at) (drop at text)))) None)
+    → IsMarkerOf text at (cond p (marker_of (drop 1 (take (gap text at) (drop at text)))) None)
 marker_on text at true e part =
     let t = three_true (nat_lt 0 (gap text at)) (nat_lt (at + gap text at) (length text)) (begins 35 (drop at text)) e in
-    let found = mark_of (drop 1 (take (gap text at) (drop at text))) in
+    let found = marker_of (drop 1 (take (gap text at) (drop at text))) in
     marker_found text at found (marker_is_there text at found part (ltb-true 0 (gap text at) t.0) t.2 (ltb-true (at + gap text at) (length text) t.1) refl) (no_marker_there text at found refl)
-marker_on text at false e part = no_mark (λ mark is. false≢true (sym e ∙ rw (lt-ltb 0 (gap text at) is.directive.0, lt-ltb (at + gap text at) (length text) is.ended, is.directive.1) refl))
+marker_on text at false e part = no_marker (λ marker is. false≢true (sym e ∙ rw (lt-ltb 0 (gap text at) is.directive.0, lt-ltb (at + gap text at) (length text) is.ended, is.directive.1) refl))
 
 marker_is : (text : List ℕ) (at : ℕ) → PartBegins text at → IsMarkerOf text at (marker_at text at)
 unfolding marker_at
@@ -153,24 +153,24 @@ pub record IsNext (text : List ℕ) (stand next : Stand) : Type 0 where
   pub further : stand.at < next.at
   pub between : NoMarker text stand.at (next.at - 1)
 
-next_by : (text : List ℕ) (stand : Stand) (found : Option Mark) → IsMarkerOf text stand.at found → IsStand text stand → IsPartOf text stand.at (part_length text stand.at) → IsNext text stand (stand_behind text stand found)
+next_by : (text : List ℕ) (stand : Stand) (found : Option Marker) → IsMarkerOf text stand.at found → IsStand text stand → IsPartOf text stand.at (part_length text stand.at) → IsNext text stand (stand_behind text stand found)
 unfolding stand_behind
-next_by text stand None (no_mark none) here p =
+next_by text stand None (no_marker none) here p =
     let n = part_length text stand.at in
-    let between = none_between text stand n here p.part (λ mark is. absurd (none mark is)) in
+    let between = none_between text stand n here p.part (λ marker is. absurd (none marker is)) in
     record {
       is = plain_stand text stand n (line_along text stand.at n stand.line) here p.part p.fits none (along_is text stand.at n stand.line p.fits between here.line);
       further = omega (arith, p.some);
       between = none_within text stand.at (stand.at + n) stand.at (stand.at + n - 1) between (omega arith) (omega arith);
     }
-next_by text stand (Some mark) (a_mark is few) here p =
+next_by text stand (Some marker) (a_marker is few) here p =
     let n = part_length text stand.at in
-    let long = marker_part text stand.at n mark is p.part in
+    let long = marker_part text stand.at n marker is p.part in
     let back : stand.at + n + 1 - 1 ≡ stand.at + n = omega arith in
     record {
-      is = marker_stand text stand n mark here p.part is few;
+      is = marker_stand text stand n marker here p.part is few;
       further = omega arith;
-      between = rw back (none_between text stand n here p.part (λ mark is. omega (arith, long)));
+      between = rw back (none_between text stand n here p.part (λ marker is. omega (arith, long)));
     }
 
 next_stand_is : (text : List ℕ) (stand : Stand) → IsStand text stand → stand.at < length text → IsNext text stand (next_stand text stand)
@@ -185,7 +185,7 @@ pub record IsReached (text : List ℕ) (at : ℕ) (stand : Stand) : Type 0 where
   pub between : NoMarker text stand.at at
 
 no_marker_here : (text : List ℕ) (at : ℕ) → NoMarker text at at
-no_marker_here text at = λ k mark is above within. omega (arith, above, within)
+no_marker_here text at = λ k marker is above within. omega (arith, above, within)
 
 and_true : (p q : Bool) → (p && q) ≡ true → (p ≡ true) × (q ≡ true)
 and_true true true e = (refl, refl)

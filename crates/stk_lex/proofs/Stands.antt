@@ -4,7 +4,7 @@ use Rattle.std.specs.Prelude.{◌==◌}
 use Rattle.std.proofs.lemmas.Bool.{false≢true, eqb-true, cases_order}
 use Rattle.std.proofs.lemmas.Bool.Decides.{nat_tests}
 use Rattle.std.proofs.lemmas.List.{drop-drop, length-drop}
-use Rattle.stk_lex.specs.declared.markers.Mark.{Mark}
+use Rattle.stk_lex.specs.declared.markers.Marker.{Marker}
 use Rattle.stk_lex.specs.declared.placing.Line.{Line}
 use Rattle.stk_lex.specs.declared.placing.Stand.{Stand}
 use Rattle.stk_lex.specs.Gaps.{line, begins, only_blanks, gap_at, gap}
@@ -42,8 +42,8 @@ not_both [] h k = absurd (false≢true h)
 not_both (b ∷ bs) h k = grind (arith, nat_tests)
 
 -- a newline ends a marker's line
-newline_behind : (text : List ℕ) (at : ℕ) (mark : Mark) → MarkerStands text at mark → begins 10 (drop (at + gap text at) text) ≡ true
-newline_behind text at mark is =
+newline_behind : (text : List ℕ) (at : ℕ) (marker : Marker) → MarkerStands text at marker → begins 10 (drop (at + gap text at) text) ≡ true
+newline_behind text at marker is =
     let long : gap text at ≡ line (drop at text) = hash_gap (drop at text) (only_blanks true (take at text)) is.directive.1 is.directive.0 in
     let fits : line (drop at text) < length (drop at text) = omega (arith, long, is.ended, length-drop at text) in
     ap (begins 10) (sym (drop-drop (gap text at) at text)) ∙ rw long (line_end (drop at text) fits)
@@ -56,51 +56,51 @@ is_first_stand text = record {
   within = omega arith;
   part = first_part;
   line = record {
-    numbered = unmarked (λ at mark is above within. omega arith) refl refl;
+    numbered = unmarked (λ at marker is above within. omega arith) refl refl;
     start = record { before = omega arith; fresh = inl refl; same_line = refl };
     bound = omega arith;
   };
-  settled = λ at mark is before. absurd (omega arith);
+  settled = λ at marker is before. absurd (omega arith);
 }
 
 -- no line behind a marker begins before the end of the next part
-pub none_between : (text : List ℕ) (stand : Stand) (n : ℕ) → IsStand text stand → IsPart text stand.at n → ((mark : Mark) → MarkerStands text stand.at mark → stand.at + n < line_after text stand.at)
+pub none_between : (text : List ℕ) (stand : Stand) (n : ℕ) → IsStand text stand → IsPart text stand.at n → ((marker : Marker) → MarkerStands text stand.at marker → stand.at + n < line_after text stand.at)
     → NoMarker text stand.at (stand.at + n)
-none_between text stand n here part own = λ at mark is above within.
+none_between text stand n here part own = λ at marker is above within.
     elim (cases_order at stand.at) [
-      | inl same ↦ (let k = own mark (subst (λ a. MarkerStands text a mark) same is) in let e : line_after text at ≡ line_after text stand.at = ap (line_after text) same in omega (arith, k, e, within))
+      | inl same ↦ (let k = own marker (subst (λ a. MarkerStands text a marker) same is) in let e : line_after text at ≡ line_after text stand.at = ap (line_after text) same in omega (arith, k, e, within))
       | inr o ↦ elim o [
-        | inl less ↦ (let k = here.settled at mark is less in omega (arith, k, above))
+        | inl less ↦ (let k = here.settled at marker is less in omega (arith, k, above))
         | inr more ↦ (let k = parts_apart text stand.at at n here.part is.part part more in omega (arith, k, within))
       ]
     ]
 
 -- behind a part that is no marker
-pub plain_stand : (text : List ℕ) (stand : Stand) (n : ℕ) (next : Line) → IsStand text stand → IsPart text stand.at n → stand.at + n ≤ length text → ((mark : Mark) → MarkerStands text stand.at mark → ⊥)
+pub plain_stand : (text : List ℕ) (stand : Stand) (n : ℕ) (next : Line) → IsStand text stand → IsPart text stand.at n → stand.at + n ≤ length text → ((marker : Marker) → MarkerStands text stand.at marker → ⊥)
     → IsLine text (stand.at + n) next → IsStand text (record { at = stand.at + n; line = next })
 plain_stand text stand n next here part fits none behind = record {
   within = fits;
   part = next_part here.part part;
   line = behind;
-  settled = λ at mark is before. elim (cases_order at stand.at) [
-    | inl same ↦ absurd (none mark (subst (λ a. MarkerStands text a mark) same is))
+  settled = λ at marker is before. elim (cases_order at stand.at) [
+    | inl same ↦ absurd (none marker (subst (λ a. MarkerStands text a marker) same is))
     | inr o ↦ elim o [
-      | inl less ↦ (let k = here.settled at mark is less in omega (arith, k))
+      | inl less ↦ (let k = here.settled at marker is less in omega (arith, k))
       | inr more ↦ (let k = parts_apart text stand.at at n here.part is.part part more in absurd (omega (arith, k, before)))
     ]
   ];
 }
 
 -- a marker's line has the length of the part
-pub marker_part : (text : List ℕ) (at n : ℕ) (mark : Mark) → MarkerStands text at mark → IsPart text at n → n ≡ gap text at
-marker_part text at n mark is part = one_part text at n (gap text at) part (gap_part is.directive.0 refl)
+pub marker_part : (text : List ℕ) (at n : ℕ) (marker : Marker) → MarkerStands text at marker → IsPart text at n → n ≡ gap text at
+marker_part text at n marker is part = one_part text at n (gap text at) part (gap_part is.directive.0 refl)
 
 -- behind a marker and the newline that ends it
-pub marker_stand : (text : List ℕ) (stand : Stand) (n : ℕ) (mark : Mark) → IsStand text stand → IsPart text stand.at n → MarkerStands text stand.at mark → mark.number < 1000000000
-    → IsStand text (record { at = stand.at + n + 1; line = record { file = Some (name_of stand.at mark); number = mark.number; start = stand.at + n + 1 } })
-marker_stand text stand n mark here part is few =
-    let long : n ≡ gap text stand.at = marker_part text stand.at n mark is part in
-    let newline : begins 10 (drop (stand.at + n) text) ≡ true = rw long (newline_behind text stand.at mark is) in
+pub marker_stand : (text : List ℕ) (stand : Stand) (n : ℕ) (marker : Marker) → IsStand text stand → IsPart text stand.at n → MarkerStands text stand.at marker → marker.number < 1000000000
+    → IsStand text (record { at = stand.at + n + 1; line = record { file = Some (name_of stand.at marker); number = marker.number; start = stand.at + n + 1 } })
+marker_stand text stand n marker here part is few =
+    let long : n ≡ gap text stand.at = marker_part text stand.at n marker is part in
+    let newline : begins 10 (drop (stand.at + n) text) ≡ true = rw long (newline_behind text stand.at marker is) in
     let one : gap text (stand.at + n) ≡ 1 = newline_gap_of (drop (stand.at + n) text) (only_blanks true (take (stand.at + n) text)) newline in
     let place : stand.at + n + 1 ≡ line_after text stand.at = omega (arith, long) in
     let back : stand.at + n + 1 - 1 ≡ stand.at + n = omega arith in

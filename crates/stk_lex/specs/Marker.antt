@@ -3,7 +3,7 @@ use Rattle.std.specs.Prelude.{◌≡◌, ℕ, ◌+◌, ◌<◌, ◌≤◌, Bool,
 use Rattle.std.specs.List.{list_all}
 use Rattle.std.specs.Char.{is_ascii_digit}
 use Rattle.stk_base.specs.Text.{decimal}
-use Rattle.stk_lex.specs.declared.markers.Mark.{Mark}
+use Rattle.stk_lex.specs.declared.markers.Marker.{Marker}
 use Rattle.stk_lex.specs.Classes.{closes}
 
 -- a space or a tab
@@ -20,7 +20,7 @@ AreDigits bs = (0 < length bs) × (length bs ≤ 9) × (list_all is_ascii_digit 
 
 -- A line is this marker: `#`, spaces, digits, spaces, `"`, a name with the quote that closes it, and anything. The number
 -- is that of the digits, and the name stands, without its quotes, where the marker says, counted from the `#`.
-pub record IsMark (line : List ℕ) (mark : Mark) : Type 0 where
+pub record IsMarker (line : List ℕ) (marker : Marker) : Type 0 where
   pub front : List ℕ
   pub digits : List ℕ
   pub back : List ℕ
@@ -30,6 +30,6 @@ pub record IsMark (line : List ℕ) (mark : Mark) : Type 0 where
   pub are_spaces : AreSpaces front × AreSpaces back
   pub are_digits : AreDigits digits
   pub closed : closes 34 false name ≡ true
-  pub number : mark.number ≡ decimal digits
-  pub from : mark.from ≡ length front + length digits + length back + 2
-  pub to : mark.to + 1 ≡ mark.from + length name
+  pub number : marker.number ≡ decimal digits
+  pub from : marker.from ≡ length front + length digits + length back + 2
+  pub to : marker.to + 1 ≡ marker.from + length name

@@ -3,10 +3,10 @@ use Rattle.std.specs.Prelude.{◌≡◌, ℕ, suc, ◌+◌, ◌-◌, ◌<◌, �
 use Rattle.stk_base.specs.declared.span.Span.{Span}
 use Rattle.stk_base.specs.declared.token.Class.{Class}
 use Rattle.stk_base.specs.declared.token.Place.{Place}
-use Rattle.stk_lex.specs.declared.markers.Mark.{Mark}
+use Rattle.stk_lex.specs.declared.markers.Marker.{Marker}
 use Rattle.stk_lex.specs.Gaps.{gap, begins}
 use Rattle.stk_lex.specs.Cut.{IsFirst}
-use Rattle.stk_lex.specs.Marker.{IsMark}
+use Rattle.stk_lex.specs.Marker.{IsMarker}
 
 -- ---- the parts of a text
 
@@ -27,19 +27,19 @@ abbrev pub line_after : List ℕ → ℕ → ℕ
 line_after text at = at + gap text at + 1
 
 -- a line marker stands at a place: a gap that is a directive line, that a newline ends, and that has the form of a marker
-pub record MarkerStands (text : List ℕ) (at : ℕ) (mark : Mark) : Type 0 where
+pub record MarkerStands (text : List ℕ) (at : ℕ) (marker : Marker) : Type 0 where
   pub part : PartBegins text at
   pub directive : (0 < gap text at) × (begins 35 (drop at text) ≡ true)
   pub ended : at + gap text at < length text
-  pub form : IsMark (take (gap text at) (drop at text)) mark
+  pub form : IsMarker (take (gap text at) (drop at text)) marker
 
 -- no line behind a marker begins behind one place and up to another
 abbrev pub NoMarker : List ℕ → ℕ → ℕ → Type 0
-NoMarker text from to = (at : ℕ) (mark : Mark) → MarkerStands text at mark → from < line_after text at → line_after text at ≤ to → ⊥
+NoMarker text from to = (at : ℕ) (marker : Marker) → MarkerStands text at marker → from < line_after text at → line_after text at ≤ to → ⊥
 
 -- where the name of a marker at a place stands in the text
-abbrev pub name_of : ℕ → Mark → Span
-name_of at mark = record { from = at + mark.from; to = at + mark.to }
+abbrev pub name_of : ℕ → Marker → Span
+name_of at marker = record { from = at + marker.from; to = at + marker.to }
 
 -- ---- lines
 
@@ -56,8 +56,8 @@ newlines_before text at = newlines (take at text)
 -- Else the line after the last marker has its number, in the file of its name, and lines are counted from there.
 pub data IsLineAt (text : List ℕ) (place : ℕ) (file : Option Span) (number : ℕ) : Type 0 where
   unmarked : NoMarker text 0 place → file ≡ None → number ≡ 1 + newlines_before text place → IsLineAt text place file number
-  marked : {at : ℕ} {mark : Mark} → MarkerStands text at mark → line_after text at ≤ place → NoMarker text (line_after text at) place → file ≡ Some (name_of at mark)
-      → number ≡ mark.number + (newlines_before text place - newlines_before text (line_after text at)) → IsLineAt text place file number
+  marked : {at : ℕ} {marker : Marker} → MarkerStands text at marker → line_after text at ≤ place → NoMarker text (line_after text at) place → file ≡ Some (name_of at marker)
+      → number ≡ marker.number + (newlines_before text place - newlines_before text (line_after text at)) → IsLineAt text place file number
 
 -- the line at a place begins at the start: at the text's first byte or behind a newline, with no newline from there up to the place
 pub record IsLineStart (text : List ℕ) (place start : ℕ) : Type 0 where

@@ -1,13 +1,13 @@
 -- Where a byte of a text stands, read from left to right. That this is its place is proved of `place_of`.
 use Rattle.std.specs.Prelude.{ℕ, zero, suc, ◌+◌, ◌-◌, cond, ◌&&◌, ◌==◌, nat_lt, nat_le, List, length, take, drop, Option, Some, None}
 use Rattle.stk_base.specs.declared.token.Place.{Place}
-use Rattle.stk_lex.specs.declared.markers.Mark.{Mark}
+use Rattle.stk_lex.specs.declared.markers.Marker.{Marker}
 use Rattle.stk_lex.specs.declared.placing.Line.{Line}
 use Rattle.stk_lex.specs.declared.placing.Stand.{Stand}
 use Rattle.stk_lex.specs.Gaps.{line, begins, gap}
 use Rattle.stk_lex.specs.Cut.{begins_quote, begins_comment}
 use Rattle.stk_lex.specs.Lengths.{character_length, text_length, form_length}
-use Rattle.stk_lex.specs.MarkerReading.{mark_of}
+use Rattle.stk_lex.specs.MarkerReading.{marker_of}
 use Rattle.stk_lex.specs.Place.{name_of}
 
 -- a number, or another one where it is 0
@@ -26,9 +26,9 @@ unfoldable pub part_length : List ℕ → ℕ → ℕ
 part_length text at = or_else (gap text at) (first_length (drop at text))
 
 -- the line marker at a place where a part begins, if one is there
-unfoldable pub marker_at : List ℕ → ℕ → Option Mark
+unfoldable pub marker_at : List ℕ → ℕ → Option Marker
 marker_at text at =
-    cond (nat_lt 0 (gap text at) && nat_lt (at + gap text at) (length text) && begins 35 (drop at text)) (mark_of (drop 1 (take (gap text at) (drop at text)))) None
+    cond (nat_lt 0 (gap text at) && nat_lt (at + gap text at) (length text) && begins 35 (drop at text)) (marker_of (drop 1 (take (gap text at) (drop at text)))) None
 
 -- the line one byte on
 unfoldable pub next_line : List ℕ → ℕ → Line → Line
@@ -40,11 +40,11 @@ line_along text at zero here = here
 line_along text at (suc n) here = line_along text (at + 1) n (next_line text at here)
 
 -- the stand behind the part at a stand, which is no marker, or this one; behind a marker also its newline is passed
-unfoldable pub stand_behind : List ℕ → Stand → Option Mark → Stand
+unfoldable pub stand_behind : List ℕ → Stand → Option Marker → Stand
 stand_behind text stand None = record { at = stand.at + part_length text stand.at; line = line_along text stand.at (part_length text stand.at) stand.line }
-stand_behind text stand (Some mark) = record {
+stand_behind text stand (Some marker) = record {
   at = stand.at + part_length text stand.at + 1;
-  line = record { file = Some (name_of stand.at mark); number = mark.number; start = stand.at + part_length text stand.at + 1 };
+  line = record { file = Some (name_of stand.at marker); number = marker.number; start = stand.at + part_length text stand.at + 1 };
 }
 
 unfoldable pub next_stand : List ℕ → Stand → Stand

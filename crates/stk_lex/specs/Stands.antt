@@ -1,6 +1,6 @@
 -- What the code that finds places keeps: lines, and places where a part begins with the line there.
 use Rattle.std.specs.Prelude.{ℕ, ◌+◌, ◌<◌, ◌≤◌, List, length}
-use Rattle.stk_lex.specs.declared.markers.Mark.{Mark}
+use Rattle.stk_lex.specs.declared.markers.Marker.{Marker}
 use Rattle.stk_lex.specs.declared.placing.Line.{Line}
 use Rattle.stk_lex.specs.declared.placing.Stand.{Stand}
 use Rattle.stk_lex.specs.Place.{PartBegins, MarkerStands, line_after, IsLineAt, IsLineStart}
@@ -16,4 +16,4 @@ pub record IsStand (text : List ℕ) (stand : Stand) : Type 0 where
   pub within : stand.at ≤ length text
   pub part : PartBegins text stand.at
   pub line : IsLine text stand.at stand.line
-  pub settled : (at : ℕ) (mark : Mark) → MarkerStands text at mark → at < stand.at → line_after text at ≤ stand.at
+  pub settled : (at : ℕ) (marker : Marker) → MarkerStands text at marker → at < stand.at → line_after text at ≤ stand.at

@@ -1,6 +1,7 @@
 // The lexer: the cut of a text into its longest tokens.
 
 ghost use Rattle.std.specs.Prelude.{◌≡◌, ℕ, ◌≤◌, ◌<◌, ◌^◌, ◌==◌, ◌-◌, List, length, true, false, cond, take, drop, IfOk, ◌&&◌, ◌||◌};
+ghost use Rattle.stk_base.specs.Limits.{most_bytes};
 ghost use Rattle.stk_lex.specs.declared.token.Token.{Token};
 ghost use Rattle.stk_lex.specs.Gaps.{comment, gap, AreGaps, line, begins, only_blanks};
 ghost use Rattle.stk_lex.specs.GapForms.{is_gap};
@@ -120,7 +121,7 @@ fn behind_gaps(bytes: &[u8], from: usize) -> usize
 /// Spans count bytes from the first byte of the text, and those of the tokens go forward. It answers `NoMemory` where
 /// an allocation is refused, and for no other cause.
 pub fn lex(alloc: Global, bytes: &[u8]) -> Result<Vec<Token>, NoMemory>
-    requires { length bytes.now ≤ 16777216 }
+    requires { length bytes.now ≤ most_bytes }
     ensures cut { IfOk result (λ tokens. IsCut bytes.now tokens.items) }
     ensures spans { IfOk result (λ tokens. AreSpans (length bytes.now) 0 tokens.items) }
     ensures few { IfOk result (λ tokens. length tokens.items ≤ length bytes.now) }

@@ -3,10 +3,11 @@
 ghost use Rattle.std.specs.Prelude.{◌≡◌, ℕ, ◌+◌, ◌≤◌, ◌<◌, ◌^◌, length, take, drop, true, IfSome, IfNone};
 ghost use Rattle.std.specs.List.{list_all};
 ghost use Rattle.std.specs.Char.{is_ascii_digit};
+ghost use Rattle.stk_base.specs.Limits.{most_bytes};
 ghost use Rattle.stk_base.specs.Text.{decimal, decimal_behind};
-ghost use Rattle.stk_lex.specs.declared.markers.Mark.{Mark};
+ghost use Rattle.stk_lex.specs.declared.markers.Marker.{Marker};
 ghost use Rattle.stk_lex.specs.Marker.{is_space};
-ghost use Rattle.stk_lex.specs.MarkerReading.{run, mark_of};
+ghost use Rattle.stk_lex.specs.MarkerReading.{run, marker_of};
 ghost use Rattle.stk_lex.specs.Gaps.{gap};
 ghost use Rattle.stk_lex.specs.Place.{PartBegins, MarkerStands};
 
@@ -15,7 +16,7 @@ use crate::scan::closing;
 
 /// A line marker: the number of the line after it, and where the name of its file stands, counted from its `#`.
 #[derive(Clone, Copy, Debug)]
-pub struct Mark {
+pub struct Marker {
     pub number: u32,
     pub from: usize,
     pub to: usize,
@@ -83,10 +84,10 @@ fn number(digits: &[u8]) -> u32
 }
 
 /// The line marker that a directive line is, if it is one, from what stands behind its `#`.
-#[tactic(auto, unfolding(crate::specs::MarkerReading::mark_of))]
-fn mark_of(bytes: &[u8]) -> Option<Mark>
-    requires short { length bytes.now ≤ 16777216 }
-    ensures value { result ≡ mark_of bytes.now }
+#[tactic(auto, unfolding(crate::specs::MarkerReading::marker_of))]
+fn marker_of(bytes: &[u8]) -> Option<Marker>
+    requires short { length bytes.now ≤ most_bytes }
+    ensures value { result ≡ marker_of bytes.now }
     ensures within { IfSome result (λ m. (m.from ≤ m.to) × (m.to ≤ length bytes.now + 1)) }
     ensures bound { IfSome result (λ m. m.number < 1000000000) }
 {
@@ -104,7 +105,7 @@ fn mark_of(bytes: &[u8]) -> Option<Mark>
         return None;
     }
     let before = front + count + back;
-    Some(Mark {
+    Some(Marker {
         number: number(shown),
         from: before + 2,
         to: before + 1 + end,
@@ -112,12 +113,12 @@ fn mark_of(bytes: &[u8]) -> Option<Mark>
 }
 
 /// The line marker that stands at a place where a part begins, if one does.
-pub fn marker_at(bytes: &[u8], at: usize) -> Option<Mark>
-    requires short { length bytes.now ≤ 16777216 }
+pub fn marker_at(bytes: &[u8], at: usize) -> Option<Marker>
+    requires short { length bytes.now ≤ most_bytes }
     requires within { at ≤ length bytes.now }
     requires part { PartBegins bytes.now at }
     ensures some { IfSome result (λ m. MarkerStands bytes.now at m) }
-    ensures none { IfNone result ((m : Mark) → MarkerStands bytes.now at m → ⊥) }
+    ensures none { IfNone result ((m : Marker) → MarkerStands bytes.now at m → ⊥) }
     ensures bound { IfSome result (λ m. m.number < 1000000000) }
     ensures name { IfSome result (λ m. (m.from ≤ m.to) × (m.to ≤ gap bytes.now at)) }
 {
@@ -127,5 +128,5 @@ pub fn marker_at(bytes: &[u8], at: usize) -> Option<Mark>
         return None;
     }
     let (line, _) = rest.split_at(n);
-    mark_of(&line[1..])
+    marker_of(&line[1..])
 }

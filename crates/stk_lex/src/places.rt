@@ -1,6 +1,7 @@
 // An index of a text, for the places of many of its bytes.
 
 ghost use Rattle.std.specs.Prelude.{◌≡◌, ◌≤◌, length, IfOk};
+ghost use Rattle.stk_base.specs.Limits.{most_bytes};
 ghost use Rattle.stk_lex.specs.Place.{IsPlace};
 ghost use Rattle.stk_lex.specs.Placing.{place_of};
 
@@ -26,13 +27,14 @@ pub struct Places<'a> {
 impl<'a> Model for Places<'a> {
     ghost use Rattle.std.specs.Prelude.{◌≤◌, ℕ, List, length};
     ghost use Rattle.std.specs.List.{All};
+    ghost use Rattle.stk_base.specs.Limits.{most_bytes};
     ghost use Rattle.stk_lex.specs.Stands.{IsStand};
 
     ghost Value = { List ℕ };
 
     ghost view = { λ p. p.bytes.now };
 
-    ghost invariant = { λ p. (length p.bytes.now ≤ 16777216) × All (IsStand p.bytes.now) p.stands.items };
+    ghost invariant = { λ p. (length p.bytes.now ≤ most_bytes) × All (IsStand p.bytes.now) p.stands.items };
 }
 
 /// Whether a stand is kept: behind a `#` that looks far back, or a stride behind the last one.
@@ -58,7 +60,7 @@ impl<'a> Places<'a> {
     /// The index of a text of at most 16,777,216 bytes, which is read once. It answers `NoMemory` where an allocation is
     /// refused, and for no other cause.
     pub fn new(alloc: Global, bytes: &'a [u8]) -> Result<Places<'a>, NoMemory>
-        requires { length bytes.now ≤ 16777216 }
+        requires { length bytes.now ≤ most_bytes }
         ensures { IfOk result (λ places. places ≡ bytes.now) }
     {
         let mut stands = Vec::new(alloc);

@@ -1,6 +1,7 @@
 // Where bytes stand in their source files.
 
 ghost use Rattle.std.specs.Prelude.{◌≡◌, ℕ, ◌+◌, ◌-◌, ◌≤◌, ◌<◌, ◌^◌, length, List, Some};
+ghost use Rattle.stk_base.specs.Limits.{most_bytes};
 ghost use Rattle.stk_base.specs.declared.token.Place.{Place};
 ghost use Rattle.stk_lex.specs.Gaps.{gap};
 ghost use Rattle.stk_lex.specs.Place.{IsPart, MarkerStands, NoMarker, IsPlace, name_of};
@@ -9,7 +10,7 @@ ghost use Rattle.stk_lex.specs.Stands.{IsLine, IsStand};
 
 use crate::gaps::gap;
 use crate::lexing::first;
-use crate::markers::{Mark, marker_at};
+use crate::markers::{Marker, marker_at};
 use stk_base::{Place, Span};
 
 /// The line at a place: the span of its file's name, its number, and where it begins.
@@ -44,7 +45,7 @@ fn part(bytes: &[u8], at: usize) -> usize
 
 /// The line one byte on.
 fn next_line(bytes: &[u8], line: Line, at: usize) -> Line
-    requires short { length bytes.now ≤ 16777216 }
+    requires short { length bytes.now ≤ most_bytes }
     requires within { at < length bytes.now }
     requires line { IsLine bytes.now at line }
     requires none { NoMarker bytes.now at (at + 1) }
@@ -63,7 +64,7 @@ fn next_line(bytes: &[u8], line: Line, at: usize) -> Line
 
 /// The line at a place, from the one at an earlier place, where no marker comes between.
 fn along(bytes: &[u8], line: Line, from: usize, to: usize) -> Line
-    requires short { length bytes.now ≤ 16777216 }
+    requires short { length bytes.now ≤ most_bytes }
     requires within { (from ≤ to) × (to ≤ length bytes.now) }
     requires line { IsLine bytes.now from line }
     requires none { NoMarker bytes.now from to }
@@ -79,22 +80,22 @@ fn along(bytes: &[u8], line: Line, from: usize, to: usize) -> Line
 }
 
 /// The line behind a marker's line.
-fn line_behind(mark: Mark, at: usize, start: usize) -> Line
-    requires { (at + mark.to < 2 ^ 32) × (mark.from ≤ mark.to) }
-    ensures { result ≡ record { file = Some (name_of at mark); number = mark.number; start = start } }
+fn line_behind(marker: Marker, at: usize, start: usize) -> Line
+    requires { (at + marker.to < 2 ^ 32) × (marker.from ≤ marker.to) }
+    ensures { result ≡ record { file = Some (name_of at marker); number = marker.number; start = start } }
 {
-    let from = (at + mark.from) as u32;
-    let to = (at + mark.to) as u32;
+    let from = (at + marker.from) as u32;
+    let to = (at + marker.to) as u32;
     Line {
         file: Some(Span { from, to }),
-        number: mark.number,
+        number: marker.number,
         start,
     }
 }
 
 /// The stand behind the next part, or behind the next part and the newline where that is a marker.
 pub fn step(bytes: &[u8], stand: Stand) -> Stand
-    requires short { length bytes.now ≤ 16777216 }
+    requires short { length bytes.now ≤ most_bytes }
     requires stand { IsStand bytes.now stand }
     requires more { stand.at < length bytes.now }
     ensures stand { IsStand bytes.now result }
@@ -103,9 +104,9 @@ pub fn step(bytes: &[u8], stand: Stand) -> Stand
 {
     let end = stand.at + part(bytes, stand.at);
     match marker_at(bytes, stand.at) {
-        Some(mark) => Stand {
+        Some(marker) => Stand {
             at: end + 1,
-            line: line_behind(mark, stand.at, end + 1),
+            line: line_behind(marker, stand.at, end + 1),
         },
         None => Stand {
             at: end,
@@ -116,7 +117,7 @@ pub fn step(bytes: &[u8], stand: Stand) -> Stand
 
 /// The last stand that is reached up to a place, from an earlier stand.
 fn reach(bytes: &[u8], from: Stand, at: usize) -> Stand
-    requires short { length bytes.now ≤ 16777216 }
+    requires short { length bytes.now ≤ most_bytes }
     requires stand { IsStand bytes.now from }
     requires within { (from.at ≤ at) × (at ≤ length bytes.now) }
     ensures stand { IsStand bytes.now result }
@@ -149,7 +150,7 @@ pub fn first_stand(bytes: &[u8]) -> Stand
 
 /// The place of a byte, behind an earlier stand.
 fn place_behind(bytes: &[u8], from: Stand, at: usize) -> Place
-    requires short { length bytes.now ≤ 16777216 }
+    requires short { length bytes.now ≤ most_bytes }
     requires stand { IsStand bytes.now from }
     requires within { (from.at ≤ at) × (at ≤ length bytes.now) }
     ensures { IsPlace bytes.now at result }
@@ -165,7 +166,7 @@ fn place_behind(bytes: &[u8], from: Stand, at: usize) -> Place
 
 /// The place of a byte, from an earlier stand.
 pub fn place_from(bytes: &[u8], from: Stand, at: usize) -> Place
-    requires short { length bytes.now ≤ 16777216 }
+    requires short { length bytes.now ≤ most_bytes }
     requires stand { IsStand bytes.now from }
     requires within { (from.at ≤ at) × (at ≤ length bytes.now) }
     ensures is { IsPlace bytes.now at result }
@@ -183,7 +184,7 @@ pub fn place_from(bytes: &[u8], from: Stand, at: usize) -> Place
 ///
 /// It reads the text from its first byte and takes no memory; `Places` answers for many places of one text.
 pub fn place(bytes: &[u8], at: usize) -> Place
-    requires short { length bytes.now ≤ 16777216 }
+    requires short { length bytes.now ≤ most_bytes }
     requires within { at ≤ length bytes.now }
     ensures is { IsPlace bytes.now at result }
     ensures value { result ≡ place_of bytes.now at }

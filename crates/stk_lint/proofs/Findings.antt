@@ -9,7 +9,8 @@ use Rattle.stk_meaning.specs.Findings.{IsLawful}
 use Rattle.stk_records.specs.declared.records.Counts.{Counts}
 use Rattle.stk_records.specs.Records.{finding_text, findings_text}
 use Rattle.stk_meaning.specs.Parts.{candidates}
-use Rattle.stk_lint.specs.LawfulText.{AreLawful, unstable_count}
+use Rattle.stk_judge.specs.Lawful.{AreLawful}
+use Rattle.stk_lint.specs.LawfulText.{unstable_count}
 use Rattle.stk_lint.specs.Judged.{AddsFindings, IsJudged}
 use Rattle.stk_records.proofs.Joined.{joined}
 

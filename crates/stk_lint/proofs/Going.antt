@@ -4,7 +4,7 @@ use Rattle.std.proofs.Common.{drop-cons}
 use Rattle.std.proofs.lemmas.List.{append-nil, length-take, drop_all}
 use Rattle.std.specs.Prelude.{Result, Ok, Err, OnErr}
 use Rattle.stk_base.specs.declared.status.Status.{Status}
-use Rattle.stk_base.specs.Streams.{Appended, AppendedFront, IsFlushed}
+use Rattle.stk_base.specs.Streams.{Appended, AppendedPrefix, IsFlushed}
 use Rattle.stk_lex.specs.declared.token.Token.{Token}
 use Rattle.stk_units.specs.declared.cutting.Piece.{Piece}
 use Rattle.stk_units.specs.Units.{AreJoined}
@@ -12,8 +12,8 @@ use Rattle.stk_records.specs.declared.records.Counts.{Counts}
 use Rattle.stk_records.specs.Records.{summary_text}
 use Rattle.stk_records.specs.Counts.{nothing_counted, counts_sum, AreAtMost}
 use Rattle.stk_lint.specs.LawfulText.{status_of, tokens_of_piece, AreUnitTexts, no_unit, then_unit, IsLawfulText}
-use Rattle.stk_lint.specs.Judged.{WroteUnit, WroteUnitFront, WroteUnits, WroteUnitsFront}
-use Rattle.stk_lint.specs.Lint.{AreUnitsOf, TookText, TookFront}
+use Rattle.stk_lint.specs.Judged.{WroteUnit, WroteUnitPrefix, WroteUnits, WroteUnitsPrefix}
+use Rattle.stk_lint.specs.Lint.{AreUnitsOf, TookText, TookPrefix}
 use Rattle.stk_lint.proofs.Counted.{unit_most}
 use Rattle.stk_lint.proofs.Units.{piece_some, joined_up, text_of_unit, texts_of_units}
 
@@ -27,25 +27,25 @@ pub appended_more : (before middle after : Option (List ℕ)) (a b : List ℕ) �
 appended_more None middle after a b first second = second ∙ rw first refl
 appended_more (Some taken) middle after a b first second = second ∙ rw first (ap (λ (u : List ℕ). Some u) (append_assoc taken a b))
 
--- a front of what comes behind, and something behind that
-pub front_more : (before middle after : Option (List ℕ)) (a b rest : List ℕ) → Appended before middle a → AppendedFront middle after b → AppendedFront before after (a ++ (b ++ rest))
-front_more before middle after a b rest first (front, back, same, second) =
+-- a prefix of what comes behind, and something behind that
+pub prefix_more : (before middle after : Option (List ℕ)) (a b rest : List ℕ) → Appended before middle a → AppendedPrefix middle after b → AppendedPrefix before after (a ++ (b ++ rest))
+prefix_more before middle after a b rest first (front, back, same, second) =
     let whole : a ++ (b ++ rest) ≡ (a ++ front) ++ (back ++ rest) =
     ap (λ (u : List ℕ). a ++ (u ++ rest)) same ∙ ap (λ (u : List ℕ). a ++ u) (append_assoc front back rest) ∙ sym (append_assoc a front (back ++ rest)) in
-    (a ++ front, back ++ rest, whole, appended_more before middle after a front first second)
+    (a ++ prefix, back ++ rest, whole, appended_more before middle after a front first second)
 
--- what was taken is a front of that and more
-pub front_of : (before after : Option (List ℕ)) (a rest : List ℕ) → AppendedFront before after a → AppendedFront before after (a ++ rest)
-front_of before after a rest (front, back, same, taken) = (front, back ++ rest, ap (λ (u : List ℕ). u ++ rest) same ∙ append_assoc front back rest, taken)
+-- what was taken is a prefix of that and more
+pub prefix_of : (before after : Option (List ℕ)) (a rest : List ℕ) → AppendedPrefix before after a → AppendedPrefix before after (a ++ rest)
+prefix_of before after a rest (front, back, same, taken) = (front, back ++ rest, ap (λ (u : List ℕ). u ++ rest) same ∙ append_assoc front back rest, taken)
 
 -- an error has what holds
 pub on_err : {T E : Type 0} (result : Result T E) (W : Type 0) → W → OnErr result W
 on_err (Ok x) W w = tt
 on_err (Err e) W w = w
 
--- nothing is a front of what may be written of a unit
-pub no_front : (bytes : List ℕ) (tokens : List Token) (before : Option (List ℕ)) → 0 < length tokens → WroteUnitFront bytes tokens before before
-no_front bytes tokens before some =
+-- nothing is a prefix of what may be written of a unit
+pub no_prefix : (bytes : List ℕ) (tokens : List Token) (before : Option (List ℕ)) → 0 < length tokens → WroteUnitPrefix bytes tokens before before
+no_prefix bytes tokens before some =
     let unit = text_of_unit bytes tokens some in
     record { text = unit.text; counts = unit.counts; is = unit.is; written = ([], unit.text, refl, nothing_appended before) }
 
@@ -171,9 +171,9 @@ module _ (bytes : List ℕ) (tokens : List Token) (pieces : List Piece) (before 
             (subst (λ (u : List ℕ). AreUnitTexts bytes tokens pieces u (counts_sum counts (counts_sum unit others))) (sym (append_assoc h.lines w.text more)) all);
       }
 
-  -- no more comes of a unit than some front of what may be written of it
+  -- no more comes of a unit than some prefix of what may be written of it
   pub stops_in_unit : (i : ℕ) (d : Piece) (middle after : Option (List ℕ)) (counts : Counts) → i < length pieces → AreSoFar bytes tokens pieces i before middle counts
-      → WroteUnitFront bytes (tokens_of_piece tokens (get_or pieces i d)) middle after → WroteUnitsFront bytes tokens pieces before after
+      → WroteUnitPrefix bytes (tokens_of_piece tokens (get_or pieces i d)) middle after → WroteUnitsPrefix bytes tokens pieces before after
   stops_in_unit i d middle after counts within h w =
       let p : Piece = get_or pieces i d in
       let n = next_unit i d middle counts within h in
@@ -185,7 +185,7 @@ module _ (bytes : List ℕ) (tokens : List Token) (pieces : List Piece) (before 
         counts = counts_sum counts (counts_sum w.counts rest.counts);
         are = h.goes_on (w.text ++ rest.lines) (counts_sum w.counts rest.counts)
             (subst (λ (ps : List Piece). AreUnitTexts bytes tokens ps (w.text ++ rest.lines) (counts_sum w.counts rest.counts)) (sym here) (then_unit w.is rest.are));
-        written = front_more before middle after h.lines w.text rest.lines h.written w.written;
+        written = prefix_more before middle after h.lines w.text rest.lines h.written w.written;
       }
 
   -- all units
@@ -222,18 +222,18 @@ module _ (bytes : List ℕ) (kept : List Token) (pieces : List Piece) (units : A
     flush = flush;
   }
 
-  pub units_stop : (before after : Option (List ℕ)) → WroteUnitsFront bytes kept pieces before after → TookFront bytes before after
+  pub units_stop : (before after : Option (List ℕ)) → WroteUnitsPrefix bytes kept pieces before after → TookPrefix bytes before after
   units_stop before after w = record {
     text = w.lines ++ summary_text w.counts;
     status = status_of w.counts.unstable;
     lawful = lawful w.lines w.counts w.are;
-    written = front_of before after w.lines (summary_text w.counts) w.written;
+    written = prefix_of before after w.lines (summary_text w.counts) w.written;
   }
 
-  pub summary_stops : (before middle after : Option (List ℕ)) (counts : Counts) → WroteUnits bytes kept pieces before middle counts → AppendedFront middle after (summary_text counts) → TookFront bytes before after
+  pub summary_stops : (before middle after : Option (List ℕ)) (counts : Counts) → WroteUnits bytes kept pieces before middle counts → AppendedPrefix middle after (summary_text counts) → TookPrefix bytes before after
   summary_stops before middle after counts w (front, back, same, taken) = record {
     text = w.lines ++ summary_text counts;
     status = status_of counts.unstable;
     lawful = lawful w.lines counts w.are;
-    written = (w.lines ++ front, back, ap (λ (u : List ℕ). w.lines ++ u) same ∙ sym (append_assoc w.lines front back), appended_more before middle after w.lines front w.written taken);
+    written = (w.lines ++ prefix, back, ap (λ (u : List ℕ). w.lines ++ u) same ∙ sym (append_assoc w.lines front back), appended_more before middle after w.lines front w.written taken);
   }

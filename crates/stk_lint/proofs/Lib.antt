@@ -1,7 +1,6 @@
 pub mod Plain
 pub mod Findings
 pub mod Complete
-pub mod Exists
 pub mod Counted
 pub mod Units
 pub mod Going

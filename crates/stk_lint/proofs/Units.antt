@@ -10,11 +10,11 @@ use Rattle.stk_tree.specs.Syntax.{UnitTree}
 use Rattle.stk_tree.specs.Syntax as s
 use Rattle.stk_tree.specs.Layout.{unit_laid_out}
 use Rattle.stk_lexeme.specs.Lexemes.{lexemes_of, spans_of}
-use Rattle.stk_stmt_grammar.specs.Bare.{bare_unit}
+use Rattle.stk_tree.specs.Unlaid.{unlaid_unit}
 use Rattle.stk_stmt_grammar.specs.Reading.{unit_at}
 use Rattle.stk_stmt_grammar.specs.Units.{IsUnit}
-use Rattle.stk_stmt_grammar.proofs.LaidUnits.{laid_bare_unit, laid_is_unit}
-use Rattle.stk_stmt_grammar.proofs.Laws.{found_bare, none_of_none, unit_of_found}
+use Rattle.stk_stmt_grammar.proofs.LaidUnits.{laid_unlaid_unit, laid_is_unit}
+use Rattle.stk_stmt_grammar.proofs.Laws.{found_unlaid, none_of_none, unit_of_found}
 use Rattle.stk_meaning.specs.Parts.{candidates}
 use Rattle.stk_small.specs.SmallForm.{IsSmall}
 use Rattle.stk_small.specs.SmallTests.{is_small}
@@ -25,7 +25,7 @@ use Rattle.stk_records.specs.Records.{findings_text, skip_text}
 use Rattle.stk_records.specs.Counts.{nothing_counted, counts_sum}
 use Rattle.stk_lint.specs.LawfulText.{AreUnitTexts, IsSkipped, IsUnitText, accepted, judged, no_types, no_unit, one_skipped, skipped, then_unit, tokens_of_piece}
 use Rattle.stk_lint.specs.Judged.{IsReadAs}
-use Rattle.stk_lint.proofs.Exists.{findings_of}
+use Rattle.stk_judge.proofs.Exists.{findings_of}
 use Rattle.stk_lint.proofs.Plain.{read_other}
 
 -- ---- a text of each unit
@@ -42,8 +42,8 @@ read_or_not bytes tokens = on (unit_at (no_types bytes) (lexemes_of bytes tokens
   on (Some u) e =
       let is : IsUnit (no_types bytes) (lexemes_of bytes tokens) u = unit_of_found (no_types bytes) (lexemes_of bytes tokens) u e in
       let spans : List Span = spans_of tokens in
-      let bare : bare_unit u ≡ u = found_bare (no_types bytes) (lexemes_of bytes tokens) u e in
-      inl (unit_laid_out spans u, record { is = laid_is_unit (no_types bytes) (lexemes_of bytes tokens) spans u is; laid_out = laid_bare_unit spans u (unit_laid_out spans u) bare refl })
+      let unlaid : unlaid_unit u ≡ u = found_unlaid (no_types bytes) (lexemes_of bytes tokens) u e in
+      inl (unit_laid_out spans u, record { is = laid_is_unit (no_types bytes) (lexemes_of bytes tokens) spans u is; laid_out = laid_unlaid_unit spans u (unit_laid_out spans u) unlaid refl })
   on None e = inr (none_of_none (no_types bytes) (lexemes_of bytes tokens) e)
 
 small_or_not : (bytes : List ℕ) (u : UnitTree) → IsSmall bytes u ⊎ (IsSmall bytes u → ⊥)

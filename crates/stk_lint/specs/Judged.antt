@@ -3,16 +3,17 @@ use Rattle.std.specs.Prelude.{◌≡◌, ℕ, ◌≤◌, List, ◌++◌, Option}
 use Rattle.stk_lex.specs.declared.token.Token.{Token}
 use Rattle.stk_lexeme.specs.Lexemes.{spans_of}
 use Rattle.stk_units.specs.declared.cutting.Piece.{Piece}
-use Rattle.stk_base.specs.Streams.{Appended, AppendedFront}
+use Rattle.stk_base.specs.Streams.{Appended, AppendedPrefix}
 use Rattle.stk_tree.specs.Syntax.{FunctionTree, UnitTree}
-use Rattle.stk_stmt_grammar.specs.Bare.{bare_unit}
+use Rattle.stk_tree.specs.Unlaid.{unlaid_unit}
 use Rattle.stk_tree.specs.Layout.{unit_laid_out}
 use Rattle.stk_meaning.specs.declared.candidate.Candidate.{Candidate}
 use Rattle.stk_meaning.specs.declared.finding.Finding.{Finding}
 use Rattle.stk_meaning.specs.Parts.{candidates}
 use Rattle.stk_records.specs.declared.records.Counts.{Counts}
 use Rattle.stk_records.specs.Records.{findings_text}
-use Rattle.stk_lint.specs.LawfulText.{AreLawful, unstable_count, one_judged, IsUnitOf, IsUnitText, AreUnitTexts}
+use Rattle.stk_judge.specs.Lawful.{AreLawful}
+use Rattle.stk_lint.specs.LawfulText.{unstable_count, one_judged, IsUnitOf, IsUnitText, AreUnitTexts}
 
 -- the records of lawful findings for these candidates were added to a text; so many of them are reports
 pub record AddsFindings (bytes : List ℕ) (f : FunctionTree) (list : List Candidate) (old new : List ℕ) (unstable : ℕ) : Type 0 where
@@ -31,7 +32,7 @@ pub record IsJudged (bytes : List ℕ) (f : FunctionTree) (text : List ℕ) (cou
 -- the tokens of a unit are this tree, whose nodes are numbered and placed
 pub record IsReadAs (bytes : List ℕ) (tokens : List Token) (unit : UnitTree) : Type 0 where
   pub is : IsUnitOf bytes tokens unit
-  pub laid_out : unit ≡ unit_laid_out (spans_of tokens) (bare_unit unit)
+  pub laid_out : unit ≡ unit_laid_out (spans_of tokens) (unlaid_unit unit)
 
 -- a sink took what is written of a unit
 pub record WroteUnit (bytes : List ℕ) (tokens : List Token) (before after : Option (List ℕ)) (counts : Counts) : Type 0 where
@@ -39,12 +40,12 @@ pub record WroteUnit (bytes : List ℕ) (tokens : List Token) (before after : Op
   pub is : IsUnitText bytes tokens text counts
   pub written : Appended before after text
 
--- a sink took some front of what may be written of a unit
-pub record WroteUnitFront (bytes : List ℕ) (tokens : List Token) (before after : Option (List ℕ)) : Type 0 where
+-- a sink took some prefix of what may be written of a unit
+pub record WroteUnitPrefix (bytes : List ℕ) (tokens : List Token) (before after : Option (List ℕ)) : Type 0 where
   pub text : List ℕ
   pub counts : Counts
   pub is : IsUnitText bytes tokens text counts
-  pub written : AppendedFront before after text
+  pub written : AppendedPrefix before after text
 
 -- a sink took what is written of units
 pub record WroteUnits (bytes : List ℕ) (tokens : List Token) (pieces : List Piece) (before after : Option (List ℕ)) (counts : Counts) : Type 0 where
@@ -52,9 +53,9 @@ pub record WroteUnits (bytes : List ℕ) (tokens : List Token) (pieces : List Pi
   pub are : AreUnitTexts bytes tokens pieces lines counts
   pub written : Appended before after lines
 
--- a sink took some front of what may be written of units
-pub record WroteUnitsFront (bytes : List ℕ) (tokens : List Token) (pieces : List Piece) (before after : Option (List ℕ)) : Type 0 where
+-- a sink took some prefix of what may be written of units
+pub record WroteUnitsPrefix (bytes : List ℕ) (tokens : List Token) (pieces : List Piece) (before after : Option (List ℕ)) : Type 0 where
   pub lines : List ℕ
   pub counts : Counts
   pub are : AreUnitTexts bytes tokens pieces lines counts
-  pub written : AppendedFront before after lines
+  pub written : AppendedPrefix before after lines

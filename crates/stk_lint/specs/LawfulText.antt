@@ -13,26 +13,19 @@ use Rattle.stk_tree.specs.declared.node.Node.{Node}
 use Rattle.stk_tree.specs.Syntax.{UnitTree, FunctionTree, declares, defines, empty_unit}
 use Rattle.stk_tree.specs.Layout.{unit_laid_out}
 use Rattle.stk_lexeme.specs.Lexemes.{lexemes_of, spans_of}
-use Rattle.stk_stmt_grammar.specs.Bare.{bare_unit}
+use Rattle.stk_tree.specs.Unlaid.{unlaid_unit}
 use Rattle.stk_stmt_grammar.specs.Units.{IsUnit}
-use Rattle.stk_expr.specs.Gives.{named}
-use Rattle.stk_meaning.specs.declared.candidate.Candidate.{Candidate}
+use Rattle.stk_ctype.specs.Names.{named}
 use Rattle.stk_meaning.specs.declared.finding.Finding.{Finding}
 use Rattle.stk_meaning.specs.declared.finding.Finding.TheVariants.{Clear, Unstable, Undecided}
-use Rattle.stk_meaning.specs.Findings.{IsLawful}
 use Rattle.stk_meaning.specs.Parts.{candidates}
+use Rattle.stk_judge.specs.Lawful.{AreLawful}
 use Rattle.stk_small.specs.SmallForm.{IsSmall}
 use Rattle.stk_records.specs.declared.records.Cause.{Cause}
 use Rattle.stk_records.specs.declared.records.Cause.TheVariants.{NoTree, OtherForm}
 use Rattle.stk_records.specs.declared.records.Counts.{Counts}
 use Rattle.stk_records.specs.Records.{findings_text, skip_text, summary_text}
 use Rattle.stk_records.specs.Counts.{nothing_counted, counts_sum}
-
--- each candidate has a lawful finding
-abbrev pub AreLawful : List ℕ → FunctionTree → List Candidate → List Finding → Type 0
-AreLawful bytes f [] [] = Unit {0}
-AreLawful bytes f (c ∷ cs) (x ∷ xs) = IsLawful bytes f c x × AreLawful bytes f cs xs
-AreLawful bytes f cs xs = ⊥
 
 -- how many of the findings are reports
 abbrev pub unstable_count : List Finding → ℕ
@@ -62,7 +55,7 @@ one_judged findings = record { functions = 1; candidates = length findings; unst
 abbrev pub no_types : List ℕ → Span → Bool
 no_types bytes at = named bytes [] at
 
--- these tokens are a unit: the whole of them, at most 400 high
+-- these tokens are a unit: the whole of them, nested at most 400 deep
 abbrev pub IsUnitOf : List ℕ → List Token → UnitTree → Type 0
 IsUnitOf bytes tokens u = IsUnit (no_types bytes) (lexemes_of bytes tokens) u
 
@@ -76,7 +69,7 @@ is_definition (defines n f) = true
 pub record Prints (bytes : List ℕ) (tokens : List Token) (f : FunctionTree) : Type 0 where
   pub node : Node
   pub is : IsUnitOf bytes tokens (defines node f)
-  pub laid_out : defines node f ≡ unit_laid_out (spans_of tokens) (bare_unit (defines node f))
+  pub laid_out : defines node f ≡ unit_laid_out (spans_of tokens) (unlaid_unit (defines node f))
   pub small : IsSmall bytes (defines node f)
 
 -- these tokens are the definition of a function, which isn't of the small form

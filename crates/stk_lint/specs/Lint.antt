@@ -2,7 +2,7 @@
 use Rattle.std.specs.Prelude.{◌≡◌, ℕ, ◌≤◌, List, [], length, Option, Some, Result, Ok, Err, codes}
 use Rattle.stk_base.specs.declared.status.Status.{Status}
 use Rattle.stk_base.specs.declared.status.Status.TheVariants.{Stable, Found, Unsure, BadWords, ReadFault, WriteFault, TooLarge, NoMemory}
-use Rattle.stk_base.specs.Streams.{Appended, AppendedFront, IsFlushed}
+use Rattle.stk_base.specs.Streams.{Appended, AppendedPrefix, IsFlushed}
 use Rattle.stk_lex.specs.declared.token.Token.{Token}
 use Rattle.stk_lex.specs.Cut.{IsCut, AreSpans}
 use Rattle.stk_units.specs.declared.skimming.Skimmed.{Skimmed}
@@ -47,14 +47,14 @@ pub record HasWritten (left_before left_after taken_before taken_after : Option 
   pub written : Appended taken_before taken_after text
   pub flush : IsFlushed taken_after flushed
 
--- The source was read to its end, and the sink took some front of a text that is lawful for its bytes.
-pub record HasWrittenFront (left_before left_after taken_before taken_after : Option (List ℕ)) : Type 0 where
+-- The source was read to its end, and the sink took some prefix of a text that is lawful for its bytes.
+pub record HasWrittenPrefix (left_before left_after taken_before taken_after : Option (List ℕ)) : Type 0 where
   pub bytes : List ℕ
   pub text : List ℕ
   pub status : Status
   pub lawful : IsLawfulText bytes text status
   pub read : (left : List ℕ) → left_before ≡ Some left → (bytes ≡ left) × (left_after ≡ Some [])
-  pub written : AppendedFront taken_before taken_after text
+  pub written : AppendedPrefix taken_before taken_after text
 
 -- what skimming leaves of the tokens of an input
 pub record IsSkimmedFrom (bytes : List ℕ) (skimmed : Skimmed) : Type 0 where
@@ -86,8 +86,8 @@ pub record TookText (bytes : List ℕ) (taken_before taken_after : Option (List 
   pub written : Appended taken_before taken_after text
   pub flush : IsFlushed taken_after flushed
 
-pub record TookFront (bytes : List ℕ) (taken_before taken_after : Option (List ℕ)) : Type 0 where
+pub record TookPrefix (bytes : List ℕ) (taken_before taken_after : Option (List ℕ)) : Type 0 where
   pub text : List ℕ
   pub status : Status
   pub lawful : IsLawfulText bytes text status
-  pub written : AppendedFront taken_before taken_after text
+  pub written : AppendedPrefix taken_before taken_after text

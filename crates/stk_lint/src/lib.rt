@@ -4,5 +4,5 @@
 mod lint;
 mod report;
 
-pub use lint::{LIMIT, lint_main};
+pub use lint::lint_main;
 pub use report::{UnitText, unit_text};

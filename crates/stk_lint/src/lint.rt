@@ -1,23 +1,23 @@
 //! The top call.
 
 ghost use Rattle.std.specs.Prelude.{◌≡◌, ◌↔◌, ◌⊎◌, ◌≤◌, ◌<◌, ℕ, List, length, Some, Err, IfOk, OnOk, OnErr};
+ghost use Rattle.stk_base.specs.Limits.{most_bytes};
 ghost use Rattle.stk_base.specs.Causes.{Rose, HasCause};
-ghost use Rattle.stk_base.specs.Streams.{Came, Appended, AppendedFront, IsFlushed};
+ghost use Rattle.stk_base.specs.Streams.{Came, Appended, AppendedPrefix, IsFlushed};
 ghost use Rattle.stk_units.specs.Units.{AreJoined};
 ghost use Rattle.stk_records.specs.Records.{summary_text};
 ghost use Rattle.stk_lint.specs.LawfulText.{status_of, tokens_of_piece};
-ghost use Rattle.stk_lint.specs.Judged.{WroteUnit, WroteUnitFront, WroteUnits, WroteUnitsFront};
-ghost use Rattle.stk_lint.specs.Lint.{IsWritten, IsUnread, fault_line, HasWritten, HasWrittenFront, IsSkimmedFrom, AreUnitsOf, TookText, TookFront, status_after};
+ghost use Rattle.stk_lint.specs.Judged.{WroteUnit, WroteUnitPrefix, WroteUnits, WroteUnitsPrefix};
+ghost use Rattle.stk_lint.specs.Lint.{IsWritten, IsUnread, fault_line, HasWritten, HasWrittenPrefix, IsSkimmedFrom, AreUnitsOf, TookText, TookPrefix, status_after};
 
 use crate::report::unit_text;
 use std::alloc::Global;
-use stk_base::{Failed, List, NoMemory, ReadAll, Sink, Source, Status, read_all, write_all};
+use stk_base::{
+    Failed, List, MOST_BYTES, NoMemory, ReadAll, Sink, Source, Status, read_all, write_all,
+};
 use stk_lex::{Places, Token, lex};
 use stk_records::{Counts, add_summary};
 use stk_units::{Piece, Skimmed, cut, skim};
-
-/// The most bytes that an input may have.
-pub const LIMIT: u64 = 16_777_216;
 
 // The status of a refusal to read.
 fn refused(refusal: ReadAll) -> Status
@@ -37,7 +37,7 @@ fn refused(refusal: ReadAll) -> Status
 fn deliver<K: Sink>(out: &mut K, text: &[u8]) -> Result<(), Failed>
     ensures all { OnOk result (Appended (K.taken out.old) (K.taken out.new) text.now) }
     ensures flushed { OnOk result (IsFlushed (K.taken out.new) (K.flushed out.new)) }
-    ensures front { OnErr result (AppendedFront (K.taken out.old) (K.taken out.new) text.now) }
+    ensures prefix { OnErr result (AppendedPrefix (K.taken out.old) (K.taken out.new) text.now) }
     ensures cause { HasCause (K.faults out.old) (K.faults out.new) result }
 {
     write_all(out, text)?;
@@ -80,7 +80,7 @@ struct Units {
 
 // The tokens of an input that skimming keeps, and its notes.
 fn skimmed_tokens(alloc: Global, bytes: &[u8]) -> Result<Skimmed, NoMemory>
-    requires { length bytes.now ≤ 16777216 }
+    requires { length bytes.now ≤ most_bytes }
     ensures { IfOk result (IsSkimmedFrom bytes.now) }
 {
     let tokens = lex(alloc, bytes)?;
@@ -89,10 +89,10 @@ fn skimmed_tokens(alloc: Global, bytes: &[u8]) -> Result<Skimmed, NoMemory>
 
 // Cuts an input into its units.
 fn cut_into_units(alloc: Global, bytes: &[u8]) -> Result<Units, NoMemory>
-    requires { length bytes.now ≤ 16777216 }
+    requires { length bytes.now ≤ most_bytes }
     ensures are { IfOk result (λ units. AreUnitsOf bytes.now units.tokens units.pieces.items) }
     ensures joined { IfOk result (λ units. AreJoined 0 (length units.tokens) units.pieces.items) }
-    ensures few { IfOk result (λ units. length units.tokens ≤ 16777216) }
+    ensures few { IfOk result (λ units. length units.tokens ≤ most_bytes) }
 {
     let skimmed = skimmed_tokens(alloc, bytes)?;
     let pieces = cut(alloc, bytes, &skimmed)?;
@@ -108,9 +108,9 @@ fn write_unit<K: Sink>(
     out: &mut K,
 ) -> Result<Counts, Stop>
     requires some { 0 < length tokens.now }
-    requires few { length tokens.now ≤ 16777216 }
+    requires few { length tokens.now ≤ most_bytes }
     ensures written { IfOk result (WroteUnit input.now tokens.now (K.taken out.old) (K.taken out.new)) }
-    ensures front { OnErr result (WroteUnitFront input.now tokens.now (K.taken out.old) (K.taken out.new)) }
+    ensures prefix { OnErr result (WroteUnitPrefix input.now tokens.now (K.taken out.old) (K.taken out.new)) }
     ensures later { K.faults out.old ≤ K.faults out.new }
     ensures fault { result ≡ Err Stop.WriteFault → Rose (K.faults out.old) (K.faults out.new) }
 {
@@ -137,10 +137,10 @@ fn write_units<K: Sink>(
     pieces: &[Piece],
     out: &mut K,
 ) -> Result<Counts, Stop>
-    requires few { length tokens.now ≤ 16777216 }
+    requires few { length tokens.now ≤ most_bytes }
     requires joined { AreJoined 0 (length tokens.now) pieces.now }
     ensures written { IfOk result (WroteUnits input.now tokens.now pieces.now (K.taken out.old) (K.taken out.new)) }
-    ensures front { OnErr result (WroteUnitsFront input.now tokens.now pieces.now (K.taken out.old) (K.taken out.new)) }
+    ensures prefix { OnErr result (WroteUnitsPrefix input.now tokens.now pieces.now (K.taken out.old) (K.taken out.new)) }
     ensures later { K.faults out.old ≤ K.faults out.new }
     ensures fault { result ≡ Err Stop.WriteFault → Rose (K.faults out.old) (K.faults out.new) }
 {
@@ -157,7 +157,7 @@ fn write_units<K: Sink>(
 fn finish<K: Sink>(alloc: Global, counts: Counts, out: &mut K) -> Result<(), Stop>
     ensures all { OnOk result (Appended (K.taken out.old) (K.taken out.new) (summary_text counts)) }
     ensures flushed { OnOk result (IsFlushed (K.taken out.new) (K.flushed out.new)) }
-    ensures front { OnErr result (AppendedFront (K.taken out.old) (K.taken out.new) (summary_text counts)) }
+    ensures prefix { OnErr result (AppendedPrefix (K.taken out.old) (K.taken out.new) (summary_text counts)) }
     ensures later { K.faults out.old ≤ K.faults out.new }
     ensures fault { result ≡ Err Stop.WriteFault → Rose (K.faults out.old) (K.faults out.new) }
 {
@@ -187,9 +187,9 @@ fn write_text<K: Sink>(
 ) -> Result<Status, Stop>
     requires are { AreUnitsOf input.now units.now.tokens units.now.pieces.items }
     requires joined { AreJoined 0 (length units.now.tokens) units.now.pieces.items }
-    requires few { length units.now.tokens ≤ 16777216 }
+    requires few { length units.now.tokens ≤ most_bytes }
     ensures text { IfOk result (TookText input.now (K.taken out.old) (K.taken out.new) (K.flushed out.new)) }
-    ensures front { OnErr result (TookFront input.now (K.taken out.old) (K.taken out.new)) }
+    ensures prefix { OnErr result (TookPrefix input.now (K.taken out.old) (K.taken out.new)) }
     ensures fault { result ≡ Err Stop.WriteFault → Rose (K.faults out.old) (K.faults out.new) }
 {
     let counts = write_units(
@@ -205,10 +205,10 @@ fn write_text<K: Sink>(
 
 // The units of an input, and the places of its bytes.
 fn prepared<'a>(alloc: Global, bytes: &'a [u8]) -> Result<(Units, Places<'a>), NoMemory>
-    requires { length bytes.now ≤ 16777216 }
+    requires { length bytes.now ≤ most_bytes }
     ensures are { IfOk result (λ x. AreUnitsOf bytes.now x.0.tokens x.0.pieces.items) }
     ensures joined { IfOk result (λ x. AreJoined 0 (length x.0.tokens) x.0.pieces.items) }
-    ensures few { IfOk result (λ x. length x.0.tokens ≤ 16777216) }
+    ensures few { IfOk result (λ x. length x.0.tokens ≤ most_bytes) }
     ensures input { IfOk result (λ x. x.1 ≡ bytes.now) }
 {
     let units = cut_into_units(alloc, bytes)?;
@@ -229,11 +229,11 @@ fn ended(written: Result<Status, Stop>) -> Status
 
 // Judges what was read, writes its records and flushes them.
 fn answer<K: Sink>(alloc: Global, bytes: &[u8], out: &mut K) -> Status
-    requires { length bytes.now ≤ 16777216 }
+    requires { length bytes.now ≤ most_bytes }
     ensures only { IsWritten result ⊎ ((result ≡ Status.WriteFault) ⊎ (result ≡ Status.NoMemory)) }
     ensures text { IsWritten result → TookText bytes.now (K.taken out.old) (K.taken out.new) (K.flushed out.new) result }
-    ensures front { result ≡ Status.WriteFault → TookFront bytes.now (K.taken out.old) (K.taken out.new) }
-    ensures no_memory { result ≡ Status.NoMemory → (K.taken out.new ≡ K.taken out.old) ⊎ TookFront bytes.now (K.taken out.old) (K.taken out.new) }
+    ensures prefix { result ≡ Status.WriteFault → TookPrefix bytes.now (K.taken out.old) (K.taken out.new) }
+    ensures no_memory { result ≡ Status.NoMemory → (K.taken out.new ≡ K.taken out.old) ⊎ TookPrefix bytes.now (K.taken out.old) (K.taken out.new) }
     ensures fault { result ≡ Status.WriteFault → Rose (K.faults out.old) (K.faults out.new) }
 {
     let Ok((units, input)) = prepared(alloc, bytes) else {
@@ -246,20 +246,21 @@ fn answer<K: Sink>(alloc: Global, bytes: &[u8], out: &mut K) -> Status
 // Reads the input, judges it and writes its records.
 fn run<S: Source, K: Sink>(alloc: Global, words: &[String], source: &mut S, out: &mut K) -> Status
     ensures written { IsWritten result → HasWritten (S.left source.old) (S.left source.new) (K.taken out.old) (K.taken out.new) (K.flushed out.new) result }
-    ensures front { result ≡ Status.WriteFault → HasWrittenFront (S.left source.old) (S.left source.new) (K.taken out.old) (K.taken out.new) }
+    ensures prefix { result ≡ Status.WriteFault → HasWrittenPrefix (S.left source.old) (S.left source.new) (K.taken out.old) (K.taken out.new) }
     ensures nothing { IsUnread result → (K.taken out.new ≡ K.taken out.old) × (K.flushed out.new ≡ K.flushed out.old) }
-    ensures no_memory { result ≡ Status.NoMemory → (K.taken out.new ≡ K.taken out.old) ⊎ HasWrittenFront (S.left source.old) (S.left source.new) (K.taken out.old) (K.taken out.new) }
+    ensures no_memory { result ≡ Status.NoMemory → (K.taken out.new ≡ K.taken out.old) ⊎ HasWrittenPrefix (S.left source.old) (S.left source.new) (K.taken out.old) (K.taken out.new) }
     ensures only { IsWritten result ⊎ (IsUnread result ⊎ ((result ≡ Status.WriteFault) ⊎ (result ≡ Status.NoMemory))) }
     ensures bad_words { (result ≡ Status.BadWords) ↔ (0 < length words.now) }
     ensures unread { 0 < length words.now → (S.left source.new ≡ S.left source.old) × (S.faults source.new ≡ S.faults source.old) }
     ensures read_fault { result ≡ Status.ReadFault → Rose (S.faults source.old) (S.faults source.new) }
     ensures write_fault { result ≡ Status.WriteFault → Rose (K.faults out.old) (K.faults out.new) }
-    ensures too_large { (came : List ℕ) × Came (S.left source.old) (S.left source.new) came × ((result ≡ Status.TooLarge) ↔ (LIMIT < length came)) }
+    ensures too_large { (came : List ℕ) × Came (S.left source.old) (S.left source.new) came × ((result ≡ Status.TooLarge) ↔ (most_bytes < length came)) }
+    ensures no_fault { (result ≡ Status.ReadFault) ⊎ (S.faults source.new ≡ S.faults source.old) }
 {
     if !words.is_empty() {
         return Status::BadWords;
     }
-    match read_all(alloc, source, LIMIT) {
+    match read_all(alloc, source, MOST_BYTES) {
         Ok(bytes) => answer(alloc, bytes.as_slice(), out),
         Err(refusal) => refused(refusal),
     }
@@ -293,10 +294,10 @@ fn tell<E: Sink>(fault: &mut E, status: Status)
 ///   flushed; `Found` where at least one candidate is unstable. What is written of a unit is written as soon as the unit
 ///   has been judged.
 /// - `BadWords`: exactly where there are words. The source is unread.
-/// - `ReadFault`: only where the source counted a fault.
+/// - `ReadFault`: only where the source counted a fault, and after every other answer it counted none.
 /// - `TooLarge`: exactly where more than 16,777,216 bytes came before the end and before any failed call.
-/// - `WriteFault`: only where the sink counted a fault. It took some front of a lawful text.
-/// - `NoMemory`: an allocation was refused, which may come anywhere. The sink took nothing, or some front of a lawful
+/// - `WriteFault`: only where the sink counted a fault. It took some prefix of a lawful text.
+/// - `NoMemory`: an allocation was refused, which may come anywhere. The sink took nothing, or some prefix of a lawful
 ///   text.
 ///
 /// After `BadWords`, `ReadFault` and `TooLarge` the sink took nothing. Where the third sink counted no fault, it took
@@ -309,9 +310,9 @@ pub fn lint_main<S: Source, K: Sink, E: Sink>(
     fault: &mut E,
 ) -> Status
     ensures written { IsWritten result → HasWritten (S.left source.old) (S.left source.new) (K.taken out.old) (K.taken out.new) (K.flushed out.new) result }
-    ensures front { result ≡ Status.WriteFault → HasWrittenFront (S.left source.old) (S.left source.new) (K.taken out.old) (K.taken out.new) }
+    ensures prefix { result ≡ Status.WriteFault → HasWrittenPrefix (S.left source.old) (S.left source.new) (K.taken out.old) (K.taken out.new) }
     ensures nothing { IsUnread result → (K.taken out.new ≡ K.taken out.old) × (K.flushed out.new ≡ K.flushed out.old) }
-    ensures no_memory { result ≡ Status.NoMemory → (K.taken out.new ≡ K.taken out.old) ⊎ HasWrittenFront (S.left source.old) (S.left source.new) (K.taken out.old) (K.taken out.new) }
+    ensures no_memory { result ≡ Status.NoMemory → (K.taken out.new ≡ K.taken out.old) ⊎ HasWrittenPrefix (S.left source.old) (S.left source.new) (K.taken out.old) (K.taken out.new) }
     ensures only { IsWritten result ⊎ (IsUnread result ⊎ ((result ≡ Status.WriteFault) ⊎ (result ≡ Status.NoMemory))) }
 
     // When each refusal comes.
@@ -319,10 +320,11 @@ pub fn lint_main<S: Source, K: Sink, E: Sink>(
     ensures unread { 0 < length words.now → (S.left source.new ≡ S.left source.old) × (S.faults source.new ≡ S.faults source.old) }
     ensures read_fault { result ≡ Status.ReadFault → Rose (S.faults source.old) (S.faults source.new) }
     ensures write_fault { result ≡ Status.WriteFault → Rose (K.faults out.old) (K.faults out.new) }
-    ensures too_large { (came : List ℕ) × Came (S.left source.old) (S.left source.new) came × ((result ≡ Status.TooLarge) ↔ (LIMIT < length came)) }
+    ensures too_large { (came : List ℕ) × Came (S.left source.old) (S.left source.new) came × ((result ≡ Status.TooLarge) ↔ (16777216 < length came)) }
+    ensures no_fault { (result ≡ Status.ReadFault) ⊎ (S.faults source.new ≡ S.faults source.old) }
 
     // Without words, over a source that tells no more bytes than the limit, and where nothing fails.
-    ensures complete { (bytes : List ℕ) → length words.now ≡ 0 → S.left source.old ≡ Some bytes → length bytes ≤ LIMIT
+    ensures complete { (bytes : List ℕ) → length words.now ≡ 0 → S.left source.old ≡ Some bytes → length bytes ≤ 16777216
         → ¬ Rose (S.faults source.old) (S.faults source.new) → ¬ Rose (K.faults out.old) (K.faults out.new)
         → IsWritten result ⊎ (result ≡ Status.NoMemory) }
 

@@ -1,6 +1,7 @@
 //! What is written of a unit, and what it counts for.
 
 ghost use Rattle.std.specs.Prelude.{◌≡◌, ◌≤◌, ◌<◌, ◌∷◌, [], None, IfOk, IfSome, length};
+ghost use Rattle.stk_base.specs.Limits.{most_bytes};
 ghost use Rattle.stk_tree.specs.View.{view_function, view_unit};
 ghost use Rattle.stk_meaning.specs.Forms.{IsPlain};
 ghost use Rattle.stk_meaning.specs.Parts.{conditions, candidates};
@@ -122,7 +123,7 @@ fn skipped(
 
 // The unit that tokens are, its nodes laid out, or `None` exactly where no tree is these tokens.
 fn unit_of(alloc: Global, bytes: &[u8], tokens: &[Token]) -> Result<Option<Boxed<Unit>>, NoMemory>
-    requires { length tokens.now ≤ 16777216 }
+    requires { length tokens.now ≤ most_bytes }
     ensures found { IfOk result (λ found. IfSome found (λ unit. IsReadAs bytes.now tokens.now (view_unit unit))) }
     ensures none { IfOk result (λ found. found ≡ None → IsSkipped bytes.now tokens.now Cause.NoTree) }
 {
@@ -163,7 +164,7 @@ fn text_of_tree(
 /// function's candidates. The only refusal is want of memory.
 pub fn unit_text(alloc: Global, input: &Places, tokens: &[Token]) -> Result<UnitText, NoMemory>
     requires some { 0 < length tokens.now }
-    requires few { length tokens.now ≤ 16777216 }
+    requires few { length tokens.now ≤ most_bytes }
     ensures { IfOk result (λ unit. IsUnitText input.now tokens.now unit.text.items unit.counts) }
 {
     let found = unit_of(alloc, input.bytes(), tokens)?;

@@ -224,7 +224,7 @@ fn add_initial(bytes: &[u8], init: &Init, room: u32, out: &mut Vec<u8>) {
 }
 
 /// A base without braces.
-fn add_bare_base(bytes: &[u8], form: &BaseForm, out: &mut Vec<u8>) {
+fn add_unbraced_base(bytes: &[u8], form: &BaseForm, out: &mut Vec<u8>) {
     match form {
         BaseForm::Words(words) => {
             let mut between: &[u8] = b"";
@@ -251,7 +251,7 @@ fn add_bare_base(bytes: &[u8], form: &BaseForm, out: &mut Vec<u8>) {
 }
 
 fn add_parameter(bytes: &[u8], param: &Param, out: &mut Vec<u8>) {
-    add_bare_base(bytes, &param.base.form, out);
+    add_unbraced_base(bytes, &param.base.form, out);
     add(out, b"<");
     add_name(bytes, &param.declr, out);
     if let Tail::Arrays(list) = &param.declr.tail {
@@ -344,7 +344,7 @@ fn add_base(bytes: &[u8], form: &BaseForm, room: u32, out: &mut Vec<u8>) {
             }
             add(out, if *comma { b",,}" } else { b"}" })
         }
-        _ => add_bare_base(bytes, form, out),
+        _ => add_unbraced_base(bytes, form, out),
     }
 }
 

@@ -2,6 +2,7 @@
 
 ghost use Rattle.std.specs.Prelude.{◌≡◌, ◌++◌, ◌∷◌, [], ◌≤◌, IfOk, map, length, codes, decimal};
 ghost use Rattle.std.specs.Fmt.{signed_decimal};
+ghost use Rattle.stk_base.specs.Limits.{most_bytes};
 ghost use Rattle.stk_tree.specs.View.{view_expression, view_declarator, declarators, view_statement, view_part, parts, view_parameter, parameters, view_function};
 ghost use Rattle.stk_records.specs.Records.{printed_byte, file_text, position_text, place_text, expression_nodes, declarator_nodes, declarators_nodes, statement_nodes, part_nodes, parts_nodes, function_nodes, beginning, node_place, declarator_name, function_name, key_text, more_keys, start_text, kind_text, shown_text, need_text, needs_text, report_text, hit_text, finding_text, counted, found_text, left_out_text, skip_text, skip_words, summary_text};
 ghost use Rattle.stk_records.specs.Counts.{nothing_counted, counts_sum, AreAtMost};
@@ -44,8 +45,8 @@ impl Counts {
 
     /// The counts of two parts of a file together.
     pub fn plus(self, other: Counts) -> Counts
-        requires self_few { AreAtMost 16777216 self }
-        requires other_few { AreAtMost 16777216 other }
+        requires self_few { AreAtMost most_bytes self }
+        requires other_few { AreAtMost most_bytes other }
         ensures { result ≡ counts_sum self other }
     {
         Counts {

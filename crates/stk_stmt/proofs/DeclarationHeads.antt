@@ -9,51 +9,49 @@ use Rattle.stk_tree.specs.Syntax as s
 use Rattle.stk_tree.specs.Layout.{unit_laid_out}
 use Rattle.stk_tree.specs.Nodes.{unit_nodes}
 use Rattle.stk_tree.specs.Tokens.{declaration_tokens, unit_tokens}
-use Rattle.stk_layout.proofs.Few.{unit_tokens-few}
-use Rattle.stk_grammar.specs.Bare.{no_node}
+use Rattle.stk_tree_layout.proofs.Few.{unit_tokens-few}
+use Rattle.stk_tree.specs.Unlaid.{no_node, unlaid_declaration, unlaid_unit}
 use Rattle.stk_grammar.specs.Reading.{◌>>=◌, Found}
 use Rattle.stk_grammar.proofs.Operators.{bind_some, if_some, some_is}
-use Rattle.stk_decl_grammar.specs.Bare.{bare_declaration}
 use Rattle.stk_decl_grammar.specs.Reading.{declaration_at}
 use Rattle.stk_decl_grammar.proofs.Declarations.{declaration_reads, declaration_sound}
 use Rattle.stk_lexeme.specs.Lexemes.{lexeme_of, lexemes_of, spans_of}
-use Rattle.stk_stmt_grammar.specs.Bare.{bare_unit}
 use Rattle.stk_stmt_grammar.specs.Reading.{declared_on, is_end}
 use Rattle.stk_stmt_grammar.specs.Units.{IsUnit}
 use Rattle.stk_stmt_grammar.proofs.Found.{end_is}
-use Rattle.stk_stmt_grammar.proofs.LaidUnits.{laid_bare_unit, laid_is_unit}
+use Rattle.stk_stmt_grammar.proofs.LaidUnits.{laid_unlaid_unit, laid_is_unit}
 use Rattle.stk_stmt.specs.Heads.{IsHead, ended_lexemes, ended_spans, is_declaration, last_end}
 use Rattle.stk_stmt.specs.Units.{declaration_unit_at}
 
 -- a declaration that was read, without the records of its nodes
-pub record IsBareDeclaration (named : Span → Bool) (ts : List Lexeme) (u : UnitTree) : Type 0 where
+pub record IsLoneDeclaration (named : Span → Bool) (ts : List Lexeme) (u : UnitTree) : Type 0 where
   pub is : IsUnit named ts u
   pub declaration : is_declaration u ≡ true
-  pub bare : bare_unit u ≡ u
+  pub unlaid : unlaid_unit u ≡ u
 
-pub head_sound : (named : Span → Bool) (ts : List Lexeme) (u : UnitTree) → declaration_unit_at named 399 ts ≡ Some u → IsBareDeclaration named ts u
+pub head_sound : (named : Span → Bool) (ts : List Lexeme) (u : UnitTree) → declaration_unit_at named 399 ts ≡ Some u → IsLoneDeclaration named ts u
 head_sound named ts u e =
     let a = bind_some (declaration_at named true 399 ts) declared_on u e in
     let b = if_some (is_end a.0.1) (Some (s.declares no_node a.0.0)) u a.2 in
     let q = declaration_sound named true 399 ts a.0.0 a.0.1 a.1 in
     let p = q.0 in
-    subst (IsBareDeclaration named ts) (some_is (s.declares no_node a.0.0) u b.1) (record {
+    subst (IsLoneDeclaration named ts) (some_is (s.declares no_node a.0.0) u b.1) (record {
       is = record {
         tokens = p.tokens ∙ ap (λ r. declaration_tokens a.0.0 ++ r) (end_is a.0.1 b.0) ∙ append-nil (declaration_tokens a.0.0);
         placed = p.placed;
         fits = p.fits;
-        height = omega (arith, p.height);
+        nesting = omega (arith, p.nesting);
       };
       declaration = refl;
-      bare = ap (s.declares no_node) q.1;
+      unlaid = ap (s.declares no_node) q.1;
     })
 
-pub head_reads : (named : Span → Bool) (ts : List Lexeme) (u : UnitTree) → IsUnit named ts u → is_declaration u ≡ true → declaration_unit_at named 399 ts ≡ Some (bare_unit u)
+pub head_reads : (named : Span → Bool) (ts : List Lexeme) (u : UnitTree) → IsUnit named ts u → is_declaration u ≡ true → declaration_unit_at named 399 ts ≡ Some (unlaid_unit u)
 head_reads named ts (s.empty_unit n) h d = absurd cc
 head_reads named ts (s.defines n f) h d = absurd cc
 head_reads named ts (s.declares n t) h d =
     ap (λ (x : List Lexeme). declaration_at named true 399 x >>= declared_on) (h.tokens ∙ sym (append-nil (declaration_tokens t)))
-    ∙ ap (λ (o : Found DeclarationTree). o >>= declared_on) (declaration_reads named true 399 t [] h.placed h.fits (omega (arith, h.height)))
+    ∙ ap (λ (o : Found DeclarationTree). o >>= declared_on) (declaration_reads named true 399 t [] h.placed h.fits (omega (arith, h.nesting)))
 
 pub no_head : (named : Span → Bool) (ts : List Lexeme) → declaration_unit_at named 399 (ended_lexemes ts) ≡ None → (u : UnitTree) → IsHead named ts u → ⊥
 no_head named ts e u h = let k = head_reads named (ended_lexemes ts) u h.is h.declaration in cc (sym e ∙ k)
@@ -77,7 +75,7 @@ one_span_more named bytes tokens u e =
     let is = (head_sound named (ended_lexemes (lexemes_of bytes tokens)) u e).is in
     length-append (spans_of tokens) _ ∙ ap (λ n. n + 1) (length-map tokens (λ t. t.span) ∙ sym (length-map tokens (lexeme_of bytes))) ∙ sym (length-append (lexemes_of bytes tokens) _) ∙ ap length is.tokens
 
-pub few_head_nodes : (named : Span → Bool) (bytes : List ℕ) (tokens : List Token) (u : UnitTree) → length tokens ≤ 16777215 → declaration_unit_at named 399 (ended_lexemes (lexemes_of bytes tokens)) ≡ Some u
+pub few_head_nodes : (named : Span → Bool) (bytes : List ℕ) (tokens : List Token) (u : UnitTree) → length tokens ≤ 16777216 → declaration_unit_at named 399 (ended_lexemes (lexemes_of bytes tokens)) ≡ Some u
     → unit_nodes u < 2 ^ 32
 few_head_nodes named bytes tokens u few e =
     let is = (head_sound named (ended_lexemes (lexemes_of bytes tokens)) u e).is in
@@ -94,5 +92,5 @@ head_found named ts spans u x e q =
     let k = head_sound named (ended_lexemes ts) u e in
     record { is = rw q (laid_is_unit named (ended_lexemes ts) spans u k.is); declaration = ap is_declaration q ∙ declared_laid spans u ∙ k.declaration }
 
-pub head_places : (named : Span → Bool) (ts : List Lexeme) (spans : List Span) (u x : UnitTree) → declaration_unit_at named 399 (ended_lexemes ts) ≡ Some u → x ≡ unit_laid_out spans u → x ≡ unit_laid_out spans (bare_unit x)
-head_places named ts spans u x e q = laid_bare_unit spans u x (head_sound named (ended_lexemes ts) u e).bare q
+pub head_places : (named : Span → Bool) (ts : List Lexeme) (spans : List Span) (u x : UnitTree) → declaration_unit_at named 399 (ended_lexemes ts) ≡ Some u → x ≡ unit_laid_out spans u → x ≡ unit_laid_out spans (unlaid_unit x)
+head_places named ts spans u x e q = laid_unlaid_unit spans u x (head_sound named (ended_lexemes ts) u e).unlaid q

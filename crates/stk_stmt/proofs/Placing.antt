@@ -8,13 +8,13 @@ use Rattle.stk_tree.specs.Syntax.{UnitTree}
 use Rattle.stk_tree.specs.Layout.{unit_laid_out}
 use Rattle.stk_tree.specs.Nodes.{unit_nodes}
 use Rattle.stk_tree.specs.Tokens.{unit_tokens}
-use Rattle.stk_layout.proofs.Few.{unit_tokens-few}
+use Rattle.stk_tree_layout.proofs.Few.{unit_tokens-few}
 use Rattle.stk_lexeme.specs.Lexemes.{lexeme_of, lexemes_of, spans_of}
-use Rattle.stk_stmt_grammar.specs.Bare.{bare_unit}
+use Rattle.stk_tree.specs.Unlaid.{unlaid_unit}
 use Rattle.stk_stmt_grammar.specs.Reading.{unit_at}
 use Rattle.stk_stmt_grammar.specs.Units.{IsUnit}
-use Rattle.stk_stmt_grammar.proofs.LaidUnits.{laid_bare_unit, laid_is_unit}
-use Rattle.stk_stmt_grammar.proofs.Laws.{found_bare, unit_of_found}
+use Rattle.stk_stmt_grammar.proofs.LaidUnits.{laid_unlaid_unit, laid_is_unit}
+use Rattle.stk_stmt_grammar.proofs.Laws.{found_unlaid, unit_of_found}
 
 -- each token has a span
 pub one_span_each : (named : Span → Bool) (bytes : List ℕ) (tokens : List Token) (u : UnitTree) → unit_at named (lexemes_of bytes tokens) ≡ Some u → length (spans_of tokens) ≡ length (unit_tokens u)
@@ -32,5 +32,5 @@ few_nodes named bytes tokens u few e =
 pub laid_found : (named : Span → Bool) (ts : List Lexeme) (spans : List Span) (u x : UnitTree) → unit_at named ts ≡ Some u → x ≡ unit_laid_out spans u → IsUnit named ts x
 laid_found named ts spans u x e q = rw q (laid_is_unit named ts spans u (unit_of_found named ts u e))
 
-pub laid_places : (named : Span → Bool) (ts : List Lexeme) (spans : List Span) (u x : UnitTree) → unit_at named ts ≡ Some u → x ≡ unit_laid_out spans u → x ≡ unit_laid_out spans (bare_unit x)
-laid_places named ts spans u x e q = laid_bare_unit spans u x (found_bare named ts u e) q
+pub laid_places : (named : Span → Bool) (ts : List Lexeme) (spans : List Span) (u x : UnitTree) → unit_at named ts ≡ Some u → x ≡ unit_laid_out spans u → x ≡ unit_laid_out spans (unlaid_unit x)
+laid_places named ts spans u x e q = laid_unlaid_unit spans u x (found_unlaid named ts u e) q

@@ -4,7 +4,7 @@ use Rattle.stk_base.specs.declared.span.Span.{Span}
 use Rattle.stk_tree.specs.declared.fixed.Lexeme.{Lexeme}
 use Rattle.stk_tree.specs.Syntax.{LabelTrees, SectionTree}
 use Rattle.stk_tree.specs.Syntax as s
-use Rattle.stk_grammar.specs.Bare.{no_node}
+use Rattle.stk_tree.specs.Unlaid.{no_node}
 use Rattle.stk_grammar.specs.Reading.{◌>>=◌, Found}
 use Rattle.stk_stmt_grammar.specs.Reading.{StatementReader, label_at, labels_at, statements_at}
 

@@ -6,25 +6,15 @@
 ghost use Rattle.std.specs.Prelude.{◌≡◌, IfOk, map};
 ghost use Rattle.stk_tree.specs.Syntax as s;
 ghost use Rattle.stk_tree.specs.View.{given_expression, labels, parts, sections, statements, view_base, view_declaration, view_declarator, view_expression, view_label, view_part, view_section, view_start, view_statement, view_statement_form, view_unit};
-ghost use Rattle.stk_grammar.specs.Bare.{no_node};
+ghost use Rattle.stk_tree.specs.Unlaid.{no_node};
 ghost use Rattle.stk_stmt_grammar.specs.Reading.{made_statement};
 
 use std::alloc::{AllocError, Global};
 use stk_base::{Boxed, List, Span};
 use stk_tree::{
-    Base, Declaration, Declr, Expr, Function, Label, Node, Part, Section, Start, Stmt, StmtForm,
-    Storage, Unit,
+    Base, Declaration, Declr, Expr, Function, Label, Part, Section, Start, Stmt, StmtForm, Storage,
+    Unit, no_node,
 };
-
-/// The record of a node that isn't laid out yet.
-pub fn no_node() -> Node
-    ensures { result ≡ no_node }
-{
-    Node {
-        number: 0,
-        span: Span { from: 0, to: 0 },
-    }
-}
 
 /// A statement of this form.
 pub fn made(alloc: Global, form: StmtForm) -> Result<Boxed<Stmt>, AllocError>

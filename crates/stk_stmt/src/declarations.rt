@@ -1,10 +1,12 @@
 //! The declarations of blocks and of units, and where one begins.
 
 ghost use Rattle.std.specs.Prelude.{◌≡◌, ◌≤◌};
+ghost use Rattle.stk_tree.specs.Nesting.{most_nesting};
 ghost use Rattle.stk_tree.specs.View.{view_declaration, view_start};
 ghost use Rattle.stk_decl_grammar.specs.Reading.{declaration_at, front_at};
 ghost use Rattle.stk_stmt_grammar.specs.Reading.{begins_local, start_at};
-ghost use Rattle.stk_expr.specs.Gives.{Gives, named};
+ghost use Rattle.stk_ctype.specs.Names.{named};
+ghost use Rattle.stk_expr.specs.Gives.{Gives};
 
 use crate::build::opened;
 use crate::expressions::ended;
@@ -23,7 +25,7 @@ pub fn begins_local(bytes: &[u8], names: &Names, lexemes: &[Lexeme]) -> bool
     begins_static(lexemes) || begins_type(bytes, names, lexemes)
 }
 
-/// A declaration, of at most the height `room`, at file scope or else in a block.
+/// A declaration, of at most the nesting `room`, at file scope or else in a block.
 pub fn declaration<'a>(
     alloc: Global,
     bytes: &[u8],
@@ -32,13 +34,13 @@ pub fn declaration<'a>(
     room: usize,
     lexemes: &'a [Lexeme],
 ) -> Result<LeadingDeclaration<'a>, Parse>
-    requires { room ≤ 400 }
+    requires { room ≤ most_nesting }
     ensures { Gives (λ x. (view_declaration x.tree, x.rest.now)) result (declaration_at (named bytes.now names.now) file room lexemes.now) }
 {
     declaration_within(alloc, bytes, names, file, room, lexemes)
 }
 
-/// What stands before the body of a function, of at most the height `room`, where the body begins behind it.
+/// What stands before the body of a function, of at most the nesting `room`, where the body begins behind it.
 pub fn front<'a>(
     alloc: Global,
     bytes: &[u8],
@@ -46,7 +48,7 @@ pub fn front<'a>(
     room: usize,
     lexemes: &'a [Lexeme],
 ) -> Result<LeadingDeclaration<'a>, Parse>
-    requires { room ≤ 400 }
+    requires { room ≤ most_nesting }
     ensures { Gives (λ x. (view_declaration x.tree, x.rest.now)) result (front_at (named bytes.now names.now) room lexemes.now) }
 {
     front_within(alloc, bytes, names, room, lexemes)
@@ -61,7 +63,7 @@ pub fn start<'a>(
     room: usize,
     lexemes: &'a [Lexeme],
 ) -> Result<(Boxed<Start>, &'a [Lexeme]), Parse>
-    requires { room ≤ 400 }
+    requires { room ≤ most_nesting }
     ensures { Gives (λ x. (view_start x.0, x.1.now)) result (start_at (named bytes.now names.now) room lexemes.now) }
 {
     if begins_local(bytes, names, lexemes) {

@@ -1,33 +1,19 @@
 //! The expressions of statements, with the marks around them.
 
 ghost use Rattle.std.specs.Prelude.{◌≡◌, ◌≤◌};
+ghost use Rattle.stk_tree.specs.Nesting.{most_nesting};
 ghost use Rattle.stk_tree.specs.View.{given_expression, view_expression};
 ghost use Rattle.stk_grammar.specs.Stopped.{stopped_at};
 ghost use Rattle.stk_stmt_grammar.specs.Reading.{closed_at, condition_at, ended_at};
-ghost use Rattle.stk_expr.specs.Gives.{Gives, named};
+ghost use Rattle.stk_ctype.specs.Names.{named};
+ghost use Rattle.stk_expr.specs.Gives.{Gives};
 
 use std::alloc::Global;
 use stk_base::Boxed;
 use stk_ctype::Names;
-use stk_expr::{Leading, Parse, expression};
+use stk_expr::{Parse, stopped};
 use stk_grammar::{behind_left_paren, behind_right_paren, behind_semicolon};
-use stk_tree::{Expr, Lexeme};
-
-/// An expression of the level `level` or a higher one, of at most the height `room`, which a stop follows.
-pub fn stopped<'a>(
-    alloc: Global,
-    bytes: &[u8],
-    names: &Names,
-    room: usize,
-    level: usize,
-    lexemes: &'a [Lexeme],
-) -> Result<Leading<'a>, Parse>
-    requires room { room ≤ 400 }
-    requires level { (1 ≤ level) × (level ≤ 17) }
-    ensures { Gives (λ x. (view_expression x.tree, x.rest.now)) result (stopped_at (named bytes.now names.now) room level lexemes.now) }
-{
-    expression(alloc, bytes, names, room, level, lexemes)
-}
+use stk_tree::{Expr, Lexeme, levels};
 
 /// `( e )`
 #[tactic(auto, unfolding(stk_stmt_grammar::specs::Reading::condition_at))]
@@ -38,13 +24,13 @@ pub fn condition<'a>(
     room: usize,
     lexemes: &'a [Lexeme],
 ) -> Result<(Boxed<Expr>, &'a [Lexeme]), Parse>
-    requires { room ≤ 400 }
+    requires { room ≤ most_nesting }
     ensures { Gives (λ x. (view_expression x.0, x.1.now)) result (condition_at (named bytes.now names.now) room lexemes.now) }
 {
     let Some(inside) = behind_left_paren(lexemes) else {
         return Err(Parse::NoTree);
     };
-    let found = stopped(alloc, bytes, names, room, 1, inside)?;
+    let found = stopped(alloc, bytes, names, room, levels::COMMA, inside)?;
     let Some(rest) = behind_right_paren(found.rest) else {
         return Err(Parse::NoTree);
     };
@@ -60,13 +46,13 @@ pub fn ended<'a>(
     room: usize,
     lexemes: &'a [Lexeme],
 ) -> Result<(Option<Boxed<Expr>>, &'a [Lexeme]), Parse>
-    requires { room ≤ 400 }
+    requires { room ≤ most_nesting }
     ensures { Gives (λ x. (given_expression x.0, x.1.now)) result (ended_at (named bytes.now names.now) room lexemes.now) }
 {
     if let Some(rest) = behind_semicolon(lexemes) {
         return Ok((None, rest));
     }
-    let found = stopped(alloc, bytes, names, room, 1, lexemes)?;
+    let found = stopped(alloc, bytes, names, room, levels::COMMA, lexemes)?;
     let Some(rest) = behind_semicolon(found.rest) else {
         return Err(Parse::NoTree);
     };
@@ -82,13 +68,13 @@ pub fn closed<'a>(
     room: usize,
     lexemes: &'a [Lexeme],
 ) -> Result<(Option<Boxed<Expr>>, &'a [Lexeme]), Parse>
-    requires { room ≤ 400 }
+    requires { room ≤ most_nesting }
     ensures { Gives (λ x. (given_expression x.0, x.1.now)) result (closed_at (named bytes.now names.now) room lexemes.now) }
 {
     if let Some(rest) = behind_right_paren(lexemes) {
         return Ok((None, rest));
     }
-    let found = stopped(alloc, bytes, names, room, 1, lexemes)?;
+    let found = stopped(alloc, bytes, names, room, levels::COMMA, lexemes)?;
     let Some(rest) = behind_right_paren(found.rest) else {
         return Err(Parse::NoTree);
     };

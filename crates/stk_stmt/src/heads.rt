@@ -1,9 +1,11 @@
 //! The reader of a declaration whose `;` is left away, and where that `;` stands.
 
-ghost use Rattle.std.specs.Prelude.{◌≡◌};
+ghost use Rattle.std.specs.Prelude.{◌≡◌, ◌-◌};
+ghost use Rattle.stk_tree.specs.Nesting.{most_nesting};
 ghost use Rattle.stk_tree.specs.View.{view_unit};
 ghost use Rattle.stk_lexeme.specs.Lexemes.{spans_of};
-ghost use Rattle.stk_expr.specs.Gives.{Gives, named};
+ghost use Rattle.stk_ctype.specs.Names.{named};
+ghost use Rattle.stk_expr.specs.Gives.{Gives};
 ghost use Rattle.stk_stmt.specs.Heads.{last_end};
 ghost use Rattle.stk_stmt.specs.Units.{declaration_unit_at};
 
@@ -35,7 +37,7 @@ pub fn head_of(
     names: &Names,
     lexemes: &[Lexeme],
 ) -> Result<Boxed<Unit>, Parse>
-    ensures { Gives (λ x. view_unit x) result (declaration_unit_at (named bytes.now names.now) 399 lexemes.now) }
+    ensures { Gives (λ x. view_unit x) result (declaration_unit_at (named bytes.now names.now) (most_nesting - 1) lexemes.now) }
 {
     declaration_unit(alloc, bytes, names, lexemes)
 }

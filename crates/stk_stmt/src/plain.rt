@@ -1,22 +1,24 @@
 //! Labels, and the statements, or the ends of statements, that hold no other statement (C11 6.8).
 
 ghost use Rattle.std.specs.Prelude.{◌≡◌, ◌≤◌, map};
+ghost use Rattle.stk_tree.specs.Nesting.{most_nesting};
 ghost use Rattle.stk_tree.specs.Syntax as s;
 ghost use Rattle.stk_tree.specs.View.{labels, view_label, view_statement};
 ghost use Rattle.stk_stmt_grammar.specs.Reading.{label_at, plain_at, return_at, word_statement};
-ghost use Rattle.stk_expr.specs.Gives.{Gives, named};
+ghost use Rattle.stk_ctype.specs.Names.{named};
+ghost use Rattle.stk_expr.specs.Gives.{Gives};
 ghost use Rattle.stk_stmt.specs.Sections.{some_labels_at};
 ghost use Rattle.stk_stmt.specs.Loops.{do_behind};
 
 use crate::build;
-use crate::expressions::{condition, ended, stopped};
+use crate::expressions::{condition, ended};
 use std::alloc::Global;
 use stk_base::{Boxed, List};
 use stk_ctype::Names;
-use stk_expr::Parse;
+use stk_expr::{Parse, stopped};
 use stk_grammar::{behind_colon, behind_semicolon};
 use stk_stmt_grammar::{begins_label, behind_case, behind_default, behind_while};
-use stk_tree::{Label, Lexeme, Stmt};
+use stk_tree::{Label, Lexeme, Stmt, levels};
 
 /// `case e :` or `default :`
 #[tactic(auto, unfolding(stk_stmt_grammar::specs::Reading::label_at))]
@@ -27,11 +29,11 @@ fn label<'a>(
     room: usize,
     lexemes: &'a [Lexeme],
 ) -> Result<(Label, &'a [Lexeme]), Parse>
-    requires { room ≤ 400 }
+    requires { room ≤ most_nesting }
     ensures { Gives (λ x. (view_label x.0, x.1.now)) result (label_at (named bytes.now names.now) room lexemes.now) }
 {
     if let Some(inside) = behind_case(lexemes) {
-        let found = stopped(alloc, bytes, names, room, 3, inside)?;
+        let found = stopped(alloc, bytes, names, room, levels::CONDITIONAL, inside)?;
         let Some(rest) = behind_colon(found.rest) else {
             return Err(Parse::NoTree);
         };
@@ -54,7 +56,7 @@ pub fn labels<'a>(
     room: usize,
     lexemes: &'a [Lexeme],
 ) -> Result<(List<Label>, &'a [Lexeme]), Parse>
-    requires { room ≤ 400 }
+    requires { room ≤ most_nesting }
     ensures { Gives (λ x. (labels (map view_label x.0), x.1.now)) result (some_labels_at (named bytes.now names.now) room lexemes.now) }
 {
     let (first, mut rest) = label(alloc, bytes, names, room, lexemes)?;
@@ -103,7 +105,7 @@ pub fn return_statement<'a>(
     room: usize,
     lexemes: &'a [Lexeme],
 ) -> Result<(Boxed<Stmt>, &'a [Lexeme]), Parse>
-    requires { room ≤ 400 }
+    requires { room ≤ most_nesting }
     ensures { Gives (λ x. (view_statement x.0, x.1.now)) result (return_at (named bytes.now names.now) room lexemes.now) }
 {
     let (value, rest) = ended(alloc, bytes, names, room, lexemes)?;
@@ -119,7 +121,7 @@ pub fn plain_statement<'a>(
     room: usize,
     lexemes: &'a [Lexeme],
 ) -> Result<(Boxed<Stmt>, &'a [Lexeme]), Parse>
-    requires { room ≤ 400 }
+    requires { room ≤ most_nesting }
     ensures { Gives (λ x. (view_statement x.0, x.1.now)) result (plain_at (named bytes.now names.now) room lexemes.now) }
 {
     let (value, rest) = ended(alloc, bytes, names, room, lexemes)?;
@@ -135,7 +137,7 @@ pub fn do_test<'a>(
     body: Boxed<Stmt>,
     lexemes: &'a [Lexeme],
 ) -> Result<(Boxed<Stmt>, &'a [Lexeme]), Parse>
-    requires { room ≤ 400 }
+    requires { room ≤ most_nesting }
     ensures { Gives (λ x. (view_statement x.0, x.1.now)) result (do_behind (named bytes.now names.now) room (view_statement body) lexemes.now) }
 {
     let Some(inside) = behind_while(lexemes) else {

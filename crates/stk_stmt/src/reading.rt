@@ -2,13 +2,14 @@
 
 ghost use Rattle.std.specs.Prelude.{◌≡◌, ◌≤◌, IfOk, length};
 ghost use Rattle.std.specs.Result.{IsErrOf};
+ghost use Rattle.stk_base.specs.Limits.{most_bytes};
 ghost use Rattle.stk_tree.specs.Layout.{unit_laid_out};
 ghost use Rattle.stk_tree.specs.Syntax.{UnitTree};
 ghost use Rattle.stk_tree.specs.View.{view_unit};
 ghost use Rattle.stk_lexeme.specs.Lexemes.{lexemes_of, spans_of};
-ghost use Rattle.stk_stmt_grammar.specs.Bare.{bare_unit};
+ghost use Rattle.stk_tree.specs.Unlaid.{unlaid_unit};
 ghost use Rattle.stk_stmt_grammar.specs.Units.{IsUnit};
-ghost use Rattle.stk_expr.specs.Gives.{named};
+ghost use Rattle.stk_ctype.specs.Names.{named};
 ghost use Rattle.stk_stmt.specs.Heads.{IsHead, ended_lexemes, ended_spans};
 
 use crate::heads::{end_of, head_of};
@@ -17,15 +18,15 @@ use std::alloc::Global;
 use stk_base::{Boxed, Span};
 use stk_ctype::Names;
 use stk_expr::Parse;
-use stk_layout::lay_out;
 use stk_lex::Token;
 use stk_lexeme::{lexemes_of, spans_of};
 use stk_tree::{Fixed, Lexeme, Unit};
+use stk_tree_layout::lay_out;
 
-/// Reads the unit that all of these tokens are (C11 6.9): a bare `;`, a declaration, or the definition of a function.
+/// Reads the unit that all of these tokens are (C11 6.9): a lone `;`, a declaration, or the definition of a function.
 ///
 /// `tokens` are those of a unit of `bytes`, at most 16,777,216, and the words that `names` has as typedef names stand for types. The
-/// answered tree is well placed, fits the names, is at most 400 high and prints exactly the tokens. Its nodes are numbered from 0,
+/// answered tree is well placed, fits the names, nests at most 400 deep and prints exactly the tokens. Its nodes are numbered from 0,
 /// children from left to right and then their parent, and each has the span of its tokens. `NoTree` comes exactly where no tree is so.
 pub fn unit(
     alloc: Global,
@@ -33,9 +34,9 @@ pub fn unit(
     tokens: &[Token],
     names: &Names,
 ) -> Result<Boxed<Unit>, Parse>
-    requires { length tokens.now ≤ 16777216 }
+    requires { length tokens.now ≤ most_bytes }
     ensures found { IfOk result (λ x. IsUnit (named bytes.now names.now) (lexemes_of bytes.now tokens.now) (view_unit x)) }
-    ensures places { IfOk result (λ x. view_unit x ≡ unit_laid_out (spans_of tokens.now) (bare_unit (view_unit x))) }
+    ensures places { IfOk result (λ x. view_unit x ≡ unit_laid_out (spans_of tokens.now) (unlaid_unit (view_unit x))) }
     ensures none { IsErrOf result Parse.NoTree → (u : UnitTree) → IsUnit (named bytes.now names.now) (lexemes_of bytes.now tokens.now) u → ⊥ }
 {
     let lexemes = lexemes_of(alloc, bytes, tokens)?;
@@ -55,9 +56,9 @@ pub fn head(
     tokens: &[Token],
     names: &Names,
 ) -> Result<Boxed<Unit>, Parse>
-    requires { length tokens.now ≤ 16777215 }
+    requires { length tokens.now ≤ most_bytes }
     ensures found { IfOk result (λ x. IsHead (named bytes.now names.now) (lexemes_of bytes.now tokens.now) (view_unit x)) }
-    ensures places { IfOk result (λ x. view_unit x ≡ unit_laid_out (ended_spans (spans_of tokens.now)) (bare_unit (view_unit x))) }
+    ensures places { IfOk result (λ x. view_unit x ≡ unit_laid_out (ended_spans (spans_of tokens.now)) (unlaid_unit (view_unit x))) }
     ensures none { IsErrOf result Parse.NoTree → (u : UnitTree) → IsHead (named bytes.now names.now) (lexemes_of bytes.now tokens.now) u → ⊥ }
 {
     let mut lexemes = lexemes_of(alloc, bytes, tokens)?;

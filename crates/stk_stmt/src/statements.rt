@@ -1,11 +1,13 @@
 //! The readers of statements: each reads what its definition reads, until memory runs out (C11 6.8).
 //!
-//! They call one another no deeper than the height that is left, and each loop takes a token or more in a turn.
+//! They call one another no deeper than the nesting that is left, and each loop takes a token or more in a turn.
 
 ghost use Rattle.std.specs.Prelude.{◌≡◌, ◌≤◌, ◌<◌, map, suc, length};
+ghost use Rattle.stk_tree.specs.Nesting.{most_nesting};
 ghost use Rattle.stk_tree.specs.View.{given_expression, parts, sections, statements, view_expression, view_part, view_section, view_statement};
 ghost use Rattle.stk_stmt_grammar.specs.Reading.{behind_else, block_at, do_at, else_on, if_at, part_at, parts_at, section_at, sections_at, statement_at, statement_on, statements_at, switch_at, while_at};
-ghost use Rattle.stk_expr.specs.Gives.{Gives, named};
+ghost use Rattle.stk_ctype.specs.Names.{named};
+ghost use Rattle.stk_expr.specs.Gives.{Gives};
 ghost use Rattle.stk_stmt.specs.Loops.{for_parts_at, for_with};
 ghost use Rattle.stk_stmt.specs.Sections.{section_with};
 
@@ -32,7 +34,7 @@ struct ForParts<'a> {
     rest: &'a [Lexeme],
 }
 
-/// A statement, of at most the height `room`.
+/// A statement, of at most the nesting `room`.
 #[cycle(statement)]
 pub fn statement<'a>(
     alloc: Global,
@@ -41,7 +43,7 @@ pub fn statement<'a>(
     room: usize,
     lexemes: &'a [Lexeme],
 ) -> Result<(Boxed<Stmt>, &'a [Lexeme]), Parse>
-    requires { room ≤ 400 }
+    requires { room ≤ most_nesting }
     ensures { Gives (λ x. (view_statement x.0, x.1.now)) result (statement_at (named bytes.now names.now) room lexemes.now) }
 {
     if room == 0 {
@@ -61,7 +63,7 @@ fn statement_of<'a>(
     kind: Kind,
     lexemes: &'a [Lexeme],
 ) -> Result<(Boxed<Stmt>, &'a [Lexeme]), Parse>
-    requires { inner < 400 }
+    requires { inner < most_nesting }
     ensures { Gives (λ x. (view_statement x.0, x.1.now)) result (statement_on (named bytes.now names.now) inner (statement_at (named bytes.now names.now) inner) (section_at (named bytes.now names.now) inner) kind lexemes.now) }
 {
     let behind = behind_first(lexemes);
@@ -89,7 +91,7 @@ fn part<'a>(
     inner: usize,
     lexemes: &'a [Lexeme],
 ) -> Result<(Part, &'a [Lexeme]), Parse>
-    requires { inner < 400 }
+    requires { inner < most_nesting }
     ensures { Gives (λ x. (view_part x.0, x.1.now)) result (part_at (named bytes.now names.now) inner (statement_at (named bytes.now names.now) inner) lexemes.now) }
 {
     if begins_local(bytes, names, lexemes) {
@@ -109,7 +111,7 @@ fn parts<'a>(
     inner: usize,
     lexemes: &'a [Lexeme],
 ) -> Result<(List<Part>, &'a [Lexeme]), Parse>
-    requires { inner < 400 }
+    requires { inner < most_nesting }
     ensures { Gives (λ x. (parts (map view_part x.0), x.1.now)) result (parts_at (named bytes.now names.now) inner (statement_at (named bytes.now names.now) inner) (suc (length lexemes.now)) lexemes.now) }
 {
     let mut list = Vec::new(alloc);
@@ -135,7 +137,7 @@ fn block<'a>(
     inner: usize,
     lexemes: &'a [Lexeme],
 ) -> Result<(Boxed<Stmt>, &'a [Lexeme]), Parse>
-    requires { inner < 400 }
+    requires { inner < most_nesting }
     ensures { Gives (λ x. (view_statement x.0, x.1.now)) result (block_at (named bytes.now names.now) inner (statement_at (named bytes.now names.now) inner) lexemes.now) }
 {
     let (list, rest) = parts(alloc, bytes, names, inner, lexemes)?;
@@ -153,7 +155,7 @@ fn if_rest<'a>(
     then: Boxed<Stmt>,
     lexemes: &'a [Lexeme],
 ) -> Result<(Boxed<Stmt>, &'a [Lexeme]), Parse>
-    requires { inner < 400 }
+    requires { inner < most_nesting }
     ensures { Gives (λ x. (view_statement x.0, x.1.now)) result (else_on (statement_at (named bytes.now names.now) inner) (view_expression test) (view_statement then) (behind_else lexemes.now) lexemes.now) }
 {
     let Some(inside) = behind_else(lexemes) else {
@@ -173,7 +175,7 @@ fn if_statement<'a>(
     inner: usize,
     lexemes: &'a [Lexeme],
 ) -> Result<(Boxed<Stmt>, &'a [Lexeme]), Parse>
-    requires { inner < 400 }
+    requires { inner < most_nesting }
     ensures { Gives (λ x. (view_statement x.0, x.1.now)) result (if_at (named bytes.now names.now) inner (statement_at (named bytes.now names.now) inner) lexemes.now) }
 {
     let (test, rest) = condition(alloc, bytes, names, inner, lexemes)?;
@@ -191,7 +193,7 @@ fn while_statement<'a>(
     inner: usize,
     lexemes: &'a [Lexeme],
 ) -> Result<(Boxed<Stmt>, &'a [Lexeme]), Parse>
-    requires { inner < 400 }
+    requires { inner < most_nesting }
     ensures { Gives (λ x. (view_statement x.0, x.1.now)) result (while_at (named bytes.now names.now) inner (statement_at (named bytes.now names.now) inner) lexemes.now) }
 {
     let (test, rest) = condition(alloc, bytes, names, inner, lexemes)?;
@@ -209,7 +211,7 @@ fn do_statement<'a>(
     inner: usize,
     lexemes: &'a [Lexeme],
 ) -> Result<(Boxed<Stmt>, &'a [Lexeme]), Parse>
-    requires { inner < 400 }
+    requires { inner < most_nesting }
     ensures { Gives (λ x. (view_statement x.0, x.1.now)) result (do_at (named bytes.now names.now) inner (statement_at (named bytes.now names.now) inner) lexemes.now) }
 {
     let (body, rest) = statement(alloc, bytes, names, inner, lexemes)?;
@@ -225,7 +227,7 @@ fn for_parts<'a>(
     inner: usize,
     lexemes: &'a [Lexeme],
 ) -> Result<ForParts<'a>, Parse>
-    requires { inner < 400 }
+    requires { inner < most_nesting }
     ensures { Gives (λ x. ((given_expression x.test, given_expression x.step, view_statement x.body), x.rest.now)) result (for_parts_at (named bytes.now names.now) inner (statement_at (named bytes.now names.now) inner) lexemes.now) }
 {
     let (test, rest) = ended(alloc, bytes, names, inner, lexemes)?;
@@ -248,7 +250,7 @@ fn for_statement<'a>(
     inner: usize,
     lexemes: &'a [Lexeme],
 ) -> Result<(Boxed<Stmt>, &'a [Lexeme]), Parse>
-    requires { inner < 400 }
+    requires { inner < most_nesting }
     ensures { Gives (λ x. (view_statement x.0, x.1.now)) result (for_with (named bytes.now names.now) inner (statement_at (named bytes.now names.now) inner) lexemes.now) }
 {
     let Some(inside) = behind_left_paren(lexemes) else {
@@ -270,7 +272,7 @@ fn switch_statement<'a>(
     inner: usize,
     lexemes: &'a [Lexeme],
 ) -> Result<(Boxed<Stmt>, &'a [Lexeme]), Parse>
-    requires { inner < 400 }
+    requires { inner < most_nesting }
     ensures { Gives (λ x. (view_statement x.0, x.1.now)) result (switch_at (named bytes.now names.now) inner (section_at (named bytes.now names.now) inner) lexemes.now) }
 {
     let (value, rest) = condition(alloc, bytes, names, inner, lexemes)?;
@@ -290,7 +292,7 @@ fn sections<'a>(
     inner: usize,
     lexemes: &'a [Lexeme],
 ) -> Result<(List<Section>, &'a [Lexeme]), Parse>
-    requires { inner < 400 }
+    requires { inner < most_nesting }
     ensures { Gives (λ x. (sections (map view_section x.0), x.1.now)) result (sections_at (section_at (named bytes.now names.now) inner) (suc (length lexemes.now)) lexemes.now) }
 {
     let mut list = Vec::new(alloc);
@@ -306,7 +308,7 @@ fn sections<'a>(
     Err(Parse::NoTree)
 }
 
-/// A section of a `switch`, of at most the height `room`.
+/// A section of a `switch`, of at most the nesting `room`.
 #[cycle(statement)]
 fn section<'a>(
     alloc: Global,
@@ -315,7 +317,7 @@ fn section<'a>(
     room: usize,
     lexemes: &'a [Lexeme],
 ) -> Result<(Section, &'a [Lexeme]), Parse>
-    requires { room ≤ 400 }
+    requires { room ≤ most_nesting }
     ensures { Gives (λ x. (view_section x.0, x.1.now)) result (section_at (named bytes.now names.now) room lexemes.now) }
 {
     if room == 0 {
@@ -333,7 +335,7 @@ fn section_of<'a>(
     inner: usize,
     lexemes: &'a [Lexeme],
 ) -> Result<(Section, &'a [Lexeme]), Parse>
-    requires { inner < 400 }
+    requires { inner < most_nesting }
     ensures { Gives (λ x. (view_section x.0, x.1.now)) result (section_with (named bytes.now names.now) inner (statement_at (named bytes.now names.now) inner) lexemes.now) }
 {
     let (marks, rest) = labels(alloc, bytes, names, inner, lexemes)?;
@@ -350,7 +352,7 @@ fn section_body<'a>(
     inner: usize,
     lexemes: &'a [Lexeme],
 ) -> Result<(List<Stmt>, &'a [Lexeme]), Parse>
-    requires { inner < 400 }
+    requires { inner < most_nesting }
     ensures { Gives (λ x. (statements (map view_statement x.0), x.1.now)) result (statements_at (statement_at (named bytes.now names.now) inner) (suc (length lexemes.now)) lexemes.now) }
 {
     let mut list = Vec::new(alloc);

@@ -1,9 +1,11 @@
 //! The readers of units (C11 6.9).
 
-ghost use Rattle.std.specs.Prelude.{◌≡◌, map, option_map};
+ghost use Rattle.std.specs.Prelude.{◌≡◌, map, option_map, ◌-◌};
+ghost use Rattle.stk_tree.specs.Nesting.{most_nesting};
 ghost use Rattle.stk_tree.specs.View.{declarators, view_declaration, view_declarator, view_statement, view_unit};
 ghost use Rattle.stk_stmt_grammar.specs.Reading.{function_of, unit_at};
-ghost use Rattle.stk_expr.specs.Gives.{Gives, named};
+ghost use Rattle.stk_ctype.specs.Names.{named};
+ghost use Rattle.stk_expr.specs.Gives.{Gives};
 ghost use Rattle.stk_stmt.specs.Units.{declaration_unit_at, definition_at, lone_declarator};
 
 use crate::build;
@@ -14,7 +16,7 @@ use stk_base::{Boxed, List};
 use stk_ctype::Names;
 use stk_expr::Parse;
 use stk_stmt_grammar::is_semicolon;
-use stk_tree::{Declaration, Declr, Lexeme, Stmt, Unit};
+use stk_tree::{Declaration, Declr, Lexeme, MOST_NESTING, Stmt, Unit};
 
 /// The declarator of a list that has one.
 fn lone(list: List<Declr>) -> Option<Declr>
@@ -49,9 +51,9 @@ fn definition(
     head: Declaration,
     lexemes: &[Lexeme],
 ) -> Result<Boxed<Unit>, Parse>
-    ensures { Gives (λ x. view_unit x) result (definition_at (named bytes.now names.now) 399 (view_declaration head) lexemes.now) }
+    ensures { Gives (λ x. view_unit x) result (definition_at (named bytes.now names.now) (most_nesting - 1) (view_declaration head) lexemes.now) }
 {
-    let (body, rest) = statement(alloc, bytes, names, 399, lexemes)?;
+    let (body, rest) = statement(alloc, bytes, names, MOST_NESTING - 1, lexemes)?;
     if rest.is_empty() {
         function(alloc, head, body)
     } else {
@@ -66,9 +68,9 @@ pub fn declaration_unit(
     names: &Names,
     lexemes: &[Lexeme],
 ) -> Result<Boxed<Unit>, Parse>
-    ensures { Gives (λ x. view_unit x) result (declaration_unit_at (named bytes.now names.now) 399 lexemes.now) }
+    ensures { Gives (λ x. view_unit x) result (declaration_unit_at (named bytes.now names.now) (most_nesting - 1) lexemes.now) }
 {
-    let found = declaration(alloc, bytes, names, true, 399, lexemes)?;
+    let found = declaration(alloc, bytes, names, true, MOST_NESTING - 1, lexemes)?;
     if found.rest.is_empty() {
         Ok(build::declares(alloc, found.tree)?)
     } else {
@@ -89,7 +91,7 @@ pub fn unit_of(
     if is_semicolon(lexemes) {
         return Ok(build::empty_unit(alloc)?);
     }
-    match front(alloc, bytes, names, 399, lexemes) {
+    match front(alloc, bytes, names, MOST_NESTING - 1, lexemes) {
         Ok(head) => definition(alloc, bytes, names, head.tree, head.rest),
         Err(Parse::NoTree) => declaration_unit(alloc, bytes, names, lexemes),
         Err(Parse::NoMemory) => Err(Parse::NoMemory),

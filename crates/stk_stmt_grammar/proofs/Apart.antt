@@ -10,18 +10,17 @@ use Rattle.stk_tree.specs.declared.fixed.Fixed.TheVariants as fixed
 use Rattle.stk_tree.specs.declared.fixed.Lexeme.{Lexeme}
 use Rattle.stk_tree.specs.declared.fixed.Lexeme.TheVariants.{Leaf, Fixed as Token}
 use Rattle.stk_tree.specs.declared.node.Node.{Node}
-use Rattle.stk_tree.specs.Height.{declaration_height, declarators_height, tail_height}
-use Rattle.stk_tree.specs.Placed.{base_form_placed, declarators_placed, file_declarators, file_placed, is_bare, is_basic, tail_placed}
+use Rattle.stk_tree.specs.Nesting.{declaration_nesting, declarators_nesting, tail_nesting}
+use Rattle.stk_tree.specs.Placed.{base_form_placed, declarators_placed, file_declarators, file_placed, is_unbraced, is_basic, tail_placed}
 use Rattle.stk_tree.specs.Syntax.{BaseFormTree, DeclarationTree, DeclrTree, DeclrTrees, DimensionTrees, MaybeInitTree, TailTree}
 use Rattle.stk_tree.specs.Syntax as s
 use Rattle.stk_tree.specs.Tokens.{declaration_tokens}
-use Rattle.stk_grammar.specs.Bare.{no_node, bare_base_form, bare_tail}
-use Rattle.stk_grammar.specs.Fits.{base_form_fits, declarators_fits, tail_fits}
+use Rattle.stk_tree.specs.Unlaid.{no_node, unlaid_base_form, unlaid_tail}
+use Rattle.stk_tree.specs.Fits.{base_form_fits, declarators_fits, tail_fits, declaration_fits}
 use Rattle.stk_grammar.specs.Reading.{◌>>=◌, Found, base_at, behind_left_brace, behind_left_paren, stars_at, words_at}
 use Rattle.stk_grammar.proofs.Complete.{stars_read_all}
 use Rattle.stk_grammar.proofs.Operators.{both_true, if_some, some_is}
 use Rattle.stk_grammar.proofs.Prints.{prints_dimensions, prints_stars}
-use Rattle.stk_decl_grammar.specs.Declarations.{declaration_fits}
 use Rattle.stk_decl_grammar.specs.Reading.{front_at, front_behind, function_declarator_at, function_name_behind, function_tail, if_body, low_declarator, storage_at}
 use Rattle.stk_decl_grammar.proofs.Arrays.{name_read, named_declarator_no_words}
 use Rattle.stk_decl_grammar.proofs.Parameters.{parameter_tail_read, specifier_read}
@@ -63,13 +62,13 @@ arrays_no_paren (s.then_dimension s.open_dimension ds) i xs = refl
 arrays_no_paren (s.then_dimension (s.sized e) ds) i xs = refl
 
 -- behind a name
-tail_no_body : (named : Span → Bool) (inner count : ℕ) (at : Span) (t : TailTree) (i : MaybeInitTree) (xs : DeclrTrees) → tail_placed t ≡ true → tail_fits named t ≡ true → tail_height t ≤ inner
+tail_no_body : (named : Span → Bool) (inner count : ℕ) (at : Span) (t : TailTree) (i : MaybeInitTree) (xs : DeclrTrees) → tail_placed t ≡ true → tail_fits named t ≡ true → tail_nesting t ≤ inner
     → NoBody (function_tail named inner count (at, prints_tail t (behind_tail i xs)))
 tail_no_body named inner count at (s.arrays ds) i xs p q low = no_body_of_none _ (rw (arrays_no_paren ds i xs) refl)
 tail_no_body named inner count at s.unspecified i xs p q low = no_body_of_low (suc inner) (s.declarator no_node count (Some at) s.unspecified s.no_initialiser) (behind_tail i xs) _ (tail_no_brace i xs) (rw (parameter_tail_read s.unspecified named inner (behind_tail i xs) refl p q low) refl)
 tail_no_body named inner count at s.void_parameters i xs p q low = no_body_of_low (suc inner) (s.declarator no_node count (Some at) s.void_parameters s.no_initialiser) (behind_tail i xs) _ (tail_no_brace i xs) (rw (parameter_tail_read s.void_parameters named inner (behind_tail i xs) refl p q low) refl)
 tail_no_body named inner count at (s.with_parameters ps more) i xs p q low =
-    no_body_of_low (suc inner) (s.declarator no_node count (Some at) (bare_tail (s.with_parameters ps more)) s.no_initialiser) (behind_tail i xs) _ (tail_no_brace i xs) (rw (parameter_tail_read (s.with_parameters ps more) named inner (behind_tail i xs) refl p q low) refl)
+    no_body_of_low (suc inner) (s.declarator no_node count (Some at) (unlaid_tail (s.with_parameters ps more)) s.no_initialiser) (behind_tail i xs) _ (tail_no_brace i xs) (rw (parameter_tail_read (s.with_parameters ps more) named inner (behind_tail i xs) refl p q low) refl)
 
 word_no_star : (at : Span) (r : List Lexeme) (m : ℕ) → stars_at m (Leaf Word at ∷ r) ≡ (m, Leaf Word at ∷ r)
 unfolding stars_at
@@ -96,7 +95,7 @@ semicolon_no_star : (r : List Lexeme) (m : ℕ) → stars_at m (Token fixed.Semi
 unfolding stars_at
 semicolon_no_star r m = refl
 
-declarators_no_body : (ds : DeclrTrees) (named : Span → Bool) (room : ℕ) → file_declarators ds ≡ true → declarators_placed ds ≡ true → declarators_fits named ds ≡ true → declarators_height ds ≤ room
+declarators_no_body : (ds : DeclrTrees) (named : Span → Bool) (room : ℕ) → file_declarators ds ≡ true → declarators_placed ds ≡ true → declarators_fits named ds ≡ true → declarators_nesting ds ≤ room
     → NoBody (function_declarator_at named room (prints_declarators ds (Token fixed.Semicolon ∷ [])))
 declarators_no_body s.no_declarators named room a p q low = no_body_of_none _ (mark_step named room fixed.Semicolon [] (semicolon_no_star []))
 declarators_no_body (s.then_declarator (s.declarator n count None t i) xs) named room a p q low = absurd cc
@@ -141,11 +140,11 @@ base_no_front named room word ts r f e h =
     ap (λ (o : Found BaseFormTree). (o >>= λ b. function_declarator_at named room b.1 >>= λ d. Some (s.declaration word (s.base no_node b.0) (s.then_declarator d.0 s.no_declarators), d.1)) >>= if_body) e
     ∙ no_front (function_declarator_at named room r) (λ d. s.declaration word (s.base no_node f) (s.then_declarator d s.no_declarators)) h
 
-bare_no_front : (named : Span → Bool) (room : ℕ) (word : Option Storage) (n : Node) (f : BaseFormTree) (ds : DeclrTrees) → is_bare (s.base n f) ≡ true → base_form_placed f ≡ true → base_form_fits named f ≡ true
-    → file_declarators ds ≡ true → declarators_placed ds ≡ true → declarators_fits named ds ≡ true → declarators_height ds ≤ room
+unbraced_no_front : (named : Span → Bool) (room : ℕ) (word : Option Storage) (n : Node) (f : BaseFormTree) (ds : DeclrTrees) → is_unbraced (s.base n f) ≡ true → base_form_placed f ≡ true → base_form_fits named f ≡ true
+    → file_declarators ds ≡ true → declarators_placed ds ≡ true → declarators_fits named ds ≡ true → declarators_nesting ds ≤ room
     → front_behind named room (word, prints_specifier_form f (prints_declarators ds (Token fixed.Semicolon ∷ []))) >>= if_body ≡ None
-bare_no_front named room word n f ds bare p q a b c low =
-    base_no_front named room word _ (prints_declarators ds (Token fixed.Semicolon ∷ [])) (bare_base_form f) (specifier_read named n f _ bare p q (declarators_no_words ds a)) (declarators_no_body ds named room a b c low)
+unbraced_no_front named room word n f ds unlaid p q a b c low =
+    base_no_front named room word _ (prints_declarators ds (Token fixed.Semicolon ∷ [])) (unlaid_base_form f) (specifier_read named n f _ unlaid p q (declarators_no_words ds a)) (declarators_no_body ds named room a b c low)
 
 -- behind a tag with braces
 braces_no_body : (named : Span → Bool) (room : ℕ) (r : List Lexeme) → NoBody (function_declarator_at named room (Token fixed.LeftBrace ∷ r))
@@ -158,21 +157,21 @@ enum_no_front : (named : Span → Bool) (room : ℕ) (word : Option Storage) (ta
 enum_no_front named room word tag r = base_no_front named room word (Token fixed.Enum ∷ Leaf Word tag ∷ Token fixed.LeftBrace ∷ r) (Token fixed.LeftBrace ∷ r) (s.enum_ref tag) refl (braces_no_body named room r)
 
 base_apart : (named : Span → Bool) (room : ℕ) (word : Option Storage) (n : Node) (f : BaseFormTree) (ds : DeclrTrees) → base_form_placed f ≡ true → base_form_fits named f ≡ true
-    → file_declarators ds ≡ true → declarators_placed ds ≡ true → declarators_fits named ds ≡ true → declarators_height ds ≤ room
+    → file_declarators ds ≡ true → declarators_placed ds ≡ true → declarators_fits named ds ≡ true → declarators_nesting ds ≤ room
     → front_behind named room (word, prints_specifier_form f (prints_declarators ds (Token fixed.Semicolon ∷ []))) >>= if_body ≡ None
 base_apart named room word n (s.struct_def None ms) ds p q a b c low = refl
 base_apart named room word n (s.struct_def (Some tag) ms) ds p q a b c low = struct_no_front named room word tag (prints_members ms (Token fixed.RightBrace ∷ prints_declarators ds (Token fixed.Semicolon ∷ [])))
 base_apart named room word n (s.enum_def None es comma) ds p q a b c low = refl
 base_apart named room word n (s.enum_def (Some tag) es comma) ds p q a b c low =
     enum_no_front named room word tag (prints_enumerators es (prints_comma comma (Token fixed.RightBrace ∷ prints_declarators ds (Token fixed.Semicolon ∷ []))))
-base_apart named room word n (s.words ws) ds p q a b c low = bare_no_front named room word n (s.words ws) ds refl p q a b c low
-base_apart named room word n (s.struct_ref tag) ds p q a b c low = bare_no_front named room word n (s.struct_ref tag) ds refl p q a b c low
-base_apart named room word n (s.enum_ref tag) ds p q a b c low = bare_no_front named room word n (s.enum_ref tag) ds refl p q a b c low
-base_apart named room word n (s.named at) ds p q a b c low = bare_no_front named room word n (s.named at) ds refl p q a b c low
+base_apart named room word n (s.words ws) ds p q a b c low = unbraced_no_front named room word n (s.words ws) ds refl p q a b c low
+base_apart named room word n (s.struct_ref tag) ds p q a b c low = unbraced_no_front named room word n (s.struct_ref tag) ds refl p q a b c low
+base_apart named room word n (s.enum_ref tag) ds p q a b c low = unbraced_no_front named room word n (s.enum_ref tag) ds refl p q a b c low
+base_apart named room word n (s.named at) ds p q a b c low = unbraced_no_front named room word n (s.named at) ds refl p q a b c low
 
 -- ---- declarations
 
-pub front_apart : (named : Span → Bool) (room : ℕ) (d : DeclarationTree) → file_placed d ≡ true → declaration_fits named d ≡ true → declaration_height d ≤ room → front_at named room (declaration_tokens d) ≡ None
+pub front_apart : (named : Span → Bool) (room : ℕ) (d : DeclarationTree) → file_placed d ≡ true → declaration_fits named d ≡ true → declaration_nesting d ≤ room → front_at named room (declaration_tokens d) ≡ None
 unfolding front_at
 front_apart named room (s.declaration word (s.base n f) ds) p q low =
     let a = both_true _ _ p in

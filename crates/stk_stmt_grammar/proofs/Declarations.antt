@@ -11,11 +11,11 @@ use Rattle.stk_tree.specs.Placed.{base_form_placed, file_placed, is_basic, local
 use Rattle.stk_tree.specs.Syntax.{BaseFormTree, DeclarationTree}
 use Rattle.stk_tree.specs.Syntax as s
 use Rattle.stk_tree.specs.Tokens.{base_form_tokens, declaration_tokens, declarators_tokens, storage_tokens}
-use Rattle.stk_grammar.specs.Fits.{base_form_fits}
+use Rattle.stk_tree.specs.Fits.{base_form_fits, declaration_fits}
 use Rattle.stk_grammar.specs.Reading.{begins_type, behind_right_brace, is_tag_word}
 use Rattle.stk_grammar.proofs.Complete.{cond_true}
 use Rattle.stk_grammar.proofs.Operators.{both_true}
-use Rattle.stk_decl_grammar.specs.Declarations.{declaration_fits, front_placed, front_tokens}
+use Rattle.stk_decl_grammar.specs.Declarations.{front_placed, front_tokens}
 use Rattle.stk_stmt_grammar.specs.Reading.{begins_local, begins_static, behind_else, is_semicolon}
 
 -- ---- what a base begins with

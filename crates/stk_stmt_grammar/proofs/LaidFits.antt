@@ -6,8 +6,7 @@ use Rattle.stk_tree.specs.Syntax.{DeclarationTree, FunctionTree, LabelTree, Labe
 use Rattle.stk_tree.specs.Syntax as s
 use Rattle.stk_tree.specs.Layout.{node_at, laid_declaration, laid_function, laid_label, laid_labels, laid_maybe_statement, laid_part, laid_parts, laid_section, laid_sections, laid_start, laid_statement, laid_statement_form, laid_statements, unit_laid_out}
 use Rattle.stk_grammar.proofs.LaidFits.{base_fits-laid, declarator_fits-laid, declarators_fits-laid, expression_fits-laid, maybe_expression_fits-laid}
-use Rattle.stk_decl_grammar.specs.Declarations.{declaration_fits}
-use Rattle.stk_stmt_grammar.specs.Fits.{function_fits, label_fits, labels_fit, maybe_statement_fits, part_fits, parts_fit, section_fits, sections_fit, start_fits, statement_fits, statement_form_fits, statements_fit, unit_fits}
+use Rattle.stk_tree.specs.Fits.{declaration_fits, function_fits, label_fits, labels_fit, maybe_statement_fits, part_fits, parts_fit, section_fits, sections_fit, start_fits, statement_fits, statement_form_fits, statements_fit, unit_fits}
 
 module _ (set : ℕ → ℕ → ℕ → Node) where
   pub declaration_fits-laid : (named : Span → Bool) (x : DeclarationTree) (n t : ℕ) → declaration_fits named (laid_declaration set n t x) ≡ declaration_fits named x

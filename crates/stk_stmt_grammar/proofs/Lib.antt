@@ -2,7 +2,7 @@ pub mod Apart
 pub mod Complete
 pub mod Declarations
 pub mod Found
-pub mod LaidBare
+pub mod LaidUnlaid
 pub mod LaidFits
 pub mod Laws
 pub mod Prints

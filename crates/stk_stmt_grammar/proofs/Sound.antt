@@ -4,19 +4,18 @@ use Rattle.stk_base.specs.declared.span.Span.{Span}
 use Rattle.stk_tree.specs.declared.fixed.Fixed.TheVariants as fixed
 use Rattle.stk_tree.specs.declared.fixed.Lexeme.{Lexeme}
 use Rattle.stk_tree.specs.declared.fixed.Lexeme.TheVariants.{Fixed as Token}
-use Rattle.stk_tree.specs.Height.{expression_height, label_height, labels_height, maybe_expression_height, part_height, parts_height, section_height, sections_height, start_height, statement_height, statements_height}
+use Rattle.stk_tree.specs.Nesting.{expression_nesting, label_nesting, labels_nesting, maybe_expression_nesting, part_nesting, parts_nesting, section_nesting, sections_nesting, start_nesting, statement_nesting, statements_nesting}
 use Rattle.stk_tree.specs.Placed.{ends_open, expression_placed, label_placed, labels_placed, may_precede, optional_placed, part_placed, parts_placed, section_placed, sections_placed, some_statements, start_placed, statement_placed, statements_placed}
 use Rattle.stk_tree.specs.Syntax.{ExprTree, LabelTree, LabelTrees, MaybeExprTree, PartTree, PartTrees, SectionTree, SectionTrees, StartTree, StmtFormTree, StmtTree, StmtTrees}
 use Rattle.stk_tree.specs.Syntax as s
 use Rattle.stk_tree.specs.Tokens.{expression_tokens, optional_tokens}
-use Rattle.stk_grammar.specs.Bare.{no_node}
-use Rattle.stk_grammar.specs.Fits.{expression_fits, maybe_expression_fits}
+use Rattle.stk_tree.specs.Unlaid.{no_node}
+use Rattle.stk_tree.specs.Fits.{expression_fits, maybe_expression_fits, label_fits, labels_fit, part_fits, parts_fit, section_fits, sections_fit, start_fits, statement_fits, statements_fit}
 use Rattle.stk_grammar.specs.Reading.{◌>>=◌, Found, behind_colon, behind_left_brace, behind_left_paren, behind_right_brace, behind_right_paren, behind_semicolon}
 use Rattle.stk_grammar.specs.Stopped.{stopped_at}
 use Rattle.stk_grammar.proofs.Operators.{bind_some, some_is, true_both}
 use Rattle.stk_grammar.proofs.Sound.{colon_is, left_paren_is, right_paren_is}
 use Rattle.stk_grammar.proofs.Stopped.{stopped_sound}
-use Rattle.stk_stmt_grammar.specs.Fits.{label_fits, labels_fit, part_fits, parts_fit, section_fits, sections_fit, start_fits, statement_fits, statements_fit}
 use Rattle.stk_stmt_grammar.specs.Reading.{SectionReader, StatementReader, begins_label, begins_local, behind_case, behind_default, behind_else, behind_first, behind_while, block_at, closed_at, closed_on, condition_at, condition_on, default_on, do_at, do_on, else_on, ended_at, ended_on, ends_section, for_at, for_on, if_at, kind_at, label_at, label_on, labels_at, labels_on, made_statement, part_at, part_on, parts_at, parts_on, plain_at, return_at, section_at, section_of, section_on, sections_at, sections_on, start_at, start_on, statement_at, statement_on, statements_at, statements_on, switch_at, switch_on, while_at, word_statement}
 use Rattle.stk_stmt_grammar.specs.declared.tables.Kind.{Kind}
 use Rattle.stk_stmt_grammar.specs.declared.tables.Kind.TheVariants as kind
@@ -27,16 +26,16 @@ use Rattle.stk_stmt_grammar.proofs.Found.{brace_of_end, case_is, default_is, els
 use Rattle.stk_stmt_grammar.proofs.Prints.{prints, prints_all, prints_condition, prints_label, prints_labels, prints_part, prints_parts, prints_section, prints_sections, prints_start}
 
 -- a tree that was found at the front of these tokens, and what stands behind it
-pub record Reads {T : Type 0} (text_of : T → List Lexeme → List Lexeme) (is_placed does_fit : T → Bool) (height_of : T → ℕ) (room : ℕ) (ts : List Lexeme) (x : T × List Lexeme) : Type 0 where
+pub record Reads {T : Type 0} (text_of : T → List Lexeme → List Lexeme) (is_placed does_fit : T → Bool) (nesting_of : T → ℕ) (room : ℕ) (ts : List Lexeme) (x : T × List Lexeme) : Type 0 where
   pub text : ts ≡ text_of x.0 x.1
   pub placed : is_placed x.0 ≡ true
   pub fits : does_fit x.0 ≡ true
-  pub low : height_of x.0 ≤ room
+  pub low : nesting_of x.0 ≤ room
 
 -- ---- expressions of statements
 
 abbrev IsCondition : (Span → Bool) → ℕ → List Lexeme → ExprTree × List Lexeme → Type 0
-IsCondition named = Reads prints_condition (expression_placed 1) (expression_fits named) expression_height
+IsCondition named = Reads prints_condition (expression_placed 1) (expression_fits named) expression_nesting
 
 condition_is : (named : Span → Bool) (room : ℕ) (ts : List Lexeme) (x : ExprTree × List Lexeme) → condition_at named room ts ≡ Some x → IsCondition named room ts x
 unfolding condition_at
@@ -49,7 +48,7 @@ condition_is named room ts x e =
       text = left_paren_is ts l.0 l.1 ∙ ap (λ r. Token fixed.LeftParen ∷ r) (p.tokens ∙ ap (λ r. expression_tokens a.0.0 ++ r) (right_paren_is a.0.1 b.0 b.1));
       placed = p.placed;
       fits = p.fits;
-      low = p.height;
+      low = p.nesting;
     })
 
 abbrev ended_tokens : MaybeExprTree → List Lexeme → List Lexeme
@@ -59,10 +58,10 @@ abbrev closed_tokens : MaybeExprTree → List Lexeme → List Lexeme
 closed_tokens e r = optional_tokens e ++ Token fixed.RightParen ∷ r
 
 abbrev IsEnded : (Span → Bool) → ℕ → List Lexeme → MaybeExprTree × List Lexeme → Type 0
-IsEnded named = Reads ended_tokens optional_placed (maybe_expression_fits named) maybe_expression_height
+IsEnded named = Reads ended_tokens optional_placed (maybe_expression_fits named) maybe_expression_nesting
 
 abbrev IsClosed : (Span → Bool) → ℕ → List Lexeme → MaybeExprTree × List Lexeme → Type 0
-IsClosed named = Reads closed_tokens optional_placed (maybe_expression_fits named) maybe_expression_height
+IsClosed named = Reads closed_tokens optional_placed (maybe_expression_fits named) maybe_expression_nesting
 
 ended_on_is : (named : Span → Bool) (room : ℕ) (o : Option (List Lexeme)) (ts : List Lexeme) (x : MaybeExprTree × List Lexeme) → behind_semicolon ts ≡ o → ended_on named room o ts ≡ Some x → IsEnded named room ts x
 ended_on_is named room (Some rest) ts x is e =
@@ -72,7 +71,7 @@ ended_on_is named room None ts x is e =
     let b = bind_some (behind_semicolon a.0.1) _ x a.2 in
     let p = (stopped_sound named room 1 ts a.0.0 a.0.1 (omega arith) a.1).0 in
     subst (IsEnded named room ts) (some_is (s.some_expression a.0.0, b.0) x b.2)
-    (record { text = p.tokens ∙ ap (λ r. expression_tokens a.0.0 ++ r) (semicolon_is a.0.1 b.0 b.1); placed = p.placed; fits = p.fits; low = p.height })
+    (record { text = p.tokens ∙ ap (λ r. expression_tokens a.0.0 ++ r) (semicolon_is a.0.1 b.0 b.1); placed = p.placed; fits = p.fits; low = p.nesting })
 
 ended_is : (named : Span → Bool) (room : ℕ) (ts : List Lexeme) (x : MaybeExprTree × List Lexeme) → ended_at named room ts ≡ Some x → IsEnded named room ts x
 unfolding ended_at
@@ -86,7 +85,7 @@ closed_on_is named room None ts x is e =
     let b = bind_some (behind_right_paren a.0.1) _ x a.2 in
     let p = (stopped_sound named room 1 ts a.0.0 a.0.1 (omega arith) a.1).0 in
     subst (IsClosed named room ts) (some_is (s.some_expression a.0.0, b.0) x b.2)
-    (record { text = p.tokens ∙ ap (λ r. expression_tokens a.0.0 ++ r) (right_paren_is a.0.1 b.0 b.1); placed = p.placed; fits = p.fits; low = p.height })
+    (record { text = p.tokens ∙ ap (λ r. expression_tokens a.0.0 ++ r) (right_paren_is a.0.1 b.0 b.1); placed = p.placed; fits = p.fits; low = p.nesting })
 
 closed_is : (named : Span → Bool) (room : ℕ) (ts : List Lexeme) (x : MaybeExprTree × List Lexeme) → closed_at named room ts ≡ Some x → IsClosed named room ts x
 unfolding closed_at
@@ -95,7 +94,7 @@ closed_is named room ts x e = closed_on_is named room (behind_right_paren ts) ts
 -- ---- labels
 
 abbrev pub IsLabel : (Span → Bool) → ℕ → List Lexeme → LabelTree × List Lexeme → Type 0
-IsLabel named = Reads prints_label label_placed (label_fits named) label_height
+IsLabel named = Reads prints_label label_placed (label_fits named) label_nesting
 
 label_on_is : (named : Span → Bool) (room : ℕ) (o : Option (List Lexeme)) (ts : List Lexeme) (x : LabelTree × List Lexeme) → behind_case ts ≡ o → label_on named room o ts ≡ Some x → IsLabel named room ts x
 label_on_is named room (Some inside) ts x is e =
@@ -106,7 +105,7 @@ label_on_is named room (Some inside) ts x is e =
       text = case_is ts inside is ∙ ap (λ r. Token fixed.Case ∷ r) (p.tokens ∙ ap (λ r. expression_tokens a.0.0 ++ r) (colon_is a.0.1 b.0 b.1));
       placed = p.placed;
       fits = p.fits;
-      low = p.height;
+      low = p.nesting;
     })
 label_on_is named room None ts x is e =
     let a = bind_some (behind_default ts) default_on x e in
@@ -120,7 +119,7 @@ label_is named room ts x e = label_on_is named room (behind_case ts) ts x refl e
 
 -- labels in a row, with no label behind them
 record AreLabels (named : Span → Bool) (room : ℕ) (ts : List Lexeme) (x : LabelTrees × List Lexeme) : Type 0 where
-  read : Reads prints_labels labels_placed (labels_fit named) labels_height room ts x
+  read : Reads prints_labels labels_placed (labels_fit named) labels_nesting room ts x
   behind : begins_label x.1 ≡ false
 
 labels_on_are : (named : Span → Bool) (room : ℕ) (go_on : List Lexeme → Found LabelTrees) (b : Bool) (ts : List Lexeme) (x : LabelTrees × List Lexeme)
@@ -150,7 +149,7 @@ pub record Answers (named : Span → Bool) (room : ℕ) (ts : List Lexeme) (x : 
   pub text : ts ≡ prints x.0 x.1
   pub placed : statement_placed x.0 ≡ true
   pub fits : statement_fits named x.0 ≡ true
-  pub low : statement_height x.0 ≤ room
+  pub low : statement_nesting x.0 ≤ room
   pub ends : ends_open x.0 ≡ true → behind_else x.1 ≡ None
 
 abbrev pub IsSound : (Span → Bool) → ℕ → StatementReader → Type 0
@@ -161,7 +160,7 @@ has_statements (s.section n ls body) = some_statements body
 
 -- a section that was found; where it is without statements, the `}` stands behind it
 pub record SectionAnswers (named : Span → Bool) (room : ℕ) (ts : List Lexeme) (x : SectionTree × List Lexeme) : Type 0 where
-  pub read : Reads prints_section section_placed (section_fits named) section_height room ts x
+  pub read : Reads prints_section section_placed (section_fits named) section_nesting room ts x
   pub last : has_statements x.0 ≡ false → (rest : List Lexeme) × (behind_right_brace x.1 ≡ Some rest)
 
 abbrev pub IsSectionSound : (Span → Bool) → ℕ → SectionReader → Type 0
@@ -187,14 +186,14 @@ module _ (named : Span → Bool) (inner : ℕ) (sub : StatementReader) (sound : 
   -- ---- blocks
 
   abbrev pub IsPart : List Lexeme → PartTree × List Lexeme → Type 0
-  IsPart = Reads prints_part part_placed (part_fits named) part_height inner
+  IsPart = Reads prints_part part_placed (part_fits named) part_nesting inner
 
   -- a part
   part_on_is : (b : Bool) (ts : List Lexeme) (x : PartTree × List Lexeme) → part_on named inner sub b ts ≡ Some x → IsPart ts x
   part_on_is true ts x e =
       let a = bind_some (declaration_at named false inner ts) _ x e in
       let p = (declaration_sound named false inner ts a.0.0 a.0.1 a.1).0 in
-      subst (IsPart ts) (some_is (s.local a.0.0, a.0.1) x a.2) (record { text = p.tokens; placed = p.placed; fits = p.fits; low = p.height })
+      subst (IsPart ts) (some_is (s.local a.0.0, a.0.1) x a.2) (record { text = p.tokens; placed = p.placed; fits = p.fits; low = p.nesting })
   part_on_is false ts x e =
       let a = bind_some (sub ts) _ x e in
       let p = sound ts a.0 a.1 in
@@ -208,7 +207,7 @@ module _ (named : Span → Bool) (inner : ℕ) (sub : StatementReader) (sound : 
   block_tokens ps r = prints_parts ps (Token fixed.RightBrace ∷ r)
 
   abbrev AreParts : List Lexeme → PartTrees × List Lexeme → Type 0
-  AreParts = Reads block_tokens parts_placed (parts_fit named) parts_height inner
+  AreParts = Reads block_tokens parts_placed (parts_fit named) parts_nesting inner
 
   parts_on_are : (go_on : List Lexeme → Found PartTrees) (o : Option (List Lexeme)) (ts : List Lexeme) (x : PartTrees × List Lexeme)
       → ((us : List Lexeme) (y : PartTrees × List Lexeme) → go_on us ≡ Some y → AreParts us y) → behind_right_brace ts ≡ o → parts_on go_on named inner sub o ts ≡ Some x → AreParts ts x
@@ -238,7 +237,7 @@ module _ (named : Span → Bool) (inner : ℕ) (sub : StatementReader) (sound : 
   -- ---- the statements of a section
 
   record AreAll (ts : List Lexeme) (x : StmtTrees × List Lexeme) : Type 0 where
-    read : Reads prints_all statements_placed (statements_fit named) statements_height inner ts x
+    read : Reads prints_all statements_placed (statements_fit named) statements_nesting inner ts x
     behind : ends_section x.1 ≡ true
     stays : some_statements x.0 ≡ false → x.1 ≡ ts
 
@@ -286,8 +285,8 @@ module _ (named : Span → Bool) (inner : ℕ) (sub : StatementReader) (sound : 
 
   -- ---- conditions, loops and jumps
 
-  else_sound : (e : ExprTree) (y : StmtTree) (ts : List Lexeme) (o : Option (List Lexeme)) (x : StmtTree × List Lexeme) → expression_placed 1 e ≡ true → expression_fits named e ≡ true → expression_height e ≤ inner
-      → statement_placed y ≡ true → statement_fits named y ≡ true → statement_height y ≤ inner → (ends_open y ≡ true → behind_else ts ≡ None) → behind_else ts ≡ o → else_on sub e y o ts ≡ Some x
+  else_sound : (e : ExprTree) (y : StmtTree) (ts : List Lexeme) (o : Option (List Lexeme)) (x : StmtTree × List Lexeme) → expression_placed 1 e ≡ true → expression_fits named e ≡ true → expression_nesting e ≤ inner
+      → statement_placed y ≡ true → statement_fits named y ≡ true → statement_nesting y ≤ inner → (ends_open y ≡ true → behind_else ts ≡ None) → behind_else ts ≡ o → else_on sub e y o ts ≡ Some x
       → Answers named (suc inner) (Token fixed.If ∷ prints_condition e (prints y ts)) x
   else_sound c y ts None x pc qc hc p q h ends is e =
       subst (Answers named (suc inner) (Token fixed.If ∷ prints_condition c (prints y ts))) (some_is (made_statement (s.if_statement c y s.no_statement), ts) x e)
@@ -346,13 +345,13 @@ module _ (named : Span → Bool) (inner : ℕ) (sub : StatementReader) (sound : 
       })
 
   abbrev IsFirst : List Lexeme → StartTree × List Lexeme → Type 0
-  IsFirst = Reads prints_start start_placed (start_fits named) start_height inner
+  IsFirst = Reads prints_start start_placed (start_fits named) start_nesting inner
 
   start_on_is : (b : Bool) (ts : List Lexeme) (x : StartTree × List Lexeme) → start_on named inner b ts ≡ Some x → IsFirst ts x
   start_on_is true ts x e =
       let a = bind_some (declaration_at named false inner ts) _ x e in
       let p = (declaration_sound named false inner ts a.0.0 a.0.1 a.1).0 in
-      subst (IsFirst ts) (some_is (s.start_declaration a.0.0, a.0.1) x a.2) (record { text = p.tokens; placed = p.placed; fits = p.fits; low = p.height })
+      subst (IsFirst ts) (some_is (s.start_declaration a.0.0, a.0.1) x a.2) (record { text = p.tokens; placed = p.placed; fits = p.fits; low = p.nesting })
   start_on_is false ts x e =
       let a = bind_some (ended_at named inner ts) _ x e in
       let p = ended_is named inner ts a.0 a.1 in
@@ -421,7 +420,7 @@ module _ (named : Span → Bool) (inner : ℕ) (section : SectionReader) (sound 
   switch_tokens xs r = prints_sections xs (Token fixed.RightBrace ∷ r)
 
   abbrev AreSections : List Lexeme → SectionTrees × List Lexeme → Type 0
-  AreSections = Reads switch_tokens sections_placed (sections_fit named) sections_height inner
+  AreSections = Reads switch_tokens sections_placed (sections_fit named) sections_nesting inner
 
   sections_on_are : (go_on : List Lexeme → Found SectionTrees) (o : Option (List Lexeme)) (ts : List Lexeme) (x : SectionTrees × List Lexeme)
       → ((us : List Lexeme) (y : SectionTrees × List Lexeme) → go_on us ≡ Some y → AreSections us y)

@@ -6,21 +6,20 @@ use Rattle.stk_tree.specs.declared.fixed.Fixed.{Fixed}
 use Rattle.stk_tree.specs.declared.fixed.Fixed.TheVariants as fixed
 use Rattle.stk_tree.specs.declared.fixed.Lexeme.{Lexeme}
 use Rattle.stk_tree.specs.declared.fixed.Lexeme.TheVariants.{Leaf, Fixed as Token}
-use Rattle.stk_tree.specs.Height.{expression_height}
+use Rattle.stk_tree.specs.Nesting.{expression_nesting}
 use Rattle.stk_tree.specs.Placed.{expression_placed, is_basic, statement_placed}
 use Rattle.stk_tree.specs.Syntax.{ExprTree, MaybeExprTree, StmtTree}
 use Rattle.stk_tree.specs.Syntax as s
 use Rattle.stk_tree.specs.Tokens.{expression_tokens}
-use Rattle.stk_grammar.specs.Bare.{bare_expression}
+use Rattle.stk_tree.specs.Unlaid.{unlaid_expression}
 use Rattle.stk_grammar.specs.Expressions.{stops}
-use Rattle.stk_grammar.specs.Fits.{expression_fits}
+use Rattle.stk_tree.specs.Fits.{expression_fits, statement_fits}
 use Rattle.stk_grammar.specs.Reading.{Sub, begins_type, behind_right_brace, behind_right_paren, behind_semicolon, climb, expression_at, first_head, head_at, is_tag_word, made}
 use Rattle.stk_grammar.specs.Stopped.{if_stopped, stopped_at}
 use Rattle.stk_grammar.specs.declared.tables.Head.{Head}
 use Rattle.stk_grammar.specs.declared.tables.Head.TheVariants as head
 use Rattle.stk_grammar.proofs.Operators.{bind_some, some_is, unless_some}
 use Rattle.stk_grammar.proofs.Stopped.{stopped_reads}
-use Rattle.stk_stmt_grammar.specs.Fits.{statement_fits}
 use Rattle.stk_stmt_grammar.specs.Reading.{begins_label, begins_local, begins_static, behind_else, ends_section, kind_at}
 use Rattle.stk_stmt_grammar.specs.declared.tables.Kind.TheVariants as kind
 use Rattle.stk_stmt_grammar.proofs.Prints.{prints}
@@ -64,9 +63,9 @@ pub expression_open : (named : Span → Bool) (least : ℕ) (t : ExprTree) (rest
     → IsOpen named (expression_tokens t ++ rest)
 unfolding stopped_at
 expression_open named least t rest placed fits stop =
-    let room : ℕ = expression_height t in
+    let room : ℕ = expression_nesting t in
     let ts : List Lexeme = expression_tokens t ++ rest in
-    let a = bind_some (expression_at named room least ts) (if_stopped least) (bare_expression t, rest) (stopped_reads named room least t rest placed fits (omega arith) stop) in
+    let a = bind_some (expression_at named room least ts) (if_stopped least) (unlaid_expression t, rest) (stopped_reads named room least t rest placed fits (omega arith) stop) in
     open_of_found named room least ts a.0 a.1
 
 -- ---- what no expression begins with

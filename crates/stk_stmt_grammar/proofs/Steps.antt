@@ -6,7 +6,7 @@ use Rattle.stk_tree.specs.declared.fixed.Lexeme.{Lexeme}
 use Rattle.stk_tree.specs.declared.fixed.Lexeme.TheVariants.{Fixed as Token}
 use Rattle.stk_tree.specs.Syntax.{DeclarationTree, ExprTree, LabelTree, LabelTrees, MaybeExprTree, PartTree, PartTrees, SectionTree, SectionTrees, StartTree, StmtTree, StmtTrees}
 use Rattle.stk_tree.specs.Syntax as s
-use Rattle.stk_grammar.specs.Bare.{no_node}
+use Rattle.stk_tree.specs.Unlaid.{no_node}
 use Rattle.stk_grammar.specs.Reading.{◌>>=◌, Found, behind_right_brace}
 use Rattle.stk_decl_grammar.specs.Reading.{declaration_at}
 use Rattle.stk_stmt_grammar.specs.Reading.{SectionReader, StatementReader, begins_label, begins_local, behind_else, block_at, closed_at, condition_at, do_at, ended_at, ends_section, for_at, for_on, if_at, kind_at, label_at, labels_at, made_statement, part_at, parts_at, plain_at, return_at, section_at, section_of, sections_at, start_at, statement_at, statement_on, statements_at, switch_at, while_at}

@@ -6,20 +6,17 @@ use Rattle.stk_tree.specs.declared.declaration.Storage.{Storage}
 use Rattle.stk_tree.specs.declared.fixed.Fixed.TheVariants as fixed
 use Rattle.stk_tree.specs.declared.fixed.Lexeme.{Lexeme}
 use Rattle.stk_tree.specs.declared.fixed.Lexeme.TheVariants.{Fixed as Token}
-use Rattle.stk_tree.specs.Height.{statement_height, unit_height}
+use Rattle.stk_tree.specs.Nesting.{statement_nesting, unit_nesting}
 use Rattle.stk_tree.specs.Placed.{is_block, statement_placed, unit_placed}
 use Rattle.stk_tree.specs.Syntax.{BaseTree, DeclarationTree, DeclrTree, FunctionTree, PartTrees, StmtTree, UnitTree}
 use Rattle.stk_tree.specs.Syntax as s
 use Rattle.stk_tree.specs.Tokens.{base_tokens, declaration_tokens, declarator_tokens, function_tokens, statement_tokens, storage_tokens, unit_tokens}
-use Rattle.stk_grammar.specs.Bare.{no_node}
-use Rattle.stk_grammar.specs.Fits.{base_fits, declarator_fits, declarators_fits}
+use Rattle.stk_tree.specs.Unlaid.{no_node, unlaid_declaration, unlaid_statement, unlaid_unit}
+use Rattle.stk_tree.specs.Fits.{base_fits, declarator_fits, declarators_fits, declaration_fits, statement_fits, unit_fits}
 use Rattle.stk_grammar.specs.Reading.{Found}
 use Rattle.stk_grammar.proofs.Operators.{bind_some, both_true, if_some, some_is, true_both}
-use Rattle.stk_decl_grammar.specs.Bare.{bare_declaration}
-use Rattle.stk_decl_grammar.specs.Declarations.{FrontLeads, declaration_fits, front_tokens, opens_body}
+use Rattle.stk_decl_grammar.specs.Declarations.{FrontLeads, front_tokens, opens_body}
 use Rattle.stk_decl_grammar.specs.Reading.{declaration_at, front_at}
-use Rattle.stk_stmt_grammar.specs.Bare.{bare_statement, bare_unit}
-use Rattle.stk_stmt_grammar.specs.Fits.{statement_fits, unit_fits}
 use Rattle.stk_stmt_grammar.specs.Reading.{block_at, declared_on, defined_on, function_of, is_end, is_semicolon, made_statement, parts_at, statement_at, unit_behind, unit_on, unit_within}
 use Rattle.stk_stmt_grammar.proofs.Complete.{statement_reads}
 use Rattle.stk_decl_grammar.proofs.Declarations.{declaration_reads, declaration_sound, front_reads, front_sound}
@@ -72,12 +69,12 @@ block_of_body named (suc inner) [] x h e = absurd cc
 block_of_body named (suc inner) (Token fixed.LeftBrace ∷ ts) x h e = block_of_found named inner ts x e
 block_of_body named (suc inner) (t ∷ ts) x h e = absurd cc
 
-pub unit_reads : (u : UnitTree) (named : Span → Bool) (room : ℕ) → unit_placed u ≡ true → unit_fits named u ≡ true → unit_height u ≤ room → unit_within named room (unit_tokens u) ≡ Some (bare_unit u)
+pub unit_reads : (u : UnitTree) (named : Span → Bool) (room : ℕ) → unit_placed u ≡ true → unit_fits named u ≡ true → unit_nesting u ≤ room → unit_within named room (unit_tokens u) ≡ Some (unlaid_unit u)
 unit_reads (s.empty_unit n) named zero p q low = absurd (omega arith)
 unit_reads (s.empty_unit n) named (suc inner) p q low = lone_unit named inner
 unit_reads (s.declares n d) named zero p q low = absurd (omega arith)
 unit_reads (s.declares n d) named (suc inner) p q low =
-    declared_unit named inner (bare_declaration d) (declaration_tokens d) (declaration_no_semicolon named d p q) (front_apart named inner d p q (omega arith))
+    declared_unit named inner (unlaid_declaration d) (declaration_tokens d) (declaration_no_semicolon named d p q) (front_apart named inner d p q (omega arith))
     (ap (declaration_at named true inner) (sym (append-nil (declaration_tokens d))) ∙ declaration_reads named true inner d [] p q (omega arith))
 unit_reads (s.defines n (s.function word b d x)) named zero p q low = absurd (omega arith)
 unit_reads (s.defines n (s.function word b d x)) named (suc inner) p q low =
@@ -87,7 +84,7 @@ unit_reads (s.defines n (s.function word b d x)) named (suc inner) p q low =
     let front : DeclarationTree = front_of word b d in
     let fits : declaration_fits named front ≡ true = (let h = both_true _ _ k.0 in true_both _ _ h.0 (true_both _ _ h.1 refl)) in
     let text = function_text word b d x in
-    defined_unit named inner _ _ _ (bare_statement x) (function_tokens (s.function word b d x)) (statement_tokens x) (ap is_semicolon text ∙ front_no_semicolon named front (statement_tokens x) c.0 fits)
+    defined_unit named inner _ _ _ (unlaid_statement x) (function_tokens (s.function word b d x)) (statement_tokens x) (ap is_semicolon text ∙ front_no_semicolon named front (statement_tokens x) c.0 fits)
     (ap (front_at named inner) text ∙ front_reads named inner front (statement_tokens x) c.0 fits (omega arith) (block_opens x c.1))
     (ap (statement_at named inner) (sym (append-nil (statement_tokens x)) ∙ tokens-append x []) ∙ statement_reads x named inner [] a.1 k.1 (omega arith) (λ _. refl))
 
@@ -98,11 +95,11 @@ pub record UnitAnswers (named : Span → Bool) (room : ℕ) (ts : List Lexeme) (
   pub text : ts ≡ unit_tokens u
   pub placed : unit_placed u ≡ true
   pub fits : unit_fits named u ≡ true
-  pub low : unit_height u ≤ room
+  pub low : unit_nesting u ≤ room
 
 -- a front and a body are a function
 function_sound : (named : Span → Bool) (inner : ℕ) (ts body : List Lexeme) (d : DeclarationTree) (x : StmtTree) (u : UnitTree) → FrontLeads named inner ts d body → body ≡ statement_tokens x → is_block x ≡ true
-    → statement_placed x ≡ true → statement_fits named x ≡ true → statement_height x ≤ inner → function_of d x ≡ Some u → UnitAnswers named (suc inner) ts u
+    → statement_placed x ≡ true → statement_fits named x ≡ true → statement_nesting x ≤ inner → function_of d x ≡ Some u → UnitAnswers named (suc inner) ts u
 function_sound named inner ts body (s.declaration word b (s.then_declarator d s.no_declarators)) x u h is block p q low e =
     let c = both_true (base_fits named b) (declarators_fits named (s.then_declarator d s.no_declarators)) h.fits in
     let k = both_true (declarator_fits named d) true c.1 in
@@ -110,7 +107,7 @@ function_sound named inner ts body (s.declaration word b (s.then_declarator d s.
       text = h.tokens ∙ ap (λ r. front_tokens (front_of word b d) ++ r) is ∙ sym (function_text word b d x);
       placed = true_both _ _ (true_both _ _ h.placed block) p;
       fits = true_both _ _ (true_both _ _ c.0 k.0) q;
-      low = omega (arith, h.height, low);
+      low = omega (arith, h.nesting, low);
     })
 function_sound named inner ts body (s.declaration word b other) x u h is block p q low e = absurd cc
 
@@ -123,7 +120,7 @@ unit_behind_sound named inner ts None u is e =
       text = p.tokens ∙ ap (λ r. declaration_tokens a.0.0 ++ r) (end_is a.0.1 b.0) ∙ append-nil (declaration_tokens a.0.0);
       placed = p.placed;
       fits = p.fits;
-      low = omega (arith, p.height);
+      low = omega (arith, p.nesting);
     })
 unit_behind_sound named inner ts (Some front) u is e =
     let a = bind_some (statement_at named inner front.1) (defined_on front.0) u e in

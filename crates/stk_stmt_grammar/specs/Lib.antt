@@ -1,4 +1,2 @@
-pub mod Bare
-pub mod Fits
 pub mod Reading
 pub mod Units

@@ -1,13 +1,15 @@
 -- Reading statements and units from left to right: what the readers compute, over lexemes. Only contracts of tables and of private functions speak of it.
 use Rattle.std.specs.Prelude.{ℕ, zero, suc, Bool, true, false, cond, ◌||◌, List, [], ◌∷◌, length, Option, Some, None}
 use Rattle.stk_base.specs.declared.span.Span.{Span}
+use Rattle.stk_tree.specs.Nesting.{most_nesting}
+use Rattle.stk_tree.specs.Levels.{comma_level, conditional_level}
 use Rattle.stk_tree.specs.declared.fixed.Fixed.{Fixed}
 use Rattle.stk_tree.specs.declared.fixed.Fixed.TheVariants as fixed
 use Rattle.stk_tree.specs.declared.fixed.Lexeme.{Lexeme}
 use Rattle.stk_tree.specs.declared.fixed.Lexeme.TheVariants.{Leaf, Fixed as Token}
 use Rattle.stk_tree.specs.Syntax.{DeclarationTree, ExprTree, LabelTree, LabelTrees, MaybeExprTree, PartTree, PartTrees, SectionTree, SectionTrees, StartTree, StmtFormTree, StmtTree, StmtTrees, UnitTree}
 use Rattle.stk_tree.specs.Syntax as s
-use Rattle.stk_grammar.specs.Bare.{no_node}
+use Rattle.stk_tree.specs.Unlaid.{no_node}
 use Rattle.stk_grammar.specs.Reading.{◌>>=◌, Found, begins_type, behind_colon, behind_left_brace, behind_left_paren, behind_right_brace, behind_right_paren, behind_semicolon}
 use Rattle.stk_grammar.specs.Stopped.{stopped_at}
 use Rattle.stk_decl_grammar.specs.Reading.{declaration_at, front_at}
@@ -89,7 +91,7 @@ begins_local named ts = begins_static ts || begins_type named ts
 
 -- behind the `(`, and in all: `( e )`
 abbrev pub condition_on : (Span → Bool) → ℕ → List Lexeme → Found ExprTree
-condition_on named inner ts = stopped_at named inner 1 ts >>= λ e. behind_right_paren e.1 >>= λ rest. Some (e.0, rest)
+condition_on named inner ts = stopped_at named inner comma_level ts >>= λ e. behind_right_paren e.1 >>= λ rest. Some (e.0, rest)
 
 unfoldable pub condition_at : (Span → Bool) → ℕ → List Lexeme → Found ExprTree
 condition_at named inner ts = behind_left_paren ts >>= condition_on named inner
@@ -97,7 +99,7 @@ condition_at named inner ts = behind_left_paren ts >>= condition_on named inner
 -- `[e] ;`
 abbrev pub ended_on : (Span → Bool) → ℕ → Option (List Lexeme) → List Lexeme → Found MaybeExprTree
 ended_on named inner (Some rest) ts = Some (s.no_expression, rest)
-ended_on named inner None ts = stopped_at named inner 1 ts >>= λ e. behind_semicolon e.1 >>= λ rest. Some (s.some_expression e.0, rest)
+ended_on named inner None ts = stopped_at named inner comma_level ts >>= λ e. behind_semicolon e.1 >>= λ rest. Some (s.some_expression e.0, rest)
 
 unfoldable pub ended_at : (Span → Bool) → ℕ → List Lexeme → Found MaybeExprTree
 ended_at named inner ts = ended_on named inner (behind_semicolon ts) ts
@@ -105,7 +107,7 @@ ended_at named inner ts = ended_on named inner (behind_semicolon ts) ts
 -- `[e] )`
 abbrev pub closed_on : (Span → Bool) → ℕ → Option (List Lexeme) → List Lexeme → Found MaybeExprTree
 closed_on named inner (Some rest) ts = Some (s.no_expression, rest)
-closed_on named inner None ts = stopped_at named inner 1 ts >>= λ e. behind_right_paren e.1 >>= λ rest. Some (s.some_expression e.0, rest)
+closed_on named inner None ts = stopped_at named inner comma_level ts >>= λ e. behind_right_paren e.1 >>= λ rest. Some (s.some_expression e.0, rest)
 
 unfoldable pub closed_at : (Span → Bool) → ℕ → List Lexeme → Found MaybeExprTree
 closed_at named inner ts = closed_on named inner (behind_right_paren ts) ts
@@ -136,7 +138,7 @@ block_at named inner sub ts = parts_at named inner sub (suc (length ts)) ts >>= 
 -- ---- sections of a `switch`
 
 abbrev pub case_on : (Span → Bool) → ℕ → List Lexeme → Found LabelTree
-case_on named inner ts = stopped_at named inner 3 ts >>= λ e. behind_colon e.1 >>= λ rest. Some (s.case_label e.0, rest)
+case_on named inner ts = stopped_at named inner conditional_level ts >>= λ e. behind_colon e.1 >>= λ rest. Some (s.case_label e.0, rest)
 
 abbrev pub default_on : List Lexeme → Found LabelTree
 default_on ts = behind_colon ts >>= λ rest. Some (s.default_label, rest)
@@ -247,7 +249,7 @@ statement_on named inner sub section kind.Continue ts = word_statement s.continu
 statement_on named inner sub section kind.Return ts = return_at named inner (behind_first ts)
 statement_on named inner sub section kind.Plain ts = plain_at named inner ts
 
--- a statement, and a section of a `switch`, of at most this height
+-- a statement, and a section of a `switch`, of at most this nesting
 unfoldable mutual
   pub statement_at : (Span → Bool) → ℕ → List Lexeme → Found StmtTree
   statement_at named zero ts = None
@@ -290,11 +292,11 @@ abbrev pub unit_on : (Span → Bool) → ℕ → Bool → List Lexeme → Option
 unit_on named inner true ts = Some (s.empty_unit no_node)
 unit_on named inner false ts = unit_behind named inner (front_at named inner ts) ts
 
--- the unit that all of these tokens are, of at most this height
+-- the unit that all of these tokens are, of at most this nesting
 unfoldable pub unit_within : (Span → Bool) → ℕ → List Lexeme → Option UnitTree
 unit_within named zero ts = None
 unit_within named (suc inner) ts = unit_on named inner (is_semicolon ts) ts
 
 -- the unit that all of these tokens are
 abbrev pub unit_at : (Span → Bool) → List Lexeme → Option UnitTree
-unit_at named ts = unit_within named 400 ts
+unit_at named ts = unit_within named most_nesting ts

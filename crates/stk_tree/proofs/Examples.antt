@@ -11,27 +11,28 @@ use Rattle.stk_tree.specs.declared.expression.AssignOp.TheVariants as assign
 use Rattle.stk_tree.specs.declared.expression.UnaryOp.TheVariants as unary
 use Rattle.stk_tree.specs.declared.expression.StepOp.TheVariants as step
 use Rattle.stk_tree.specs.Height.{expression_height, declarator_height, initialiser_height, unit_height}
+use Rattle.stk_tree.specs.Nesting.{declarator_nesting, initialiser_nesting}
 use Rattle.stk_tree.specs.Layout.{unit_laid_out}
 use Rattle.stk_tree.specs.Nodes.{unit_nodes}
 use Rattle.stk_tree.specs.Placed.{expression_placed, statement_placed, tail_placed, type_name_placed, unit_placed}
-use Rattle.stk_tree.specs.Syntax.{ExprTree, ExprFormTree, StmtTree, StmtFormTree, TypeNameTree, BaseTree, UnitTree}
+use Rattle.stk_tree.specs.Syntax.{DeclrTree, InitTree, ExprTree, ExprFormTree, StmtTree, StmtFormTree, TypeNameTree, BaseTree, UnitTree}
 use Rattle.stk_tree.specs.Syntax as s
 use Rattle.stk_tree.specs.Tokens.{expression_tokens, statement_tokens, initialiser_tokens, base_tokens, unit_tokens}
 
 abbrev at : ℕ → ℕ → Span
 at from to = record { from = from; to = to }
 
-abbrev bare : Node
-bare = record { number = 0; span = record { from = 0; to = 0 } }
+abbrev unlaid : Node
+unlaid = record { number = 0; span = record { from = 0; to = 0 } }
 
 abbrev numbered : ℕ → ℕ → ℕ → Node
 numbered n from to = record { number = n; span = record { from = from; to = to } }
 
 abbrev e : ExprFormTree → ExprTree
-e f = s.expression bare f
+e f = s.expression unlaid f
 
 abbrev x : StmtFormTree → StmtTree
-x f = s.statement bare f
+x f = s.statement unlaid f
 
 -- the names a, b, c, at the bytes 0, 1, 2
 abbrev a : ExprTree
@@ -49,14 +50,14 @@ word k = Leaf Word (at k (k + 1))
 -- `int f(unsigned char x) { int y = 10 / x; if (x == 0) return 1; return y; }`
 abbrev sample : UnitTree
 sample =
-    s.defines bare (s.function None (s.base bare (s.words (fixed.Int ∷ []))) (s.declarator bare 0 (Some (at 4 5)) (s.with_parameters (s.then_parameter
-    (s.parameter bare (s.base bare (s.words (fixed.Unsigned ∷ fixed.Char ∷ []))) (s.declarator bare 0 (Some (at 20 21)) (s.arrays s.no_dimensions)
-    s.no_initialiser)) s.no_parameters) false) s.no_initialiser) (s.statement bare (s.block (s.then_part (s.local (s.declaration None (s.base bare
-    (s.words (fixed.Int ∷ []))) (s.then_declarator (s.declarator bare 0 (Some (at 29 30)) (s.arrays s.no_dimensions) (s.some_initialiser (s.plain
-    (s.expression bare (s.binary binary.Div (s.expression bare (s.number (at 33 35))) (s.expression bare (s.name (at 38 39)))))))) s.no_declarators)))
-    (s.then_part (s.run (s.statement bare (s.if_statement (s.expression bare (s.binary binary.Eq (s.expression bare (s.name (at 45 46))) (s.expression
-    bare (s.number (at 50 51))))) (s.statement bare (s.return_statement (s.some_expression (s.expression bare (s.number (at 60 61))))))
-    s.no_statement))) (s.then_part (s.run (s.statement bare (s.return_statement (s.some_expression (s.expression bare (s.name (at 70 71)))))))
+    s.defines unlaid (s.function None (s.base unlaid (s.words (fixed.Int ∷ []))) (s.declarator unlaid 0 (Some (at 4 5)) (s.with_parameters (s.then_parameter
+    (s.parameter unlaid (s.base unlaid (s.words (fixed.Unsigned ∷ fixed.Char ∷ []))) (s.declarator unlaid 0 (Some (at 20 21)) (s.arrays s.no_dimensions)
+    s.no_initialiser)) s.no_parameters) false) s.no_initialiser) (s.statement unlaid (s.block (s.then_part (s.local (s.declaration None (s.base unlaid
+    (s.words (fixed.Int ∷ []))) (s.then_declarator (s.declarator unlaid 0 (Some (at 29 30)) (s.arrays s.no_dimensions) (s.some_initialiser (s.plain
+    (s.expression unlaid (s.binary binary.Div (s.expression unlaid (s.number (at 33 35))) (s.expression unlaid (s.name (at 38 39)))))))) s.no_declarators)))
+    (s.then_part (s.run (s.statement unlaid (s.if_statement (s.expression unlaid (s.binary binary.Eq (s.expression unlaid (s.name (at 45 46))) (s.expression
+    unlaid (s.number (at 50 51))))) (s.statement unlaid (s.return_statement (s.some_expression (s.expression unlaid (s.number (at 60 61))))))
+    s.no_statement))) (s.then_part (s.run (s.statement unlaid (s.return_statement (s.some_expression (s.expression unlaid (s.name (at 70 71)))))))
     s.no_parts))))))
 
 abbrev sample_spans : List Span
@@ -133,22 +134,22 @@ assign_prints : expression_tokens (e (s.assign assign.Left a (e (s.unary unary.M
 assign_prints = refl
 
 -- `(int *) a`
-cast_prints : expression_tokens (e (s.cast (s.type_name bare (s.base bare (s.words (fixed.Int ∷ []))) 1 s.no_dimensions) a)) ≡
+cast_prints : expression_tokens (e (s.cast (s.type_name unlaid (s.base unlaid (s.words (fixed.Int ∷ []))) 1 s.no_dimensions) a)) ≡
     Token fixed.LeftParen ∷ Token fixed.Int ∷ Token fixed.Star ∷ Token fixed.RightParen ∷ word 0 ∷ []
 cast_prints = refl
 
 -- `sizeof (int *)`
-size_prints : expression_tokens (e (s.size_name (s.type_name bare (s.base bare (s.words (fixed.Int ∷ []))) 1 s.no_dimensions))) ≡
+size_prints : expression_tokens (e (s.size_name (s.type_name unlaid (s.base unlaid (s.words (fixed.Int ∷ []))) 1 s.no_dimensions))) ≡
     Token fixed.Sizeof ∷ Token fixed.LeftParen ∷ Token fixed.Int ∷ Token fixed.Star ∷ Token fixed.RightParen ∷ []
 size_prints = refl
 
 -- `struct a { int b, *c; }`
-struct_prints : base_tokens (s.base bare (s.struct_def (Some (at 0 1)) (s.then_member (s.member (s.base bare (s.words (fixed.Int ∷ []))) (s.then_declarator (s.declarator bare 0 (Some (at 1 2)) (s.arrays s.no_dimensions) s.no_initialiser) (s.then_declarator (s.declarator bare 1 (Some (at 2 3)) (s.arrays s.no_dimensions) s.no_initialiser) s.no_declarators))) s.no_members))) ≡
+struct_prints : base_tokens (s.base unlaid (s.struct_def (Some (at 0 1)) (s.then_member (s.member (s.base unlaid (s.words (fixed.Int ∷ []))) (s.then_declarator (s.declarator unlaid 0 (Some (at 1 2)) (s.arrays s.no_dimensions) s.no_initialiser) (s.then_declarator (s.declarator unlaid 1 (Some (at 2 3)) (s.arrays s.no_dimensions) s.no_initialiser) s.no_declarators))) s.no_members))) ≡
     Token fixed.Struct ∷ word 0 ∷ Token fixed.LeftBrace ∷ Token fixed.Int ∷ word 1 ∷ Token fixed.Comma ∷ Token fixed.Star ∷ word 2 ∷ Token fixed.Semicolon ∷ Token fixed.RightBrace ∷ []
 struct_prints = refl
 
 -- `enum { a = b, c, }`
-enum_prints : base_tokens (s.base bare (s.enum_def None (s.then_enumerator (s.enumerator (at 0 1) (s.some_expression b)) (s.then_enumerator (s.enumerator (at 2 3) s.no_expression) s.no_enumerators)) true)) ≡
+enum_prints : base_tokens (s.base unlaid (s.enum_def None (s.then_enumerator (s.enumerator (at 0 1) (s.some_expression b)) (s.then_enumerator (s.enumerator (at 2 3) s.no_expression) s.no_enumerators)) true)) ≡
     Token fixed.Enum ∷ Token fixed.LeftBrace ∷ word 0 ∷ Token fixed.Assign ∷ word 1 ∷ Token fixed.Comma ∷ word 2 ∷ Token fixed.Comma ∷ Token fixed.RightBrace ∷ []
 enum_prints = refl
 
@@ -168,7 +169,7 @@ for_prints : statement_tokens (x (s.for_statement (s.start_expression (s.some_ex
 for_prints = refl
 
 -- `switch (a) { case b: default: break; }`
-switch_prints : statement_tokens (x (s.switch_statement a (s.then_section (s.section bare (s.then_label (s.case_label b) (s.then_label s.default_label s.no_labels)) (s.then_statement (x s.break_statement) s.no_statements)) s.no_sections))) ≡
+switch_prints : statement_tokens (x (s.switch_statement a (s.then_section (s.section unlaid (s.then_label (s.case_label b) (s.then_label s.default_label s.no_labels)) (s.then_statement (x s.break_statement) s.no_statements)) s.no_sections))) ≡
     Token fixed.Switch ∷ Token fixed.LeftParen ∷ word 0 ∷ Token fixed.RightParen ∷ Token fixed.LeftBrace ∷ Token fixed.Case ∷ word 1 ∷ Token fixed.Colon ∷ Token fixed.Default ∷ Token fixed.Colon ∷ Token fixed.Break ∷ Token fixed.Semicolon ∷ Token fixed.RightBrace ∷ []
 switch_prints = refl
 
@@ -205,22 +206,22 @@ else_placed : statement_placed (x (s.if_statement a (x (s.if_statement b (x s.br
 else_placed = refl
 
 -- `(void)` is no list of one parameter
-void_not_placed : tail_placed (s.with_parameters (s.then_parameter (s.parameter bare (s.base bare (s.words (fixed.Void ∷ []))) (s.declarator bare 0 None (s.arrays s.no_dimensions) s.no_initialiser)) s.no_parameters) false) ≡
+void_not_placed : tail_placed (s.with_parameters (s.then_parameter (s.parameter unlaid (s.base unlaid (s.words (fixed.Void ∷ []))) (s.declarator unlaid 0 None (s.arrays s.no_dimensions) s.no_initialiser)) s.no_parameters) false) ≡
     false
 void_not_placed = refl
 
 -- `(void, ...)` is one
-void_more_placed : tail_placed (s.with_parameters (s.then_parameter (s.parameter bare (s.base bare (s.words (fixed.Void ∷ []))) (s.declarator bare 0 None (s.arrays s.no_dimensions) s.no_initialiser)) s.no_parameters) true) ≡
+void_more_placed : tail_placed (s.with_parameters (s.then_parameter (s.parameter unlaid (s.base unlaid (s.words (fixed.Void ∷ []))) (s.declarator unlaid 0 None (s.arrays s.no_dimensions) s.no_initialiser)) s.no_parameters) true) ≡
     true
 void_more_placed = refl
 
 -- the type of a cast has no braces
-braces_not_placed : type_name_placed (s.type_name bare (s.base bare (s.struct_def None (s.then_member (s.member (s.base bare (s.words (fixed.Int ∷ []))) (s.then_declarator (s.declarator bare 0 (Some (at 1 2)) (s.arrays s.no_dimensions) s.no_initialiser) s.no_declarators)) s.no_members))) 0 s.no_dimensions) ≡
+braces_not_placed : type_name_placed (s.type_name unlaid (s.base unlaid (s.struct_def None (s.then_member (s.member (s.base unlaid (s.words (fixed.Int ∷ []))) (s.then_declarator (s.declarator unlaid 0 (Some (at 1 2)) (s.arrays s.no_dimensions) s.no_initialiser) s.no_declarators)) s.no_members))) 0 s.no_dimensions) ≡
     false
 braces_not_placed = refl
 
 -- only the last section may be without statements
-section_not_placed : statement_placed (x (s.switch_statement a (s.then_section (s.section bare (s.then_label s.default_label s.no_labels) s.no_statements) (s.then_section (s.section bare (s.then_label s.default_label s.no_labels) s.no_statements) s.no_sections)))) ≡
+section_not_placed : statement_placed (x (s.switch_statement a (s.then_section (s.section unlaid (s.then_label s.default_label s.no_labels) s.no_statements) (s.then_section (s.section unlaid (s.then_label s.default_label s.no_labels) s.no_statements) s.no_sections)))) ≡
     false
 section_not_placed = refl
 
@@ -228,12 +229,26 @@ section_not_placed = refl
 call_height : expression_height (e (s.call a (s.then_expression b (s.then_expression c s.no_expressions)))) ≡ 2
 call_height = refl
 
--- `**a[1]`: the declarator, two `*`, an array part, its size
-star_height : declarator_height (s.declarator bare 2 (Some (at 0 1)) (s.arrays (s.then_dimension (s.sized (e (s.number (at 1 2)))) s.no_dimensions)) s.no_initialiser) ≡
-    5
+-- `**a[1]`: the declarator and the size of its array part; nested are the declarator, two `*`, an array part and its size
+stars : DeclrTree
+stars = s.declarator unlaid 2 (Some (at 0 1)) (s.arrays (s.then_dimension (s.sized (e (s.number (at 1 2)))) s.no_dimensions)) s.no_initialiser
+
+star_height : declarator_height stars ≡ 2
+unfolding stars
 star_height = refl
 
--- `{{a}}`
-brace_height : initialiser_height (s.braces (s.then_item (s.item s.no_designators (s.braces (s.then_item (s.item s.no_designators (s.plain a)) s.no_items) false)) s.no_items) false) ≡
-    3
+star_nesting : declarator_nesting stars ≡ 5
+unfolding stars
+star_nesting = refl
+
+-- `{{a}}`: one node, and two braces round it
+braces : InitTree
+braces = s.braces (s.then_item (s.item s.no_designators (s.braces (s.then_item (s.item s.no_designators (s.plain a)) s.no_items) false)) s.no_items) false
+
+brace_height : initialiser_height braces ≡ 1
+unfolding braces
 brace_height = refl
+
+brace_nesting : initialiser_nesting braces ≡ 3
+unfolding braces
+brace_nesting = refl

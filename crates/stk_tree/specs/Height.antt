@@ -1,5 +1,4 @@
--- How high a tree is: a leaf has height 1, and any other node is one higher than the highest of its children; a list adds nothing.
--- Each `*` and each array part of a declarator or a type name, each brace of an initialiser and each designator counts one level more, as a node round what it stands on would.
+-- How high a tree is: a leaf has height 1, and any other node is one higher than the highest of its children; a list, and what else is no node, adds nothing.
 use Rattle.std.specs.Prelude.{ℕ, ◌+◌, max}
 use Rattle.stk_tree.specs.Syntax.{BaseTree, BaseFormTree, MemberTree, MemberTrees, EnumrTree, EnumrTrees, DeclrTree, DeclrTrees, TailTree, DimensionTree, DimensionTrees, ParamTree, ParamTrees, TypeNameTree, InitTree, MaybeInitTree, ItemTree, ItemTrees, DesigTree, DesigTrees, ExprTree, ExprTrees, MaybeExprTree, ExprFormTree}
 use Rattle.stk_tree.specs.Syntax.{DeclarationTree, StartTree, LabelTree, LabelTrees, StmtTree, StmtTrees, MaybeStmtTree, StmtFormTree, PartTree, PartTrees, SectionTree, SectionTrees, FunctionTree, UnitTree}
@@ -31,9 +30,8 @@ abbrev mutual
   enumerators_height s.no_enumerators = 0
   enumerators_height (s.then_enumerator x xs) = max (enumerator_height x) (enumerators_height xs)
 
-  -- a level for each `*`, round what follows the name; then the declarator's own
   pub declarator_height : DeclrTree → ℕ
-  declarator_height (s.declarator n count at t i) = max (tail_height t + count) (maybe_initialiser_height i) + 1
+  declarator_height (s.declarator n count at t i) = max (tail_height t) (maybe_initialiser_height i) + 1
 
   pub declarators_height : DeclrTrees → ℕ
   declarators_height s.no_declarators = 0
@@ -49,10 +47,9 @@ abbrev mutual
   dimension_height s.open_dimension = 0
   dimension_height (s.sized e) = expression_height e
 
-  -- a level for each array part, round its size and the parts after it
   pub dimensions_height : DimensionTrees → ℕ
   dimensions_height s.no_dimensions = 0
-  dimensions_height (s.then_dimension x xs) = max (dimension_height x) (dimensions_height xs) + 1
+  dimensions_height (s.then_dimension x xs) = max (dimension_height x) (dimensions_height xs)
 
   pub parameter_height : ParamTree → ℕ
   parameter_height (s.parameter n b d) = max (base_height b) (declarator_height d) + 1
@@ -61,14 +58,12 @@ abbrev mutual
   parameters_height s.no_parameters = 0
   parameters_height (s.then_parameter x xs) = max (parameter_height x) (parameters_height xs)
 
-  -- a level for each `*`, round the array parts; then the type name's own
   pub type_name_height : TypeNameTree → ℕ
-  type_name_height (s.type_name n b count ds) = max (base_height b) (dimensions_height ds + count) + 1
+  type_name_height (s.type_name n b count ds) = max (base_height b) (dimensions_height ds) + 1
 
-  -- a level for the braces
   pub initialiser_height : InitTree → ℕ
   initialiser_height (s.plain e) = expression_height e
-  initialiser_height (s.braces is comma) = items_height is + 1
+  initialiser_height (s.braces is comma) = items_height is
 
   pub maybe_initialiser_height : MaybeInitTree → ℕ
   maybe_initialiser_height s.no_initialiser = 0
@@ -85,10 +80,9 @@ abbrev mutual
   designator_height (s.dot_designator at) = 0
   designator_height (s.at_designator e) = expression_height e
 
-  -- a level for each designator, round its index and the designators after it
   pub designators_height : DesigTrees → ℕ
   designators_height s.no_designators = 0
-  designators_height (s.then_designator x xs) = max (designator_height x) (designators_height xs) + 1
+  designators_height (s.then_designator x xs) = max (designator_height x) (designators_height xs)
 
   pub expression_height : ExprTree → ℕ
   expression_height (s.expression n f) = expression_form_height f + 1

@@ -1,5 +1,6 @@
 -- Which trees are well placed: each part stands where the grammar allows it, so far as no name is needed to tell.
 use Rattle.std.specs.Prelude.{ℕ, ◌+◌, Bool, true, false, not, ◌&&◌, List, [], ◌∷◌, Option, Some, None, nat_eq, nat_le}
+use Rattle.stk_tree.specs.Levels.{comma_level, assignment_level, conditional_level, logical_or_level, logical_and_level, or_level, xor_level, and_level, equality_level, relational_level, shift_level, additive_level, multiplicative_level, cast_level, unary_level, postfix_level, primary_level}
 use Rattle.stk_tree.specs.declared.fixed.Fixed.{Fixed}
 use Rattle.stk_tree.specs.declared.fixed.Fixed.TheVariants as fixed
 use Rattle.stk_tree.specs.declared.declaration.Storage.{Storage}
@@ -14,52 +15,52 @@ use Rattle.stk_tree.specs.Syntax as s
 
 -- the level of a binary operator (C11 6.5.5 to 6.5.14, 6.5.17)
 abbrev pub binary_level : BinaryOp → ℕ
-binary_level binary.Comma = 1
-binary_level binary.OrElse = 4
-binary_level binary.AndAlso = 5
-binary_level binary.Or = 6
-binary_level binary.Xor = 7
-binary_level binary.And = 8
-binary_level binary.Eq = 9
-binary_level binary.Ne = 9
-binary_level binary.Lt = 10
-binary_level binary.Gt = 10
-binary_level binary.Le = 10
-binary_level binary.Ge = 10
-binary_level binary.Left = 11
-binary_level binary.Right = 11
-binary_level binary.Add = 12
-binary_level binary.Sub = 12
-binary_level binary.Mul = 13
-binary_level binary.Div = 13
-binary_level binary.Rem = 13
+binary_level binary.Comma = comma_level
+binary_level binary.OrElse = logical_or_level
+binary_level binary.AndAlso = logical_and_level
+binary_level binary.Or = or_level
+binary_level binary.Xor = xor_level
+binary_level binary.And = and_level
+binary_level binary.Eq = equality_level
+binary_level binary.Ne = equality_level
+binary_level binary.Lt = relational_level
+binary_level binary.Gt = relational_level
+binary_level binary.Le = relational_level
+binary_level binary.Ge = relational_level
+binary_level binary.Left = shift_level
+binary_level binary.Right = shift_level
+binary_level binary.Add = additive_level
+binary_level binary.Sub = additive_level
+binary_level binary.Mul = multiplicative_level
+binary_level binary.Div = multiplicative_level
+binary_level binary.Rem = multiplicative_level
 
 -- the level of `++` and `--`: unary before the operand, postfix after it (C11 6.5.3.1, 6.5.2.4)
 abbrev pub step_level : StepOp → ℕ
-step_level IncBefore = 15
-step_level DecBefore = 15
-step_level IncAfter = 16
-step_level DecAfter = 16
+step_level IncBefore = unary_level
+step_level DecBefore = unary_level
+step_level IncAfter = postfix_level
+step_level DecAfter = postfix_level
 
 -- the level of an expression, from 1, which binds the weakest, to 17 (C11 6.5)
 abbrev pub form_level : ExprFormTree → ℕ
-form_level (s.name at) = 17
-form_level (s.number at) = 17
-form_level (s.character at) = 17
-form_level (s.text parts) = 17
-form_level (s.paren e) = 17
-form_level (s.index a b) = 16
-form_level (s.call f args) = 16
-form_level (s.dot e at) = 16
-form_level (s.arrow e at) = 16
+form_level (s.name at) = primary_level
+form_level (s.number at) = primary_level
+form_level (s.character at) = primary_level
+form_level (s.text parts) = primary_level
+form_level (s.paren e) = primary_level
+form_level (s.index a b) = postfix_level
+form_level (s.call f args) = postfix_level
+form_level (s.dot e at) = postfix_level
+form_level (s.arrow e at) = postfix_level
 form_level (s.step op e) = step_level op
-form_level (s.unary op e) = 15
-form_level (s.size_expression e) = 15
-form_level (s.size_name t) = 15
-form_level (s.cast t e) = 14
+form_level (s.unary op e) = unary_level
+form_level (s.size_expression e) = unary_level
+form_level (s.size_name t) = unary_level
+form_level (s.cast t e) = cast_level
 form_level (s.binary op a b) = binary_level op
-form_level (s.choice a b c) = 3
-form_level (s.assign op a b) = 2
+form_level (s.choice a b c) = conditional_level
+form_level (s.assign op a b) = assignment_level
 
 -- the words of the basic types (C11 6.7.2)
 abbrev pub is_basic : Fixed → Bool
@@ -87,10 +88,10 @@ is_filled [] = false
 is_filled (x ∷ xs) = true
 
 -- a base without braces
-abbrev pub is_bare : BaseTree → Bool
-is_bare (s.base n (s.struct_def tag ms)) = false
-is_bare (s.base n (s.enum_def tag es comma)) = false
-is_bare (s.base n other) = true
+abbrev pub is_unbraced : BaseTree → Bool
+is_unbraced (s.base n (s.struct_def tag ms)) = false
+is_unbraced (s.base n (s.enum_def tag es comma)) = false
+is_unbraced (s.base n other) = true
 
 -- the one word `void`
 abbrev pub lone_void_word : List Fixed → Bool
@@ -175,11 +176,11 @@ abbrev pub comma_placed : Bool → ItemTrees → Bool
 comma_placed true is = some_items is
 comma_placed false is = true
 
--- a bare `void`
+-- a lone `void`
 abbrev pub is_void_parameter : ParamTree → Bool
 is_void_parameter (s.parameter n b d) = is_void b && is_empty_declarator d
 
--- one bare `void`, which `(void)` says in another way
+-- one lone `void`, which `(void)` says in another way
 abbrev pub lone_void : ParamTrees → Bool → Bool
 lone_void (s.then_parameter x s.no_parameters) more = not more && is_void_parameter x
 lone_void other more = false
@@ -217,7 +218,7 @@ abbrev mutual
   -- a conditional expression that may be missing
   pub constant_placed : MaybeExprTree → Bool
   constant_placed s.no_expression = true
-  constant_placed (s.some_expression e) = expression_placed 3 e
+  constant_placed (s.some_expression e) = expression_placed conditional_level e
 
   -- what a declarator holds, wherever it stands
   pub declarator_placed : DeclrTree → Bool
@@ -235,24 +236,24 @@ abbrev mutual
 
   pub dimension_placed : DimensionTree → Bool
   dimension_placed s.open_dimension = true
-  dimension_placed (s.sized e) = expression_placed 3 e
+  dimension_placed (s.sized e) = expression_placed conditional_level e
 
   pub dimensions_placed : DimensionTrees → Bool
   dimensions_placed s.no_dimensions = true
   dimensions_placed (s.then_dimension x xs) = dimension_placed x && dimensions_placed xs
 
   pub parameter_placed : ParamTree → Bool
-  parameter_placed (s.parameter n b d) = is_bare b && base_placed b && parameter_declarator d && declarator_placed d
+  parameter_placed (s.parameter n b d) = is_unbraced b && base_placed b && parameter_declarator d && declarator_placed d
 
   pub parameters_placed : ParamTrees → Bool
   parameters_placed s.no_parameters = true
   parameters_placed (s.then_parameter x xs) = parameter_placed x && parameters_placed xs
 
   pub type_name_placed : TypeNameTree → Bool
-  type_name_placed (s.type_name n b count ds) = is_bare b && base_placed b && dimensions_placed ds
+  type_name_placed (s.type_name n b count ds) = is_unbraced b && base_placed b && dimensions_placed ds
 
   pub initialiser_placed : InitTree → Bool
-  initialiser_placed (s.plain e) = expression_placed 2 e
+  initialiser_placed (s.plain e) = expression_placed assignment_level e
   initialiser_placed (s.braces is comma) = comma_placed comma is && items_placed is
 
   pub maybe_initialiser_placed : MaybeInitTree → Bool
@@ -268,7 +269,7 @@ abbrev mutual
 
   pub designator_placed : DesigTree → Bool
   designator_placed (s.dot_designator at) = true
-  designator_placed (s.at_designator e) = expression_placed 3 e
+  designator_placed (s.at_designator e) = expression_placed conditional_level e
 
   pub designators_placed : DesigTrees → Bool
   designators_placed s.no_designators = true
@@ -281,31 +282,31 @@ abbrev mutual
   -- the arguments of a call: no `,` outside parentheses
   pub arguments_placed : ExprTrees → Bool
   arguments_placed s.no_expressions = true
-  arguments_placed (s.then_expression x xs) = expression_placed 2 x && arguments_placed xs
+  arguments_placed (s.then_expression x xs) = expression_placed assignment_level x && arguments_placed xs
 
   pub expression_form_placed : ExprFormTree → Bool
   expression_form_placed (s.name at) = true
   expression_form_placed (s.number at) = true
   expression_form_placed (s.character at) = true
   expression_form_placed (s.text parts) = is_filled parts
-  expression_form_placed (s.paren e) = expression_placed 1 e
-  expression_form_placed (s.index a b) = expression_placed 16 a && expression_placed 1 b
-  expression_form_placed (s.call f args) = expression_placed 16 f && arguments_placed args
-  expression_form_placed (s.dot e at) = expression_placed 16 e
-  expression_form_placed (s.arrow e at) = expression_placed 16 e
+  expression_form_placed (s.paren e) = expression_placed comma_level e
+  expression_form_placed (s.index a b) = expression_placed postfix_level a && expression_placed comma_level b
+  expression_form_placed (s.call f args) = expression_placed postfix_level f && arguments_placed args
+  expression_form_placed (s.dot e at) = expression_placed postfix_level e
+  expression_form_placed (s.arrow e at) = expression_placed postfix_level e
   expression_form_placed (s.step op e) = expression_placed (step_level op) e
-  expression_form_placed (s.unary op e) = expression_placed 14 e
-  expression_form_placed (s.size_expression e) = expression_placed 15 e
+  expression_form_placed (s.unary op e) = expression_placed cast_level e
+  expression_form_placed (s.size_expression e) = expression_placed unary_level e
   expression_form_placed (s.size_name t) = type_name_placed t
-  expression_form_placed (s.cast t e) = type_name_placed t && expression_placed 14 e
+  expression_form_placed (s.cast t e) = type_name_placed t && expression_placed cast_level e
   expression_form_placed (s.binary op a b) = expression_placed (binary_level op) a && expression_placed (binary_level op + 1) b
-  expression_form_placed (s.choice a b c) = expression_placed 4 a && expression_placed 1 b && expression_placed 3 c
-  expression_form_placed (s.assign op a b) = expression_placed 15 a && expression_placed 2 b
+  expression_form_placed (s.choice a b c) = expression_placed logical_or_level a && expression_placed comma_level b && expression_placed conditional_level c
+  expression_form_placed (s.assign op a b) = expression_placed unary_level a && expression_placed assignment_level b
 
 -- an expression that may be missing
 abbrev pub optional_placed : MaybeExprTree → Bool
 optional_placed s.no_expression = true
-optional_placed (s.some_expression e) = expression_placed 1 e
+optional_placed (s.some_expression e) = expression_placed comma_level e
 
 -- `static`, or no storage word
 abbrev pub local_storage : Option Storage → Bool
@@ -315,7 +316,7 @@ local_storage (Some other) = false
 
 -- in a block or a `for`
 abbrev pub local_placed : DeclarationTree → Bool
-local_placed (s.declaration word b ds) = local_storage word && is_bare b && base_placed b && some_declarators ds && local_declarators ds && declarators_placed ds
+local_placed (s.declaration word b ds) = local_storage word && is_unbraced b && base_placed b && some_declarators ds && local_declarators ds && declarators_placed ds
 
 -- at file scope
 abbrev pub file_placed : DeclarationTree → Bool
@@ -327,7 +328,7 @@ start_placed (s.start_expression e) = optional_placed e
 
 abbrev pub label_placed : LabelTree → Bool
 label_placed s.default_label = true
-label_placed (s.case_label e) = expression_placed 3 e
+label_placed (s.case_label e) = expression_placed conditional_level e
 
 abbrev pub labels_placed : LabelTrees → Bool
 labels_placed s.no_labels = true
@@ -369,11 +370,11 @@ abbrev mutual
   pub statement_form_placed : StmtFormTree → Bool
   statement_form_placed (s.block ps) = parts_placed ps
   statement_form_placed (s.expression_statement e) = optional_placed e
-  statement_form_placed (s.if_statement e x s.no_statement) = expression_placed 1 e && statement_placed x
-  statement_form_placed (s.if_statement e x (s.some_statement y)) = expression_placed 1 e && statement_placed x && not (ends_open x) && statement_placed y
-  statement_form_placed (s.switch_statement e xs) = expression_placed 1 e && sections_placed xs
-  statement_form_placed (s.while_statement e x) = expression_placed 1 e && statement_placed x
-  statement_form_placed (s.do_statement x e) = statement_placed x && expression_placed 1 e
+  statement_form_placed (s.if_statement e x s.no_statement) = expression_placed comma_level e && statement_placed x
+  statement_form_placed (s.if_statement e x (s.some_statement y)) = expression_placed comma_level e && statement_placed x && not (ends_open x) && statement_placed y
+  statement_form_placed (s.switch_statement e xs) = expression_placed comma_level e && sections_placed xs
+  statement_form_placed (s.while_statement e x) = expression_placed comma_level e && statement_placed x
+  statement_form_placed (s.do_statement x e) = statement_placed x && expression_placed comma_level e
   statement_form_placed (s.for_statement first test step x) = start_placed first && optional_placed test && optional_placed step && statement_placed x
   statement_form_placed s.break_statement = true
   statement_form_placed s.continue_statement = true
@@ -401,7 +402,7 @@ is_block (s.statement n other) = false
 
 abbrev pub function_placed : FunctionTree → Bool
 function_placed (s.function word b d body) =
-    is_bare b && base_placed b && function_declarator d && declarator_placed d && is_block body && statement_placed body
+    is_unbraced b && base_placed b && function_declarator d && declarator_placed d && is_block body && statement_placed body
 
 abbrev pub unit_placed : UnitTree → Bool
 unit_placed (s.empty_unit n) = true

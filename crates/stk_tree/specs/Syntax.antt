@@ -200,7 +200,7 @@ mutual
 pub data FunctionTree : Type 0 where
   function : Option Storage → BaseTree → DeclrTree → StmtTree → FunctionTree
 
--- a bare `;`, a declaration or a function definition (C11 6.9)
+-- a lone `;`, a declaration or a function definition (C11 6.9)
 pub data UnitTree : Type 0 where
   empty_unit : Node → UnitTree
   declares : Node → DeclarationTree → UnitTree

@@ -7,8 +7,11 @@
 mod declaration;
 mod expression;
 mod fixed;
+pub mod levels;
+mod limits;
 mod node;
 mod statement;
+mod tables;
 mod text;
 mod unit;
 
@@ -18,7 +21,9 @@ pub use declaration::{
 };
 pub use expression::{AssignOp, BinaryOp, Expr, ExprForm, StepOp, UnaryOp};
 pub use fixed::{Fixed, Lexeme};
-pub use node::Node;
+pub use limits::MOST_NESTING;
+pub use node::{Node, no_node};
 pub use statement::{Label, Part, Section, Start, Stmt, StmtForm};
+pub use tables::{binary_level, is_basic};
 pub use text::{fixed_of, spelling};
 pub use unit::{Function, Unit};

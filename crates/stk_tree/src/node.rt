@@ -1,3 +1,7 @@
+//! What a node of a tree carries beside its form.
+ghost use Rattle.std.specs.Prelude.{◌≡◌};
+ghost use Rattle.stk_tree.specs.Unlaid.{no_node};
+
 use stk_base::Span;
 
 /// What a node of a tree carries beside its form.
@@ -9,4 +13,14 @@ use stk_base::Span;
 pub struct Node {
     pub number: u32,
     pub span: Span,
+}
+
+/// The record of a node that isn't laid out yet.
+pub fn no_node() -> Node
+    ensures { result ≡ no_node }
+{
+    Node {
+        number: 0,
+        span: Span { from: 0, to: 0 },
+    }
 }

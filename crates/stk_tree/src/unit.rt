@@ -3,7 +3,7 @@ use crate::{Base, Declaration, Declr, Node, Stmt, Storage};
 /// A unit of the input: what stands at file scope (C11 6.9).
 #[derive(Drop)]
 pub enum Unit {
-    /// A bare `;`.
+    /// A unlaid `;`.
     Empty(Node),
     /// A declaration.
     Declares(Node, Declaration),

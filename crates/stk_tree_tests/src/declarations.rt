@@ -1,5 +1,5 @@
 //! What each form of declaration prints, and where it may stand.
-use crate::maker::{BARE, Maker, base, declarator, name, number};
+use crate::maker::{Maker, UNLAID, base, declarator, name, number};
 use crate::printed::{A, B, C, F, ONE};
 use std::process::Abort;
 use stk_base::{List, Span};
@@ -11,7 +11,7 @@ use stk_tree::{
 impl<R: Abort> Maker<'_, R> {
     /// Compares `base declarators ;` at file scope with what it is to print, and with whether it is to be well placed.
     fn check_file(&self, base: Base, list: List<Declr>, text: &str, placed: bool) {
-        let unit = Unit::Declares(BARE, self.declares(base, list));
+        let unit = Unit::Declares(UNLAID, self.declares(base, list));
         self.check(self.boxed(unit), text, placed);
     }
 
@@ -33,7 +33,7 @@ impl<R: Abort> Maker<'_, R> {
 
     fn parameter(&self, base: Base, stars: u32, name: Option<Span>) -> Param {
         Param {
-            node: BARE,
+            node: UNLAID,
             base,
             declr: declarator(stars, name, Tail::Arrays(self.none()), None),
         }
@@ -214,7 +214,7 @@ fn declarations_at_file_scope(rt: HostRuntime) {
         alloc: rt.alloc(),
         rt: &rt,
     };
-    make.check(make.boxed(Unit::Empty(BARE)), ";", true);
+    make.check(make.boxed(Unit::Empty(UNLAID)), ";", true);
     for (storage, text) in [
         (Storage::Typedef, "typedef int a ;"),
         (Storage::Extern, "extern int a ;"),
@@ -225,7 +225,7 @@ fn declarations_at_file_scope(rt: HostRuntime) {
             base: make.int(),
             list: make.list([make.named(A)]),
         };
-        make.check(make.boxed(Unit::Declares(BARE, declaration)), text, true);
+        make.check(make.boxed(Unit::Declares(UNLAID, declaration)), text, true);
     }
     let unnamed = declarator(1, None, Tail::Arrays(make.none()), None);
     make.check_file(make.int(), make.list([unnamed]), "int * ;", false);

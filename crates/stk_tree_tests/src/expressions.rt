@@ -1,5 +1,5 @@
 //! What each form of expression prints, and which operands it may have.
-use crate::maker::{BARE, Maker, base, declarator, expression, name, number};
+use crate::maker::{Maker, UNLAID, base, declarator, expression, name, number};
 use crate::printed::{A, B, C, LETTER, ONE, S, T};
 use std::process::Abort;
 use stk_base::{Boxed, Span};
@@ -13,7 +13,7 @@ impl<R: Abort> Maker<'_, R> {
     fn value(&self, e: Expr) -> Boxed<Unit> {
         let declarator = declarator(0, Some(A), Tail::Arrays(self.none()), Some(Init::Plain(e)));
         let declaration = self.declares(self.int(), self.list([declarator]));
-        self.boxed(Unit::Declares(BARE, declaration))
+        self.boxed(Unit::Declares(UNLAID, declaration))
     }
 
     /// Compares `int a = e ;` with what it is to print, and with whether it is to be well placed.
@@ -64,7 +64,7 @@ impl<R: Abort> Maker<'_, R> {
     /// `int * [ 1 ]`
     fn pointers(&self) -> TypeName {
         TypeName {
-            node: BARE,
+            node: UNLAID,
             base: self.int(),
             stars: 1,
             arrays: self.list([Dimension::Sized(number(ONE))]),
@@ -78,7 +78,7 @@ impl<R: Abort> Maker<'_, R> {
             list: self.list([self.named(A)]),
         };
         TypeName {
-            node: BARE,
+            node: UNLAID,
             base: base(BaseForm::StructDef(None, self.list([member]))),
             stars: 0,
             arrays: self.none(),

@@ -8,14 +8,14 @@ use std::alloc::{AllocError, Global};
 use std::process::Abort;
 use std::test::Fail;
 use stk_base::{Boxed, Class, Span};
-use stk_layout::lay_out;
-use stk_measure::{height, nodes};
-use stk_placed::well_placed;
-use stk_print::tokens_of;
 use stk_tree::{
     Declaration, Declr, Dimension, Expr, ExprForm, Fixed, Init, Item, Lexeme, Node, Part, Stmt,
     StmtForm, Tail, Unit,
 };
+use stk_tree_layout::lay_out;
+use stk_tree_measure::{height, nodes};
+use stk_tree_placed::well_placed;
+use stk_tree_print::tokens_of;
 
 fn leaf(class: Class, from: u32, to: u32) -> Lexeme {
     Lexeme::Leaf(class, Span { from, to })
@@ -339,7 +339,7 @@ fn an_array(rt: HostRuntime) -> Result<(), Fail> {
     };
     let unit = make.array();
     assert_eq!(rt; nodes(unit.get()), 5);
-    assert_eq!(rt; height(unit.get()), 6);
+    assert_eq!(rt; height(unit.get()), 3);
     check_layout(&rt, rt.alloc(), unit, &ARRAY_SPANS, &ARRAY_NODES)
 }
 

@@ -8,20 +8,20 @@ use crate::printed::{F, are_spelled};
 use std::alloc::Global;
 use std::process::Abort;
 use stk_base::{Boxed, List, Span};
-use stk_placed::well_placed;
-use stk_print::tokens_of;
 use stk_tree::{
     Base, BaseForm, BinaryOp, Declaration, Declr, Expr, ExprForm, Fixed, Function, Init, Node,
     Stmt, StmtForm, Tail, Unit,
 };
+use stk_tree_placed::well_placed;
+use stk_tree_print::tokens_of;
 
-pub const BARE: Node = Node {
+pub const UNLAID: Node = Node {
     number: 0,
     span: Span { from: 0, to: 0 },
 };
 
 pub fn expression(form: ExprForm) -> Expr {
-    Expr { node: BARE, form }
+    Expr { node: UNLAID, form }
 }
 
 pub fn name(at: Span) -> Expr
@@ -29,7 +29,7 @@ pub fn name(at: Span) -> Expr
     ensures height { expression_height (view_expression result) ≡ 1 }
 {
     Expr {
-        node: BARE,
+        node: UNLAID,
         form: ExprForm::Name(at),
     }
 }
@@ -39,22 +39,22 @@ pub fn number(at: Span) -> Expr
     ensures height { expression_height (view_expression result) ≡ 1 }
 {
     Expr {
-        node: BARE,
+        node: UNLAID,
         form: ExprForm::Number(at),
     }
 }
 
 pub fn statement(form: StmtForm) -> Stmt {
-    Stmt { node: BARE, form }
+    Stmt { node: UNLAID, form }
 }
 
 pub fn base(form: BaseForm) -> Base {
-    Base { node: BARE, form }
+    Base { node: UNLAID, form }
 }
 
 pub fn declarator(stars: u32, name: Option<Span>, tail: Tail, init: Option<Init>) -> Declr {
     Declr {
-        node: BARE,
+        node: UNLAID,
         stars,
         name,
         tail,
@@ -119,7 +119,7 @@ impl<R: Abort> Maker<'_, R> {
     /// `int f ( ) statement`
     pub fn function(&self, body: Stmt) -> Boxed<Unit> {
         self.boxed(Unit::Defines(
-            BARE,
+            UNLAID,
             Function {
                 storage: None,
                 base: self.int(),

@@ -1,5 +1,5 @@
 //! What each form of statement prints, and where it may stand.
-use crate::maker::{BARE, Maker, base, name, statement};
+use crate::maker::{Maker, UNLAID, base, name, statement};
 use crate::printed::{A, B, C};
 use std::process::Abort;
 use stk_tree::{BaseForm, Declaration, Expr, Label, Part, Section, Start, StmtForm, Storage};
@@ -44,7 +44,7 @@ impl<R: Abort> Maker<'_, R> {
             self.none()
         };
         Section {
-            node: BARE,
+            node: UNLAID,
             labels: self.list([label]),
             body,
         }
@@ -189,7 +189,7 @@ fn switches(rt: HostRuntime) {
         false,
     );
     let section = Section {
-        node: BARE,
+        node: UNLAID,
         labels: make.list([Label::Case(name(B)), Label::Default]),
         body: make.list([statement(StmtForm::Break)]),
     };

@@ -5,7 +5,7 @@ ghost use Rattle.stk_tree.specs.Nodes.{base_nodes, declaration_nodes, declarator
 ghost use Rattle.stk_tree.specs.Syntax.{if_statement, no_statement};
 ghost use Rattle.stk_tree.specs.View.{view_base, view_declaration, view_declarator, view_expression, view_statement, view_statement_form, view_unit};
 
-use crate::maker::{BARE, Maker, name, number};
+use crate::maker::{Maker, UNLAID, name, number};
 use std::process::Abort;
 use stk_base::{Boxed, List, Span};
 use stk_tree::{
@@ -22,7 +22,7 @@ fn words(words: List<Fixed>) -> Base
     ensures height { base_height (view_base result) ≡ 1 }
 {
     Base {
-        node: BARE,
+        node: UNLAID,
         form: BaseForm::Words(words),
     }
 }
@@ -45,7 +45,7 @@ impl<R: Abort> Maker<'_, R> {
         ensures height { expression_height (view_expression result) ≡ 2 }
     {
         Expr {
-            node: BARE,
+            node: UNLAID,
             form: ExprForm::Binary(op, self.boxed(a), self.boxed(b)),
         }
     }
@@ -56,19 +56,19 @@ impl<R: Abort> Maker<'_, R> {
         ensures height { declarator_height (view_declarator result) ≡ 3 }
     {
         let declr = Declr {
-            node: BARE,
+            node: UNLAID,
             stars: 0,
             name: Some(at(20, 21)),
             tail: Tail::Arrays(self.none()),
             init: None,
         };
         let parameter = Param {
-            node: BARE,
+            node: UNLAID,
             base: words(self.list([Fixed::Unsigned, Fixed::Char])),
             declr,
         };
         Declr {
-            node: BARE,
+            node: UNLAID,
             stars: 0,
             name: Some(at(4, 5)),
             tail: Tail::Params(self.list([parameter]), false),
@@ -83,7 +83,7 @@ impl<R: Abort> Maker<'_, R> {
     {
         let quotient = self.leaves(BinaryOp::Div, number(at(33, 35)), name(at(38, 39)));
         let declr = Declr {
-            node: BARE,
+            node: UNLAID,
             stars: 0,
             name: Some(at(29, 30)),
             tail: Tail::Arrays(self.none()),
@@ -104,7 +104,7 @@ impl<R: Abort> Maker<'_, R> {
         ensures height { statement_height (view_statement result) ≡ 2 }
     {
         Stmt {
-            node: BARE,
+            node: UNLAID,
             form: StmtForm::Return(Some(e)),
         }
     }
@@ -117,7 +117,7 @@ impl<R: Abort> Maker<'_, R> {
         let equal = self.leaves(BinaryOp::Eq, name(at(45, 46)), number(at(50, 51)));
         let body = self.boxed(self.returned(number(at(60, 61))));
         Stmt {
-            node: BARE,
+            node: UNLAID,
             form: if_form(equal, body),
         }
     }
@@ -130,7 +130,7 @@ impl<R: Abort> Maker<'_, R> {
         let test = Part::Run(self.test());
         let last = Part::Run(self.returned(name(at(70, 71))));
         Stmt {
-            node: BARE,
+            node: UNLAID,
             form: StmtForm::Block(self.list([local, test, last])),
         }
     }
@@ -141,7 +141,7 @@ impl<R: Abort> Maker<'_, R> {
         ensures height { unit_height (view_unit result) ≡ 5 }
     {
         self.boxed(Unit::Defines(
-            BARE,
+            UNLAID,
             Function {
                 storage: None,
                 base: words(self.list([Fixed::Int])),
@@ -154,7 +154,7 @@ impl<R: Abort> Maker<'_, R> {
     /// `int **a[1] = {{1}};`
     pub fn array(&self) -> Boxed<Unit>
         ensures nodes { unit_nodes (view_unit result) ≡ 5 }
-        ensures height { unit_height (view_unit result) ≡ 6 }
+        ensures height { unit_height (view_unit result) ≡ 3 }
     {
         let inner = Item {
             path: self.none(),
@@ -165,7 +165,7 @@ impl<R: Abort> Maker<'_, R> {
             init: Init::Braces(self.list([inner]), false),
         };
         let declr = Declr {
-            node: BARE,
+            node: UNLAID,
             stars: 2,
             name: Some(at(6, 7)),
             tail: Tail::Arrays(self.list([Dimension::Sized(number(at(8, 9)))])),
@@ -176,7 +176,7 @@ impl<R: Abort> Maker<'_, R> {
             base: words(self.list([Fixed::Int])),
             list: self.list([declr]),
         };
-        self.boxed(Unit::Declares(BARE, declaration))
+        self.boxed(Unit::Declares(UNLAID, declaration))
     }
 
     /// `int f(int);`
@@ -185,19 +185,19 @@ impl<R: Abort> Maker<'_, R> {
         ensures height { unit_height (view_unit result) ≡ 4 }
     {
         let declr = Declr {
-            node: BARE,
+            node: UNLAID,
             stars: 0,
             name: None,
             tail: Tail::Arrays(self.none()),
             init: None,
         };
         let parameter = Param {
-            node: BARE,
+            node: UNLAID,
             base: words(self.list([Fixed::Int])),
             declr,
         };
         let declr = Declr {
-            node: BARE,
+            node: UNLAID,
             stars: 0,
             name: Some(at(4, 5)),
             tail: Tail::Params(self.list([parameter]), false),
@@ -208,6 +208,6 @@ impl<R: Abort> Maker<'_, R> {
             base: words(self.list([Fixed::Int])),
             list: self.list([declr]),
         };
-        self.boxed(Unit::Declares(BARE, declaration))
+        self.boxed(Unit::Declares(UNLAID, declaration))
     }
 }

@@ -1,14 +1,14 @@
 -- How far cutting has come: the units that were cut, the unit that has begun, and what is left.
-use Rattle.std.proofs.Common.{◌≡◌, ℕ, suc, ◌+◌, ◌<◌, ◌≤◌, Bool, true, false, cond, ◌&&◌, List, [], ◌∷◌, ◌++◌, length, Option, Some, None, IfSome, refl, ap, sym, subst, ◌∙◌, append_assoc, arith}
+use Rattle.std.proofs.Common.{◌≡◌, ℕ, suc, map, ◌+◌, ◌<◌, ◌≤◌, Bool, true, false, cond, ◌&&◌, List, [], ◌∷◌, ◌++◌, length, Option, Some, None, IfSome, refl, ap, sym, subst, ◌∙◌, append_assoc, arith}
 use Rattle.std.specs.Option.{option_map}
-use Rattle.std.proofs.lemmas.List.{append-nil}
+use Rattle.std.proofs.lemmas.List.{append-nil, map-append}
 use Rattle.stk_lex.specs.declared.token.Token.{Token}
 use Rattle.stk_lex.specs.Cut.{AreSpans}
 use Rattle.stk_units.specs.declared.begun.Begun.{Begun}
 use Rattle.stk_units.specs.declared.cutting.Piece.{Piece}
 use Rattle.stk_units.specs.Spelled.{opens_brace}
 use Rattle.stk_units.specs.Skimming.{ArePositions}
-use Rattle.stk_units.specs.Units.{depth_of, body_of, is_outer, ends_with_parenthesis, is_begin, ends_unit, piece_of, units_behind, units_of, is_marked, AreJoined}
+use Rattle.stk_units.specs.Units.{depth_of, body_of, is_outer, ends_with_parenthesis, is_begin, ends_unit, piece_of, units_behind, units_of, is_marked, unmarked, AreInOrder, AreJoined}
 use Rattle.stk_units.specs.Begun.{IsBegun, notes_from, is_first_before}
 use Rattle.stk_units.proofs.Kept.{spans_from}
 use Rattle.stk_units.proofs.Skims.{depth_bound}
@@ -18,10 +18,11 @@ pub record Cuts (bytes : List ℕ) (tokens : List Token) (notes : List ℕ) (pie
   pub before : List Token
   pub end : ℕ
   pub begun : IsBegun bytes unit before
-  pub left_from : left ≡ notes_from end notes
-  pub spans : AreSpans (length bytes) end rest
+  pub left_from : AreInOrder bytes tokens notes → left ≡ notes_from end notes
+  pub spans : AreInOrder bytes tokens notes → AreSpans (length bytes) end rest
   pub place : unit.next + length rest ≡ length tokens
-  pub all_cut : pieces ++ units_behind bytes notes rest before unit.from end ≡ units_of bytes tokens notes
+  pub all_cut : AreInOrder bytes tokens notes → pieces ++ units_behind bytes notes rest before unit.from end ≡ units_of bytes tokens notes
+  pub all_bounds : map unmarked (pieces ++ units_behind bytes notes rest before unit.from end) ≡ map unmarked (units_of bytes tokens notes)
 
 -- ---- rows of the definition
 
@@ -61,15 +62,24 @@ piece_is bytes notes left unit t before end p b l a from to body marked =
     same_piece p.from unit.from p.to (unit.from + length before + 1) p.body (option_map (λ n. unit.from + n) (body_of bytes (t ∷ before))) p.no_return (is_marked notes end t)
     from (omega (arith, to, b.next)) (body ∙ b.body) marked_is
 
-pub cuts_begin : (bytes : List ℕ) (tokens : List Token) (notes : List ℕ) (unit : Begun) → IsBegun bytes unit [] → unit.from ≡ 0 → AreSpans (length bytes) 0 tokens → Cuts bytes tokens notes [] notes unit tokens
-cuts_begin bytes tokens notes unit b from spans = record {
+-- the same of its bounds alone
+bounds_are : (bytes notes : List ℕ) (unit : Begun) (t : Token) (before : List Token) (end : ℕ) (p : Piece) → IsBegun bytes unit (t ∷ before)
+    → p.from ≡ unit.from → p.to ≡ unit.next → p.body ≡ unit.body → unmarked p ≡ unmarked (piece_of bytes notes end unit.from t before)
+unfolding piece_of made
+bounds_are bytes notes unit t before end p b from to body =
+    same_piece p.from unit.from p.to (unit.from + length before + 1) p.body (option_map (λ n. unit.from + n) (body_of bytes (t ∷ before))) false false
+    from (omega (arith, to, b.next)) (body ∙ b.body) refl
+
+pub cuts_begin : (bytes : List ℕ) (tokens : List Token) (notes : List ℕ) (unit : Begun) → IsBegun bytes unit [] → unit.from ≡ 0 → Cuts bytes tokens notes [] notes unit tokens
+cuts_begin bytes tokens notes unit b from = record {
   before = [];
   end = 0;
   begun = b;
-  left_from = sym (notes_all notes);
-  spans = spans;
+  left_from = λ order. sym (notes_all notes);
+  spans = λ order. order.spans;
   place = omega (arith, b.next, from);
-  all_cut = rw from refl;
+  all_cut = λ order. rw from refl;
+  all_bounds = rw from refl;
 }
 
 pub cuts_on : (bytes : List ℕ) (tokens : List Token) (notes : List ℕ) (pieces : List Piece) (left : List ℕ) (unit whole : Begun) (t : Token) (ts : List Token) (s : Cuts bytes tokens notes pieces left unit (t ∷ ts))
@@ -79,26 +89,39 @@ cuts_on bytes tokens notes pieces left unit whole t ts s b from e = record {
   end = s.end;
   begun = b;
   left_from = s.left_from;
-  spans = spans_from (length bytes) s.end t.span.to ts (omega (arith, s.spans.0, s.spans.1)) s.spans.2;
+  spans = λ order. let spans = s.spans order in spans_from (length bytes) s.end t.span.to ts (omega (arith, spans.0, spans.1)) spans.2;
   place = omega (arith, s.place, b.next, s.begun.next, from);
-  all_cut = rw from (ap (λ ps. pieces ++ ps) (sym (units_on bytes notes t ts s.before unit.from s.end e)) ∙ s.all_cut);
+  all_cut = λ order. rw from (ap (λ ps. pieces ++ ps) (sym (units_on bytes notes t ts s.before unit.from s.end e)) ∙ s.all_cut order);
+  all_bounds = rw from (ap (λ ps. map unmarked (pieces ++ ps)) (sym (units_on bytes notes t ts s.before unit.from s.end e)) ∙ s.all_bounds);
 }
 
+-- a piece with these bounds in front of the same units
+same_bounds : (pieces units : List Piece) (p q : Piece) → unmarked p ≡ unmarked q → map unmarked ((pieces ++ p ∷ []) ++ units) ≡ map unmarked (pieces ++ q ∷ units)
+same_bounds pieces units p q e =
+    ap (map unmarked) (append_assoc pieces (p ∷ []) units) ∙ map-append unmarked pieces (p ∷ units) ∙ ap (λ u. map unmarked pieces ++ u ∷ map unmarked units) e
+    ∙ sym (map-append unmarked pieces (q ∷ units))
+
 pub cuts_end : (bytes : List ℕ) (tokens : List Token) (notes : List ℕ) (pieces : List Piece) (left further : List ℕ) (unit whole next : Begun) (t : Token) (ts : List Token) (p : Piece) (s : Cuts bytes tokens notes pieces left unit (t ∷ ts))
-    → IsBegun bytes whole (t ∷ s.before) → whole.from ≡ unit.from → ends_unit bytes t s.before ≡ true → p ≡ piece_of bytes notes s.end whole.from t s.before → further ≡ notes_from t.span.to left
-    → IsBegun bytes next [] → next.from ≡ whole.next → Cuts bytes tokens notes (pieces ++ p ∷ []) further next ts
-cuts_end bytes tokens notes pieces left further unit whole next t ts p s b from e is f n begin =
+    → IsBegun bytes whole (t ∷ s.before) → whole.from ≡ unit.from → ends_unit bytes t s.before ≡ true → p.from ≡ whole.from → p.to ≡ whole.next → p.body ≡ whole.body
+    → p.no_return ≡ is_first_before whole.last left → further ≡ notes_from t.span.to left → IsBegun bytes next [] → next.from ≡ whole.next → Cuts bytes tokens notes (pieces ++ p ∷ []) further next ts
+cuts_end bytes tokens notes pieces left further unit whole next t ts p s b from e p_from p_to p_body p_marked f n begin =
+    let is : AreInOrder bytes tokens notes → p ≡ piece_of bytes notes s.end whole.from t s.before = λ order. piece_is bytes notes left whole t s.before s.end p b (s.left_from order) order.positions p_from p_to p_body p_marked in
+    let bounds = bounds_are bytes notes whole t s.before s.end p b p_from p_to p_body in
     let place : next.from ≡ unit.from + length s.before + 1 = omega (arith, begin, b.next, from) in
     record {
       before = [];
       end = t.span.to;
       begun = n;
-      left_from = f ∙ ap (notes_from t.span.to) s.left_from ∙ notes_further s.end t.span.to notes (omega (arith, s.spans.0, s.spans.1));
-      spans = s.spans.2;
+      left_from = λ order. let spans = s.spans order in f ∙ ap (notes_from t.span.to) (s.left_from order) ∙ notes_further s.end t.span.to notes (omega (arith, spans.0, spans.1));
+      spans = λ order. (s.spans order).2;
       place = omega (arith, s.place, n.next, place, s.begun.next);
-      all_cut = rw (place, is, from)
+      all_cut = λ order. let whole_is = is order in rw (place, whole_is, from)
           (append_assoc pieces (piece_of bytes notes s.end unit.from t s.before ∷ []) (units_behind bytes notes ts [] (unit.from + length s.before + 1) t.span.to)
-          ∙ ap (λ ps. pieces ++ ps) (sym (units_end bytes notes t ts s.before unit.from s.end e)) ∙ s.all_cut);
+          ∙ ap (λ ps. pieces ++ ps) (sym (units_end bytes notes t ts s.before unit.from s.end e)) ∙ s.all_cut order);
+      all_bounds = rw place
+          (same_bounds pieces (units_behind bytes notes ts [] (unit.from + length s.before + 1) t.span.to) p (piece_of bytes notes s.end unit.from t s.before)
+          (bounds ∙ ap (λ k. unmarked (piece_of bytes notes s.end k t s.before)) from)
+          ∙ ap (λ ps. map unmarked (pieces ++ ps)) (sym (units_end bytes notes t ts s.before unit.from s.end e)) ∙ s.all_bounds);
     }
 
 -- ---- the end
@@ -109,6 +132,13 @@ none_left bytes notes [] [] from end e begin = refl
 none_left bytes notes [] (t ∷ before) from end e begin = absurd (cc)
 none_left bytes notes (t ∷ ts) before from end e begin = absurd (omega arith)
 
+one_left_bounds : (bytes notes : List ℕ) (unit : Begun) (rest before : List Token) (end : ℕ) (p : Piece) → IsBegun bytes unit before → length rest ≡ 0 → is_begin before ≡ false
+    → p.from ≡ unit.from → p.to ≡ unit.next → p.body ≡ unit.body → map unmarked (units_behind bytes notes rest before unit.from end) ≡ unmarked p ∷ []
+unfolding units_behind is_begin
+one_left_bounds bytes notes unit [] [] end p b e begin from to body = absurd (cc)
+one_left_bounds bytes notes unit [] (t ∷ before) end p b e begin from to body = ap (λ q. q ∷ []) (sym (bounds_are bytes notes unit t before end p b from to body))
+one_left_bounds bytes notes unit (t ∷ ts) before end p b e begin from to body = absurd (omega arith)
+
 one_left : (bytes notes left : List ℕ) (unit : Begun) (rest before : List Token) (end : ℕ) (p : Piece) → IsBegun bytes unit before → length rest ≡ 0 → is_begin before ≡ false → left ≡ notes_from end notes → ArePositions 0 notes
     → p.from ≡ unit.from → p.to ≡ unit.next → p.body ≡ unit.body → p.no_return ≡ is_first_before unit.last left → units_behind bytes notes rest before unit.from end ≡ p ∷ []
 unfolding units_behind is_begin
@@ -116,16 +146,25 @@ one_left bytes notes left unit [] [] end p b e begin l a from to body marked = a
 one_left bytes notes left unit [] (t ∷ before) end p b e begin l a from to body marked = ap (λ q. q ∷ []) (sym (piece_is bytes notes left unit t before end p b l a from to body marked))
 one_left bytes notes left unit (t ∷ ts) before end p b e begin l a from to body marked = absurd (omega arith)
 
+-- what is cut in the end: the units, and without an order their bounds
+pub record AreCut (bytes : List ℕ) (tokens : List Token) (notes : List ℕ) (pieces : List Piece) : Type 0 where
+  pub all : AreInOrder bytes tokens notes → pieces ≡ units_of bytes tokens notes
+  pub bounds : map unmarked pieces ≡ map unmarked (units_of bytes tokens notes)
+
 pub cuts_none : (bytes : List ℕ) (tokens : List Token) (notes : List ℕ) (pieces : List Piece) (left : List ℕ) (unit : Begun) (rest : List Token) (s : Cuts bytes tokens notes pieces left unit rest)
-    → length rest ≡ 0 → is_begin s.before ≡ true → pieces ≡ units_of bytes tokens notes
+    → length rest ≡ 0 → is_begin s.before ≡ true → AreCut bytes tokens notes pieces
 cuts_none bytes tokens notes pieces left unit rest s e begin =
-    sym (append-nil pieces) ∙ ap (λ ps. pieces ++ ps) (sym (none_left bytes notes rest s.before unit.from s.end e begin)) ∙ s.all_cut
+    let all : pieces ≡ pieces ++ units_behind bytes notes rest s.before unit.from s.end = sym (append-nil pieces) ∙ ap (λ ps. pieces ++ ps) (sym (none_left bytes notes rest s.before unit.from s.end e begin)) in
+    record { all = λ order. all ∙ s.all_cut order; bounds = ap (map unmarked) all ∙ s.all_bounds }
 
 pub cuts_last : (bytes : List ℕ) (tokens : List Token) (notes : List ℕ) (pieces : List Piece) (left : List ℕ) (unit : Begun) (rest : List Token) (p : Piece) (s : Cuts bytes tokens notes pieces left unit rest)
-    → length rest ≡ 0 → is_begin s.before ≡ false → ArePositions 0 notes → p.from ≡ unit.from → p.to ≡ unit.next → p.body ≡ unit.body → p.no_return ≡ is_first_before unit.last left
-    → pieces ++ p ∷ [] ≡ units_of bytes tokens notes
-cuts_last bytes tokens notes pieces left unit rest p s e begin a from to body marked =
-    ap (λ ps. pieces ++ ps) (sym (one_left bytes notes left unit rest s.before s.end p s.begun e begin s.left_from a from to body marked)) ∙ s.all_cut
+    → length rest ≡ 0 → is_begin s.before ≡ false → p.from ≡ unit.from → p.to ≡ unit.next → p.body ≡ unit.body → p.no_return ≡ is_first_before unit.last left
+    → AreCut bytes tokens notes (pieces ++ p ∷ [])
+cuts_last bytes tokens notes pieces left unit rest p s e begin from to body marked = record {
+  all = λ order. ap (λ ps. pieces ++ ps) (sym (one_left bytes notes left unit rest s.before s.end p s.begun e begin (s.left_from order) order.positions from to body marked)) ∙ s.all_cut order;
+  bounds = map-append unmarked pieces (p ∷ []) ∙ ap (λ ps. map unmarked pieces ++ ps) (sym (one_left_bounds bytes notes unit rest s.before s.end p s.begun e begin from to body))
+      ∙ sym (map-append unmarked pieces (units_behind bytes notes rest s.before unit.from s.end)) ∙ s.all_bounds;
+}
 
 -- ---- the units follow one another
 
@@ -168,5 +207,19 @@ units_joined bytes notes (t ∷ ts) before from end =
       | false ↦ joined_to from (from + suc (length before) + length ts) (from + length before + suc (length ts)) (units_behind bytes notes ts (t ∷ before) from end) (omega arith) (units_joined bytes notes ts (t ∷ before) from end)
     ]
 
-pub all_joined : (bytes : List ℕ) (tokens : List Token) (notes : List ℕ) → AreJoined 0 (length tokens) (units_of bytes tokens notes)
+all_joined : (bytes : List ℕ) (tokens : List Token) (notes : List ℕ) → AreJoined 0 (length tokens) (units_of bytes tokens notes)
 all_joined bytes tokens notes = joined_to 0 (0 + 0 + length tokens) (length tokens) (units_of bytes tokens notes) (omega arith) (units_joined bytes notes tokens [] 0 0)
+
+-- that pieces follow one another is said of their bounds
+joined_unmarked : (from to : ℕ) (ps : List Piece) → AreJoined from to ps → AreJoined from to (map unmarked ps)
+joined_unmarked from to [] j = j
+joined_unmarked from to (p ∷ ps) j = (j.0, j.1, j.2, joined_unmarked p.to to ps j.3)
+
+joined_marked : (from to : ℕ) (ps : List Piece) → AreJoined from to (map unmarked ps) → AreJoined from to ps
+joined_marked from to [] j = j
+joined_marked from to (p ∷ ps) j = (j.0, j.1, j.2, joined_marked p.to to ps j.3)
+
+pub cut_joined : (bytes : List ℕ) (tokens : List Token) (notes : List ℕ) (pieces : List Piece) → AreCut bytes tokens notes pieces → AreJoined 0 (length tokens) pieces
+cut_joined bytes tokens notes pieces cut =
+    let size = length tokens in
+    joined_marked 0 size pieces (subst (λ ps. AreJoined 0 size ps) (sym cut.bounds) (joined_unmarked 0 size (units_of bytes tokens notes) (all_joined bytes tokens notes)))

@@ -5,7 +5,9 @@ use Rattle.std.specs.Prelude.{◌≡◌, ℕ, ◌+◌, ◌<◌, ◌≤◌, Bool,
 use Rattle.std.specs.Option.{option_map}
 use Rattle.std.specs.List.{list_any}
 use Rattle.stk_lex.specs.declared.token.Token.{Token}
+use Rattle.stk_lex.specs.Cut.{AreSpans}
 use Rattle.stk_units.specs.declared.cutting.Piece.{Piece}
+use Rattle.stk_units.specs.Skimming.{ArePositions}
 use Rattle.stk_units.specs.Spelled.{opens, closes_parenthesis, opens_brace, closes_brace, is_semicolon, depth_behind}
 
 -- the depth behind the tokens of a unit, which begins at depth 0
@@ -73,6 +75,15 @@ units_behind bytes notes (t ∷ ts) before from end =
 -- the units of the tokens of a file, with the notes that skimming made
 abbrev pub units_of : List ℕ → List Token → List ℕ → List Piece
 units_of bytes tokens notes = units_behind bytes notes tokens [] 0 0
+
+-- a unit without its mark
+abbrev pub unmarked : Piece → Piece
+unmarked p = record p { no_return = false }
+
+-- tokens stand one behind the other, and notes don't go back
+pub record AreInOrder (bytes : List ℕ) (tokens : List Token) (notes : List ℕ) : Type 0 where
+  pub spans : AreSpans (length bytes) 0 tokens
+  pub positions : ArePositions 0 notes
 
 -- a unit's function body begins in it
 abbrev pub HasBody : Piece → Type 0

@@ -1,6 +1,7 @@
 // What is known of the tokens ahead of each token, found in one pass from the last token to the first.
 
 ghost use Rattle.std.specs.Prelude.{◌≡◌, ◌≤◌, ◌<◌, ◌+◌, ◌-◌, ◌^◌, length, ◌∷◌, drop, IfOk, List};
+ghost use Rattle.stk_base.specs.Limits.{most_bytes};
 ghost use Rattle.stk_lex.specs.declared.token.Token.{Token};
 ghost use Rattle.stk_units.specs.Skimming.{closing};
 ghost use Rattle.stk_lex.specs.Gaps.{one_more};
@@ -34,7 +35,7 @@ fn one_more_than_both(inner: u32, outer: u32) -> u32
 /// How many tokens stand up to where a bracket closes that is open before a token and those behind it, from the entries of
 /// those behind it; 0 where none does.
 fn closing_with(bytes: &[u8], token: Token, behind: &[Token], ends: &[u32]) -> u32
-    requires few { length behind.now ≤ 16777216 }
+    requires few { length behind.now ≤ most_bytes }
     requires ends { AreFound (closing bytes.now 1) behind.now ends.now }
     ensures { result ≡ closing bytes.now 1 (token ∷ behind.now) }
 {
@@ -51,7 +52,7 @@ fn closing_with(bytes: &[u8], token: Token, behind: &[Token], ends: &[u32]) -> u
 /// For each number of tokens that are left, from 0 up to all of them, how many of them stand up to where a bracket closes
 /// that is open before them, and with it; 0 where none does.
 pub fn closings(alloc: Global, bytes: &[u8], tokens: &[Token]) -> Result<Vec<u32>, NoMemory>
-    requires { length tokens.now ≤ 16777216 }
+    requires { length tokens.now ≤ most_bytes }
     ensures { IfOk result (λ ends. AreFound (closing bytes.now 1) tokens.now ends.items) }
 {
     let mut ends = Vec::with_capacity(alloc, tokens.len() + 1)?;
@@ -83,7 +84,7 @@ fn unchanged_with(bytes: &[u8], token: Token, last: u32) -> u32
 /// For each number of tokens that are left, from 0 up to all of them, how many of them stand before the first attribute
 /// that changes what is declared.
 pub fn changes(alloc: Global, bytes: &[u8], tokens: &[Token]) -> Result<Vec<u32>, NoMemory>
-    requires { length tokens.now ≤ 16777216 }
+    requires { length tokens.now ≤ most_bytes }
     ensures { IfOk result (λ changes. AreFound (unchanged bytes.now) tokens.now changes.items) }
 {
     let mut changes = Vec::with_capacity(alloc, tokens.len() + 1)?;

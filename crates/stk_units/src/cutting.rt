@@ -1,12 +1,11 @@
 // The units of a file.
 
-ghost use Rattle.std.specs.Prelude.{◌≡◌, ◌≤◌, ℕ, List, length, IfOk};
+ghost use Rattle.std.specs.Prelude.{◌≡◌, ◌≤◌, ℕ, List, length, map, IfOk};
+ghost use Rattle.stk_base.specs.Limits.{most_bytes};
 ghost use Rattle.stk_lex.specs.declared.token.Token.{Token};
-ghost use Rattle.stk_lex.specs.Cut.{AreSpans};
 ghost use Rattle.stk_units.specs.declared.cutting.Piece.{Piece};
-ghost use Rattle.stk_units.specs.Skimming.{ArePositions};
 ghost use Rattle.stk_units.specs.Begun.{is_first_before};
-ghost use Rattle.stk_units.specs.Units.{units_of, AreJoined, AreUnits};
+ghost use Rattle.stk_units.specs.Units.{units_of, unmarked, AreInOrder, AreJoined, AreUnits};
 
 use crate::begun::Begun;
 use crate::notes::{is_first_before, notes_from};
@@ -45,15 +44,18 @@ fn whole_piece(unit: Begun, notes: &[u32]) -> Piece
 /// A unit ends with a `;` outside of brackets, and with a `}` that ends a `{` which stands outside of brackets and
 /// follows a `)`, or begins the unit. What is left over is a last unit. The body is the last bracket outside of brackets,
 /// where that is a `{` that follows a `)`. A unit is marked as not returning where a note lies between the last token of
-/// the unit before and its own last token.
+/// the unit before and its own last token. Where tokens or notes go back, the units are the same, but nothing is said of
+/// the marks.
 ///
 /// It answers `NoMemory` where an allocation is refused, and for no other cause.
 pub fn cut(alloc: Global, bytes: &[u8], skimmed: &Skimmed) -> Result<Vec<Piece>, NoMemory>
-    requires few { length skimmed.now.tokens ≤ 16777216 }
-    requires spans { AreSpans (length bytes.now) 0 skimmed.now.tokens }
-    requires positions { ArePositions 0 skimmed.now.notes }
-    ensures units { IfOk result (λ pieces. pieces.items ≡ units_of bytes.now skimmed.now.tokens skimmed.now.notes) }
+    requires { length skimmed.now.tokens ≤ most_bytes }
+    ensures bounds { IfOk result (λ pieces. map unmarked pieces.items ≡ map unmarked (units_of bytes.now skimmed.now.tokens skimmed.now.notes)) }
     ensures joined { IfOk result (λ pieces. AreJoined 0 (length skimmed.now.tokens) pieces.items) }
+
+    // Of tokens that stand one behind the other, and notes that don't go back.
+    ensures units { AreInOrder bytes.now skimmed.now.tokens skimmed.now.notes
+        → IfOk result (λ pieces. pieces.items ≡ units_of bytes.now skimmed.now.tokens skimmed.now.notes) }
 {
     let mut pieces = Vec::new(alloc);
     let mut notes = skimmed.notes.as_slice();

@@ -2,6 +2,7 @@
 
 ghost use Rattle.std.specs.Prelude.{◌≡◌, ◌≤◌, ◌<◌, ◌+◌, ◌^◌, ◌++◌, length, ◌∷◌, take, OnOk};
 ghost use Rattle.std.specs.List.{list_any};
+ghost use Rattle.stk_base.specs.Limits.{most_bytes};
 ghost use Rattle.stk_units.specs.Spelled.{is_changing_word, is_no_return_word};
 ghost use Rattle.stk_units.specs.Skimming.{closing, group, drops_group, dropped, says_no_return, note_of};
 ghost use Rattle.stk_units.specs.Ahead.{AreFound, unchanged};
@@ -17,7 +18,7 @@ use stk_lex::Token;
 /// The same as `group`, of a token and those behind it.
 #[tactic(auto, unfolding(crate::specs::Skimming::group))]
 fn group_from(bytes: &[u8], token: Token, behind: &[Token], ends: &[u32]) -> u32
-    requires few { length behind.now ≤ 16777216 }
+    requires few { length behind.now ≤ most_bytes }
     requires ends { AreFound (closing bytes.now 1) behind.now ends.now }
     ensures { result ≡ group bytes.now (token ∷ behind.now) }
 {
@@ -31,7 +32,7 @@ fn group_from(bytes: &[u8], token: Token, behind: &[Token], ends: &[u32]) -> u32
 /// How many tokens the group has that a `(` begins at the front; 0 where none does, or it doesn't end.
 #[tactic(auto, unfolding(crate::specs::Skimming::group), using(crate::proofs::Found::found_behind))]
 fn group(bytes: &[u8], tokens: &[Token], ends: &[u32]) -> u32
-    requires few { length tokens.now ≤ 16777216 }
+    requires few { length tokens.now ≤ most_bytes }
     requires ends { AreFound (closing bytes.now 1) tokens.now ends.now }
     ensures { result ≡ group bytes.now tokens.now }
 {
@@ -43,7 +44,7 @@ fn group(bytes: &[u8], tokens: &[Token], ends: &[u32]) -> u32
 
 /// Whether the group at the front holds an attribute that changes what is declared.
 fn is_changed(bytes: &[u8], tokens: &[Token], ends: &[u32], changes: &[u32]) -> bool
-    requires few { length tokens.now ≤ 16777216 }
+    requires few { length tokens.now ≤ most_bytes }
     requires ends { AreFound (closing bytes.now 1) tokens.now ends.now }
     requires changes { AreFound (unchanged bytes.now) tokens.now changes.now }
     ensures { result ≡ list_any (is_changing_word bytes.now) (take (group bytes.now tokens.now) tokens.now) }
@@ -60,7 +61,7 @@ fn drops_group(
     ends: &[u32],
     changes: &[u32],
 ) -> bool
-    requires few { length behind.now ≤ 16777216 }
+    requires few { length behind.now ≤ most_bytes }
     requires ends { AreFound (closing bytes.now 1) behind.now ends.now }
     requires changes { AreFound (unchanged bytes.now) behind.now changes.now }
     ensures { result ≡ drops_group bytes.now depth token behind.now }
@@ -79,7 +80,7 @@ pub fn dropped(
     ends: &[u32],
     changes: &[u32],
 ) -> u32
-    requires few { length behind.now ≤ 16777216 }
+    requires few { length behind.now ≤ most_bytes }
     requires ends { AreFound (closing bytes.now 1) behind.now ends.now }
     requires changes { AreFound (unchanged bytes.now) behind.now changes.now }
     ensures { result ≡ dropped bytes.now depth (token ∷ behind.now) }

@@ -1,6 +1,7 @@
 // Skimming: words and groups that don't matter are dropped.
 
 ghost use Rattle.std.specs.Prelude.{◌≡◌, ◌≤◌, length, IfOk};
+ghost use Rattle.stk_base.specs.Limits.{most_bytes};
 ghost use Rattle.stk_lex.specs.Cut.{AreSpans};
 ghost use Rattle.stk_units.specs.Skimming.{kept_tokens, notes_of, ArePositions};
 
@@ -29,15 +30,14 @@ pub struct Skimmed {
 ///
 /// It answers `NoMemory` where an allocation is refused, and for no other cause.
 pub fn skim(alloc: Global, bytes: &[u8], tokens: &[Token]) -> Result<Skimmed, NoMemory>
-    requires few { length tokens.now ≤ 16777216 }
-    requires spans { AreSpans (length bytes.now) 0 tokens.now }
+    requires { length tokens.now ≤ most_bytes }
     ensures tokens { IfOk result (λ skimmed. skimmed.tokens ≡ kept_tokens bytes.now tokens.now) }
     ensures notes { IfOk result (λ skimmed. skimmed.notes ≡ notes_of bytes.now tokens.now) }
-
-    // What `cut` asks.
     ensures few { IfOk result (λ skimmed. length skimmed.tokens ≤ length tokens.now) }
-    ensures spans { IfOk result (λ skimmed. AreSpans (length bytes.now) 0 skimmed.tokens) }
-    ensures positions { IfOk result (λ skimmed. ArePositions 0 skimmed.notes) }
+
+    // Of tokens that stand one behind the other.
+    ensures spans { AreSpans (length bytes.now) 0 tokens.now → IfOk result (λ skimmed. AreSpans (length bytes.now) 0 skimmed.tokens) }
+    ensures positions { AreSpans (length bytes.now) 0 tokens.now → IfOk result (λ skimmed. ArePositions 0 skimmed.notes) }
 {
     let ends = closings(alloc, bytes, tokens)?;
     let changes = changes(alloc, bytes, tokens)?;

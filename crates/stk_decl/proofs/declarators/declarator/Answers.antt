@@ -1,7 +1,7 @@
 use Rattle.std.proofs.Common.{◌-◌, sym, ◌∙◌}
 use Rattle.std.proofs.lemmas.Result.{err_from_is_err_and}
 use Rattle.stk_tree.specs.View.{view_tail}
-use Rattle.stk_expr.specs.Gives.{named}
+use Rattle.stk_ctype.specs.Names.{named}
 use Rattle.stk_decl.specs.Given.{given_initialiser}
 use Rattle.stk_decl.proofs.Steps.{Fails_along, behind_name, declarator_high, declarator_low, initial_fails, tail_fails}
 use Rattle.stk_decl.proofs.declarators.declarator.Goals as goal
@@ -26,11 +26,11 @@ returns-then-found-stars c =
     let words = named c.args.bytes.now c.args.names.now in
     let n = c.in_ok-found in
     let behind = behind_name words c.args.room c.args.file c.args.lexemes.now c.stars_at-stars.result.0 c.stars_at-stars.result.1.now c.in-Some.name c.in-Some.rest.now c.if-room-eq0.false c.stars_at-stars.ensures.value c.in-Some.ensures in
-    behind ∙ declarator_high words (c.args.room - 1) c.args.file c.stars_at-stars.result.0 c.in-Some.name c.in-Some.rest.now (view_tail n.found.tail) n.found.rest.now (given_initialiser c.in_ok-init.init) c.in_ok-init.rest.now n.found.height n.ensures.value c.in_ok-init.ensures.value n.ensures.height.0 c.if-found-stars.true
+    behind ∙ declarator_high words (c.args.room - 1) c.args.file c.stars_at-stars.result.0 c.in-Some.name c.in-Some.rest.now (view_tail n.found.tail) n.found.rest.now (given_initialiser c.in_ok-init.init) c.in_ok-init.rest.now n.found.nesting n.ensures.value c.in_ok-init.ensures.value n.ensures.nesting.0 c.if-found-stars.true
 
 pub returns : goal.returns
 returns c =
     let words = named c.args.bytes.now c.args.names.now in
     let n = c.in_ok-found in
     let behind = behind_name words c.args.room c.args.file c.args.lexemes.now c.stars_at-stars.result.0 c.stars_at-stars.result.1.now c.in-Some.name c.in-Some.rest.now c.if-room-eq0.false c.stars_at-stars.ensures.value c.in-Some.ensures in
-    rw c.declarator-declr.ensures (behind ∙ declarator_low words (c.args.room - 1) c.args.file c.stars_at-stars.result.0 c.in-Some.name c.in-Some.rest.now (view_tail n.found.tail) n.found.rest.now (given_initialiser c.in_ok-init.init) c.in_ok-init.rest.now n.found.height n.ensures.value c.in_ok-init.ensures.value n.ensures.height.0 c.if-found-stars.false c.in_ok-init.ensures.low)
+    rw c.declarator-declr.ensures (behind ∙ declarator_low words (c.args.room - 1) c.args.file c.stars_at-stars.result.0 c.in-Some.name c.in-Some.rest.now (view_tail n.found.tail) n.found.rest.now (given_initialiser c.in_ok-init.init) c.in_ok-init.rest.now n.found.nesting n.ensures.value c.in_ok-init.ensures.value n.ensures.nesting.0 c.if-found-stars.false c.in_ok-init.ensures.low)

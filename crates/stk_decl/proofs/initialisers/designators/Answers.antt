@@ -3,9 +3,9 @@ use Rattle.std.proofs.lemmas.Result.{err_from_is_err_and}
 use Rattle.stk_tree.specs.View.{view_designator}
 use Rattle.stk_tree.specs.Syntax as s
 use Rattle.stk_decl_grammar.specs.Reading.{designator_at, designators_at}
-use Rattle.stk_expr.specs.Gives.{named}
+use Rattle.stk_ctype.specs.Names.{named}
 use Rattle.stk_expr.proofs.Rows.{map_push, pushed_size}
-use Rattle.stk_decl.proofs.Rows.{designator_end, designator_more, designators_height-items, designators_row, none_begins, row_ends, row_fails, row_more, row_spent}
+use Rattle.stk_decl.proofs.Rows.{designator_end, designator_more, designators_nesting-items, designators_row, none_begins, row_ends, row_fails, row_more, row_spent}
 use Rattle.stk_decl.proofs.initialisers.designators.Goals as goal
 
 pub loop-turn-init : goal.loop-turn-init
@@ -14,7 +14,7 @@ loop-turn-init c =
     rw c.new-list.ensures.items (record {
       same = none_begins s.then_designator row c.args.lexemes.now;
       count = refl;
-      height = refl;
+      nesting = refl;
     })
 
 pub returns-then-not-begins_designator-clause-value : goal.returns-then-not-begins_designator-clause-value
@@ -22,8 +22,8 @@ returns-then-not-begins_designator-clause-value c =
     let i = c.loop-turn.invariant in
     rw c.from_vec.ensures (row_ends _ _ _ _ _ (designators_row (designator_at (named c.args.bytes.now c.args.names.now) c.args.room)) (length c.args.lexemes.now + 1) c.loop-turn.turn (map view_designator c.loop-turn.list.items) c.loop-turn.rest.now _ _ (designators_at (designator_at (named c.args.bytes.now c.args.names.now) c.args.room) (suc (length c.args.lexemes.now)) c.args.lexemes.now) c.loop-turn-test.true (designator_end c.loop-turn.rest.now (sym c.begins_designator.ensures ∙ c.if-not-begins_designator.true)) i.same)
 
-pub returns-then-not-begins_designator-clause-height : goal.returns-then-not-begins_designator-clause-height
-returns-then-not-begins_designator-clause-height c = rw c.from_vec.ensures c.loop-turn.invariant.height
+pub returns-then-not-begins_designator-clause-nesting : goal.returns-then-not-begins_designator-clause-nesting
+returns-then-not-begins_designator-clause-nesting c = rw c.from_vec.ensures c.loop-turn.invariant.nesting
 
 pub returns-in_err-found-clause-value : goal.returns-in_err-found-clause-value
 returns-in_err-found-clause-value c =
@@ -38,11 +38,11 @@ loop-turn-preserved c =
     let k = row_more _ _ _ _ _ (designators_row (designator_at (named c.args.bytes.now c.args.names.now) c.args.room)) (length c.args.lexemes.now + 1) c.loop-turn.turn (map view_designator c.loop-turn.list.items) c.loop-turn.rest.now c.loop-turn.rest.now n.found.rest.now (view_designator n.found.part) (designators_at (designator_at (named c.args.bytes.now c.args.names.now) c.args.room) (suc (length c.args.lexemes.now)) c.args.lexemes.now) c.loop-turn-test.true (designator_more c.loop-turn.rest.now (sym c.begins_designator.ensures ∙ c.if-not-begins_designator.false)) n.ensures.value i.same in
     let e = map_push view_designator c.loop-turn.list.items c.push.new.self.items n.found.part n.found.part c.in_ok-push.ensures.items refl in
     let size = pushed_size c.loop-turn.list.items c.push.new.self.items n.found.part c.in_ok-push.ensures.items in
-    let high = designators_height-items view_designator c.loop-turn.list.items (view_designator n.found.part) in
+    let high = designators_nesting-items view_designator c.loop-turn.list.items (view_designator n.found.part) in
     record {
       same = rw e k;
       count = omega (arith, i.count, size);
-      height = rw e (omega (arith, i.height, i.count, n.ensures.height.0, high, c.higher-height.ensures));
+      nesting = rw e (omega (arith, i.nesting, i.count, n.ensures.nesting.0, high, c.higher-nesting.ensures));
     }
 
 pub returns-clause-value : goal.returns-clause-value

@@ -3,23 +3,23 @@ use Rattle.std.proofs.lemmas.Result.{err_from_is_err_and}
 use Rattle.std.proofs.lemmas.List.{length-map}
 use Rattle.stk_tree.specs.Layout.{laid_declaration, unnumbered_at}
 use Rattle.stk_tree.specs.View.{view_declaration}
-use Rattle.stk_layout.proofs.Few.{declaration_tokens-few}
+use Rattle.stk_tree_layout.proofs.Few.{declaration_tokens-few}
 use Rattle.stk_lexeme.specs.Lexemes.{lexeme_of, lexemes_of, spans_of}
 use Rattle.stk_decl_grammar.specs.Declarations.{IsFront}
 use Rattle.stk_expr.specs.declared.parse.Parse.TheVariants as parse
-use Rattle.stk_expr.specs.Gives.{named}
-use Rattle.stk_decl.proofs.Placing.{laid_bare, laid_front_is, front_width_of}
+use Rattle.stk_ctype.specs.Names.{named}
+use Rattle.stk_decl.proofs.Placing.{laid_unlaid, laid_front_is, front_width_of}
 use Rattle.stk_decl.proofs.reading.front.Goals as goal
 
-pub place_declaration-requires-clause-numbers : goal.place_declaration-requires-clause-numbers
-place_declaration-requires-clause-numbers c =
+pub span_declaration-requires-clause-numbers : goal.span_declaration-requires-clause-numbers
+span_declaration-requires-clause-numbers c =
     let t = view_declaration c.in_ok-tree.tree in
     let found : IsFront (named c.args.bytes.now c.args.names.now) (lexemes_of c.args.bytes.now c.args.tokens.now) c.args.at c.in_ok-tree.end t = rw (sym c.in_ok-lexemes.ensures, sym c.as_slice.ensures.value) c.in_ok-tree.ensures.found in
     let wide = front_width_of (named c.args.bytes.now c.args.names.now) (lexemes_of c.args.bytes.now c.args.tokens.now) c.args.at c.in_ok-tree.end t found in
     omega (arith, declaration_tokens-few t, wide, length-map c.args.tokens.now (lexeme_of c.args.bytes.now), c.requires.few)
 
-pub place_declaration-requires-clause-tokens : goal.place_declaration-requires-clause-tokens
-place_declaration-requires-clause-tokens c =
+pub span_declaration-requires-clause-tokens : goal.span_declaration-requires-clause-tokens
+span_declaration-requires-clause-tokens c =
     let t = view_declaration c.in_ok-tree.tree in
     let found : IsFront (named c.args.bytes.now c.args.names.now) (lexemes_of c.args.bytes.now c.args.tokens.now) c.args.at c.in_ok-tree.end t = rw (sym c.in_ok-lexemes.ensures, sym c.as_slice.ensures.value) c.in_ok-tree.ensures.found in
     let wide = front_width_of (named c.args.bytes.now c.args.names.now) (lexemes_of c.args.bytes.now c.args.tokens.now) c.args.at c.in_ok-tree.end t found in
@@ -29,14 +29,14 @@ pub returns-clause-found : goal.returns-clause-found
 returns-clause-found c =
     let t = view_declaration c.in_ok-tree.tree in
     let found : IsFront (named c.args.bytes.now c.args.names.now) (lexemes_of c.args.bytes.now c.args.tokens.now) c.args.at c.in_ok-tree.end t = rw (sym c.in_ok-lexemes.ensures, sym c.as_slice.ensures.value) c.in_ok-tree.ensures.found in
-    rw c.place_declaration.ensures (laid_front_is (unnumbered_at c.as_slice-2.result.now) (named c.args.bytes.now c.args.names.now) (lexemes_of c.args.bytes.now c.args.tokens.now) c.args.at c.in_ok-tree.end t 0 c.args.at found)
+    rw c.span_declaration.ensures (laid_front_is (unnumbered_at c.as_slice-2.result.now) (named c.args.bytes.now c.args.names.now) (lexemes_of c.args.bytes.now c.args.tokens.now) c.args.at c.in_ok-tree.end t 0 c.args.at found)
 
 pub returns-clause-places : goal.returns-clause-places
 returns-clause-places c =
     let t = view_declaration c.in_ok-tree.tree in
-    let u = view_declaration c.place_declaration.new.x in
-    let e : u ≡ laid_declaration (unnumbered_at (spans_of c.args.tokens.now)) 0 c.args.at t = rw (sym c.in_ok-spans.ensures, sym c.as_slice-2.ensures.value) c.place_declaration.ensures in
-    laid_bare (unnumbered_at (spans_of c.args.tokens.now)) t u 0 c.args.at c.in_ok-tree.ensures.bare e
+    let u = view_declaration c.span_declaration.new.x in
+    let e : u ≡ laid_declaration (unnumbered_at (spans_of c.args.tokens.now)) 0 c.args.at t = rw (sym c.in_ok-spans.ensures, sym c.as_slice-2.ensures.value) c.span_declaration.ensures in
+    laid_unlaid (unnumbered_at (spans_of c.args.tokens.now)) t u 0 c.args.at c.in_ok-tree.ensures.unlaid e
 
 pub returns-in_err-tree-clause-none : goal.returns-in_err-tree-clause-none
 returns-in_err-tree-clause-none c =

@@ -3,8 +3,8 @@ use Rattle.std.proofs.lemmas.Result.{err_from_is_err_and}
 use Rattle.stk_tree.specs.View.{view_declaration}
 use Rattle.stk_decl_grammar.specs.Declarations.{front_tokens}
 use Rattle.stk_decl_grammar.proofs.Declarations.{front_sound}
-use Rattle.stk_decl_grammar.proofs.Laws.{front_found_bare, front_of_found, no_front_of_none}
-use Rattle.stk_expr.specs.Gives.{named}
+use Rattle.stk_decl_grammar.proofs.Laws.{front_found_unlaid, front_of_found, no_front_of_none}
+use Rattle.stk_ctype.specs.Names.{named}
 use Rattle.stk_expr.proofs.Rows.{none_of_fails}
 use Rattle.stk_decl.proofs.Leading.{rest_within}
 use Rattle.stk_decl.proofs.reading.front_at.Goals as goal
@@ -26,7 +26,7 @@ returns-clause-found c =
     let n = c.in_ok-tree in
     front_of_found (named c.args.bytes.now c.args.names.now) c.args.lexemes.now c.args.at (view_declaration n.tree) n.rest.now c.requires (rw c.split_at.ensures.back at n.ensures)
 
-pub returns-clause-bare : goal.returns-clause-bare
-returns-clause-bare c =
+pub returns-clause-unlaid : goal.returns-clause-unlaid
+returns-clause-unlaid c =
     let n = c.in_ok-tree in
-    front_found_bare (named c.args.bytes.now c.args.names.now) 400 _ (view_declaration n.tree) n.rest.now n.ensures
+    front_found_unlaid (named c.args.bytes.now c.args.names.now) 400 _ (view_declaration n.tree) n.rest.now n.ensures

@@ -3,7 +3,7 @@ use Rattle.std.proofs.lemmas.Result.{err_from_is_err_and}
 use Rattle.stk_tree.specs.View.{view_declaration}
 use Rattle.stk_decl_grammar.proofs.Declarations.{front_sound}
 use Rattle.stk_decl_grammar.proofs.Laws.{no_front_read}
-use Rattle.stk_expr.specs.Gives.{named}
+use Rattle.stk_ctype.specs.Names.{named}
 use Rattle.stk_expr.proofs.Rows.{none_of_fails}
 use Rattle.stk_decl.proofs.reading.front_within.Goals as goal
 
@@ -18,7 +18,7 @@ returns-clause-found c =
     let n = c.in_ok-tree in
     (front_sound (named c.args.bytes.now c.args.names.now) c.args.room c.args.lexemes.now (view_declaration n.tree) n.rest.now n.ensures).0
 
-pub returns-clause-bare : goal.returns-clause-bare
-returns-clause-bare c =
+pub returns-clause-unlaid : goal.returns-clause-unlaid
+returns-clause-unlaid c =
     let n = c.in_ok-tree in
     (front_sound (named c.args.bytes.now c.args.names.now) c.args.room c.args.lexemes.now (view_declaration n.tree) n.rest.now n.ensures).1

@@ -1,10 +1,11 @@
 use Rattle.std.proofs.Common.{◌≡◌, ◌+◌, ◌*◌, ◌<◌, ◌≤◌, ℕ, suc, ◌-◌, length, map}
-use Rattle.stk_tree.specs.Height.{dimensions_height}
+use Rattle.stk_tree.specs.Nesting.{dimensions_nesting}
 use Rattle.stk_tree.specs.Syntax as s
 use Rattle.stk_tree.specs.View.{dimensions, expressions, view_dimension, view_expression}
 use Rattle.stk_grammar.specs.Reading.{arguments, climb, dimensions_at, expression_at, more_arguments}
 use Rattle.stk_expr.specs.Fronts.{in_front}
-use Rattle.stk_expr.specs.Gives.{AreRead, IsRead, named}
+use Rattle.stk_ctype.specs.Names.{named}
+use Rattle.stk_expr.specs.Gives.{AreRead, IsRead}
 use Rattle.stk_expr.proofs.reader.+reader.Given as goal
 
 abbrev pub decreases-expression : goal.decreases-expression
@@ -63,19 +64,19 @@ decreases-arguments l = 16 * l.inner + 4
 
 abbrev pub invariant-climb-loop-suffix : goal.invariant-climb-loop-suffix
 invariant-climb-loop-suffix l = record {
-  same : (f : ℕ) × (suc l.inner < f + l.left.height) × (climb (expression_at (named l.bytes l.names) l.inner) l.inner l.least f (view_expression l.left.tree) l.left.rest.now ≡ climb (expression_at (named l.bytes l.names) l.inner) l.inner l.least (suc (suc l.inner)) (view_expression l.fn.found.tree) l.fn.found.rest.now);
-  height : IsRead (l.inner + 1) (view_expression l.left.tree) l.left.height l.left.level;
+  same : (f : ℕ) × (suc l.inner < f + l.left.nesting) × (climb (expression_at (named l.bytes l.names) l.inner) l.inner l.least f (view_expression l.left.tree) l.left.rest.now ≡ climb (expression_at (named l.bytes l.names) l.inner) l.inner l.least (suc (suc l.inner)) (view_expression l.fn.found.tree) l.fn.found.rest.now);
+  nesting : IsRead (l.inner + 1) (view_expression l.left.tree) l.left.nesting l.left.level;
 }
 
 abbrev pub decreases-climb-loop-suffix : goal.decreases-climb-loop-suffix
-decreases-climb-loop-suffix l = suc (suc l.inner) - l.left.height
+decreases-climb-loop-suffix l = suc (suc l.inner) - l.left.nesting
 
 abbrev pub invariant-array_parts-loop-inside : goal.invariant-array_parts-loop-inside
 invariant-array_parts-loop-inside l = record {
   same : (f : ℕ) × (length l.rest < f) × (in_front s.then_dimension (map view_dimension l.list.items) (dimensions_at (expression_at (named l.bytes l.names) l.inner) f l.rest) ≡ dimensions_at (expression_at (named l.bytes l.names) l.inner) (suc (length l.fn.lexemes)) l.fn.lexemes);
-  height : l.height ≡ dimensions_height (dimensions (map view_dimension l.list.items));
+  nesting : l.nesting ≡ dimensions_nesting (dimensions (map view_dimension l.list.items));
   few : length l.list.items + length l.rest ≤ length l.fn.lexemes;
-  low : l.height ≤ l.inner + length l.list.items;
+  low : l.nesting ≤ l.inner + length l.list.items;
 }
 
 abbrev pub decreases-array_parts-loop-inside : goal.decreases-array_parts-loop-inside
@@ -84,7 +85,7 @@ decreases-array_parts-loop-inside l = length l.rest
 abbrev pub invariant-arguments-loop-behind : goal.invariant-arguments-loop-behind
 invariant-arguments-loop-behind l = record {
   same : (f : ℕ) × (length l.rest < f) × (in_front s.then_expression (map view_expression l.list.items) (more_arguments (expression_at (named l.bytes l.names) l.inner) f l.rest) ≡ arguments (expression_at (named l.bytes l.names) l.inner) l.fn.lexemes);
-  height : AreRead l.inner (expressions (map view_expression l.list.items)) l.height;
+  nesting : AreRead l.inner (expressions (map view_expression l.list.items)) l.nesting;
 }
 
 abbrev pub decreases-arguments-loop-behind : goal.decreases-arguments-loop-behind

@@ -2,7 +2,7 @@ use Rattle.std.proofs.Common.{sym, ◌∙◌}
 use Rattle.std.proofs.lemmas.Result.{err_from_is_err_and}
 use Rattle.stk_tree.specs.View.{view_expression}
 use Rattle.stk_grammar.proofs.Stopped.{nothing_leads, stopped_by_more, stopped_some, stopped_sound, stopped_without}
-use Rattle.stk_expr.specs.Gives.{named}
+use Rattle.stk_ctype.specs.Names.{named}
 use Rattle.stk_expr.proofs.Rows.{none_of_fails}
 use Rattle.stk_expr.proofs.reading.expression.Goals as goal
 
@@ -19,8 +19,8 @@ returns-then-stops-clause-found c =
     let e = stopped_some (named c.args.bytes.now c.args.names.now) c.args.room c.args.level c.args.lexemes.now (view_expression n.found.tree) n.found.rest.now n.ensures.value (sym c.stops.ensures ∙ c.if-stops.true) in
     (stopped_sound (named c.args.bytes.now c.args.names.now) c.args.room c.args.level c.args.lexemes.now (view_expression n.found.tree) n.found.rest.now c.requires.level.1 e).0
 
-pub returns-then-stops-clause-bare : goal.returns-then-stops-clause-bare
-returns-then-stops-clause-bare c =
+pub returns-then-stops-clause-unlaid : goal.returns-then-stops-clause-unlaid
+returns-then-stops-clause-unlaid c =
     let n = c.in_ok-found in
     let e = stopped_some (named c.args.bytes.now c.args.names.now) c.args.room c.args.level c.args.lexemes.now (view_expression n.found.tree) n.found.rest.now n.ensures.value (sym c.stops.ensures ∙ c.if-stops.true) in
     (stopped_sound (named c.args.bytes.now c.args.names.now) c.args.room c.args.level c.args.lexemes.now (view_expression n.found.tree) n.found.rest.now c.requires.level.1 e).1

@@ -2,8 +2,8 @@ use Rattle.std.proofs.Common.{drop, sym, ◌∙◌, arith}
 use Rattle.std.proofs.lemmas.Result.{err_from_is_err_and}
 use Rattle.std.proofs.lemmas.List.{length-drop}
 use Rattle.stk_tree.specs.View.{view_expression}
-use Rattle.stk_grammar.proofs.Laws.{Ends-stops, expression_of_found, found_bare, none_of_more, none_of_none}
-use Rattle.stk_expr.specs.Gives.{named}
+use Rattle.stk_grammar.proofs.Laws.{Ends-stops, expression_of_found, found_unlaid, none_of_more, none_of_none}
+use Rattle.stk_ctype.specs.Names.{named}
 use Rattle.stk_expr.proofs.Rows.{none_of_fails, rest_within}
 use Rattle.stk_expr.proofs.reading.expression_at.Goals as goal
 
@@ -23,10 +23,10 @@ returns-then-stops-clause-found c =
     let n = c.in_ok-found in
     rw c.into_inner.ensures (expression_of_found (named c.args.bytes.now c.args.names.now) c.args.level c.args.lexemes.now c.args.at (view_expression n.found.tree) n.found.rest.now c.requires.within c.requires.level.1 (rw c.split_at.ensures.back at n.ensures.value) (sym c.stops.ensures ∙ c.if-stops.true))
 
-pub returns-then-stops-clause-bare : goal.returns-then-stops-clause-bare
-returns-then-stops-clause-bare c =
+pub returns-then-stops-clause-unlaid : goal.returns-then-stops-clause-unlaid
+returns-then-stops-clause-unlaid c =
     let n = c.in_ok-found in
-    rw c.into_inner.ensures (found_bare (named c.args.bytes.now c.args.names.now) 400 c.args.level _ (view_expression n.found.tree) n.found.rest.now c.requires.level.1 n.ensures.value (Ends-stops c.args.level n.found.rest.now (sym c.stops.ensures ∙ c.if-stops.true)))
+    rw c.into_inner.ensures (found_unlaid (named c.args.bytes.now c.args.names.now) 400 c.args.level _ (view_expression n.found.tree) n.found.rest.now c.requires.level.1 n.ensures.value (Ends-stops c.args.level n.found.rest.now (sym c.stops.ensures ∙ c.if-stops.true)))
 
 pub returns-else-stops-clause-none : goal.returns-else-stops-clause-none
 returns-else-stops-clause-none c =

@@ -1,16 +1,16 @@
-use Rattle.stk_lint.specs.Lint.{TookFront}
+use Rattle.stk_lint.specs.Lint.{TookPrefix}
 use Rattle.stk_lint.proofs.Going.{on_err, text_taken, units_stop, summary_stops}
 use Rattle.stk_lint.proofs.lint.write_text.Goals as goal
 
-pub returns-in_err-counts-clause-front : goal.returns-in_err-counts-clause-front
-returns-in_err-counts-clause-front g c =
-    on_err c.from_residual.result (TookFront c.args.input.now (g.K.Sink.taken c.args.out.now) (g.K.Sink.taken c.write_units.new.out))
-    (units_stop c.args.input.now c.args.units.now.tokens c.args.units.now.pieces.items c.requires.are (g.K.Sink.taken c.args.out.now) (g.K.Sink.taken c.write_units.new.out) (rw (c.as_slice.ensures, c.as_slice-2.ensures.value) at c.in_err-counts.ensures.front))
+pub returns-in_err-counts-clause-prefix : goal.returns-in_err-counts-clause-prefix
+returns-in_err-counts-clause-prefix g c =
+    on_err c.from_residual.result (TookPrefix c.args.input.now (g.K.Sink.taken c.args.out.now) (g.K.Sink.taken c.write_units.new.out))
+    (units_stop c.args.input.now c.args.units.now.tokens c.args.units.now.pieces.items c.requires.are (g.K.Sink.taken c.args.out.now) (g.K.Sink.taken c.write_units.new.out) (rw (c.as_slice.ensures, c.as_slice-2.ensures.value) at c.in_err-counts.ensures.prefix))
 
-pub returns-in_err-finish-clause-front : goal.returns-in_err-finish-clause-front
-returns-in_err-finish-clause-front g c =
-    on_err c.from_residual-in_err-finish.result (TookFront c.args.input.now (g.K.Sink.taken c.args.out.now) (g.K.Sink.taken c.finish.new.out))
-    (summary_stops c.args.input.now c.args.units.now.tokens c.args.units.now.pieces.items c.requires.are (g.K.Sink.taken c.args.out.now) (g.K.Sink.taken c.write_units.new.out) (g.K.Sink.taken c.finish.new.out) c.in_ok-counts.counts (rw (c.as_slice.ensures, c.as_slice-2.ensures.value) at c.in_ok-counts.ensures.written) c.in_err-finish.ensures.front)
+pub returns-in_err-finish-clause-prefix : goal.returns-in_err-finish-clause-prefix
+returns-in_err-finish-clause-prefix g c =
+    on_err c.from_residual-in_err-finish.result (TookPrefix c.args.input.now (g.K.Sink.taken c.args.out.now) (g.K.Sink.taken c.finish.new.out))
+    (summary_stops c.args.input.now c.args.units.now.tokens c.args.units.now.pieces.items c.requires.are (g.K.Sink.taken c.args.out.now) (g.K.Sink.taken c.write_units.new.out) (g.K.Sink.taken c.finish.new.out) c.in_ok-counts.counts (rw (c.as_slice.ensures, c.as_slice-2.ensures.value) at c.in_ok-counts.ensures.written) c.in_err-finish.ensures.prefix)
 
 pub returns-clause-text : goal.returns-clause-text
 returns-clause-text g c =

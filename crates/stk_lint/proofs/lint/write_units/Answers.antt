@@ -1,5 +1,5 @@
 use Rattle.std.proofs.Common.{None, false, get_or, arith}
-use Rattle.stk_lint.specs.Judged.{WroteUnitsFront}
+use Rattle.stk_lint.specs.Judged.{WroteUnitsPrefix}
 use Rattle.stk_lint.proofs.Units.{piece_some}
 use Rattle.stk_lint.proofs.Going.{on_err, next_unit, unit_few, so_far_few, one_more_unit, stops_in_unit, all_units}
 use Rattle.stk_lint.proofs.lint.write_units.Goals as goal
@@ -14,10 +14,10 @@ write_unit-requires-clause-some g c =
     let n = next_unit c.args.input.now c.args.tokens.now c.args.pieces.now (g.K.Sink.taken c.args.out.now) c.loop-piece.piece-index _ (g.K.Sink.taken c.loop-piece.out) c.loop-piece.counts c.loop-piece-test.true c.loop-piece.invariant.so_far in
     rw c.tokens_of-unit.ensures (piece_some c.args.tokens.now (get_or c.args.pieces.now c.loop-piece.piece-index (record { from = 0; to = 0; body = None; no_return = false })) n.some n.within)
 
-pub returns-in_err-counted-clause-front : goal.returns-in_err-counted-clause-front
-returns-in_err-counted-clause-front g c =
-    on_err c.from_residual.result (WroteUnitsFront c.args.input.now c.args.tokens.now c.args.pieces.now (g.K.Sink.taken c.args.out.now) (g.K.Sink.taken c.write_unit.new.out))
-    (stops_in_unit c.args.input.now c.args.tokens.now c.args.pieces.now (g.K.Sink.taken c.args.out.now) c.loop-piece.piece-index _ (g.K.Sink.taken c.loop-piece.out) (g.K.Sink.taken c.write_unit.new.out) c.loop-piece.counts c.loop-piece-test.true c.loop-piece.invariant.so_far (rw c.tokens_of-unit.ensures at c.in_err-counted.ensures.front))
+pub returns-in_err-counted-clause-prefix : goal.returns-in_err-counted-clause-prefix
+returns-in_err-counted-clause-prefix g c =
+    on_err c.from_residual.result (WroteUnitsPrefix c.args.input.now c.args.tokens.now c.args.pieces.now (g.K.Sink.taken c.args.out.now) (g.K.Sink.taken c.write_unit.new.out))
+    (stops_in_unit c.args.input.now c.args.tokens.now c.args.pieces.now (g.K.Sink.taken c.args.out.now) c.loop-piece.piece-index _ (g.K.Sink.taken c.loop-piece.out) (g.K.Sink.taken c.write_unit.new.out) c.loop-piece.counts c.loop-piece-test.true c.loop-piece.invariant.so_far (rw c.tokens_of-unit.ensures at c.in_err-counted.ensures.prefix))
 
 pub plus-counts-requires-clause-self_few : goal.plus-counts-requires-clause-self_few
 plus-counts-requires-clause-self_few g c = so_far_few c.args.input.now c.args.tokens.now c.args.pieces.now (g.K.Sink.taken c.args.out.now) c.loop-piece.piece-index (g.K.Sink.taken c.loop-piece.out) c.loop-piece.counts c.loop-piece.invariant.so_far c.requires.few

@@ -1,9 +1,9 @@
 use Rattle.stk_tree.specs.View.{view_declaration}
-use Rattle.stk_expr.specs.Gives.{named}
+use Rattle.stk_ctype.specs.Names.{named}
 use Rattle.stk_stmt.proofs.Declared.{gives_declaration}
 use Rattle.stk_stmt.proofs.declarations.declaration.Goals as goal
 
 pub returns : goal.returns
 returns c =
     let e = c.declaration_within.ensures in
-    gives_declaration (λ x. view_declaration x.tree) (λ x. x.rest.now) (named c.args.bytes.now c.args.names.now) c.args.room c.args.lexemes.now c.args.file c.declaration_within.result e.found e.bare e.none
+    gives_declaration (λ x. view_declaration x.tree) (λ x. x.rest.now) (named c.args.bytes.now c.args.names.now) c.args.room c.args.lexemes.now c.args.file c.declaration_within.result e.found e.unlaid e.none

@@ -1,17 +1,16 @@
 use Rattle.std.proofs.Common.{◌≡◌, arith, sym, ◌∙◌}
-use Rattle.stk_units.specs.Units.{units_of}
-use Rattle.stk_units.proofs.Cuts.{cuts_begin, cuts_on, cuts_end, cuts_none, cuts_last, piece_is, begun_within, all_joined}
+use Rattle.stk_units.proofs.Cuts.{AreCut, cuts_begin, cuts_on, cuts_end, cuts_none, cuts_last, begun_within, cut_joined}
 use Rattle.stk_units.proofs.cutting.cut.Goals as goal
 
 pub loop-token-init : goal.loop-token-init
 loop-token-init c =
     rw (c.new-pieces.ensures.items, c.as_slice-notes.ensures, c.as_slice-rest.ensures)
-    (cuts_begin c.args.bytes.now c.args.skimmed.now.tokens c.args.skimmed.now.notes c.at-unit.result (c.at-unit.ensures.begun c.args.bytes.now) c.at-unit.ensures.from c.requires.spans)
+    (cuts_begin c.args.bytes.now c.args.skimmed.now.tokens c.args.skimmed.now.notes c.at-unit.result (c.at-unit.ensures.begun c.args.bytes.now) c.at-unit.ensures.from)
 
 pub with-whole-requires-clause-deep : goal.with-whole-requires-clause-deep
 with-whole-requires-clause-deep c =
     let s = c.loop-token.invariant in
-    omega (arith, begun_within c.args.bytes.now c.loop-token.unit s.before s.begun, s.place, c.requires.few)
+    omega (arith, begun_within c.args.bytes.now c.loop-token.unit s.before s.begun, s.place, c.requires)
 
 pub loop-token-preserved-then-is_ended_by : goal.loop-token-preserved-then-is_ended_by
 loop-token-preserved-then-is_ended_by c =
@@ -22,10 +21,9 @@ loop-token-preserved-then-is_ended_by c =
     let whole = c.with-whole.ensures.begun s.before s.begun in
     let p = c.whole_piece.ensures in
     let ended = sym (c.is_ended_by.ensures s.before s.begun) ∙ c.if-is_ended_by.true in
-    let piece = piece_is bytes notes c.loop-token.notes.now c.with-whole.result c.in-Some.token.now s.before s.end c.whole_piece.result whole s.left_from c.requires.positions p.from p.to p.body p.no_return in
     rw c.in_ok-push.ensures.items
     (cuts_end bytes tokens notes c.loop-token.pieces.items c.loop-token.notes.now c.notes_from-notes.result.now c.loop-token.unit c.with-whole.result c.at-unit-then-is_ended_by.result
-    c.in-Some.token.now c.in-Some.behind.now c.whole_piece.result s whole c.with-whole.ensures.from ended piece c.notes_from-notes.ensures
+    c.in-Some.token.now c.in-Some.behind.now c.whole_piece.result s whole c.with-whole.ensures.from ended p.from p.to p.body p.no_return c.notes_from-notes.ensures
     (c.at-unit-then-is_ended_by.ensures.begun bytes) c.at-unit-then-is_ended_by.ensures.from)
 
 pub loop-token-preserved : goal.loop-token-preserved
@@ -43,9 +41,8 @@ returns-then-is_empty c =
     let notes = c.args.skimmed.now.notes in
     let s = c.loop-token.invariant in
     let empty = sym (c.is_empty.ensures bytes s.before s.begun) ∙ c.if-is_empty.true in
-    let all : c.loop-token.pieces.items ≡ units_of bytes tokens notes =
-    cuts_none bytes tokens notes c.loop-token.pieces.items c.loop-token.notes.now c.loop-token.unit c.loop-token.rest.now s c.in_default.ensures.cases empty in
-    record { units = all; joined = rw all (all_joined bytes tokens notes) }
+    let cut = cuts_none bytes tokens notes c.loop-token.pieces.items c.loop-token.notes.now c.loop-token.unit c.loop-token.rest.now s c.in_default.ensures.cases empty in
+    record { bounds = cut.bounds; joined = cut_joined bytes tokens notes c.loop-token.pieces.items cut; units = cut.all }
 
 pub returns : goal.returns
 returns c =
@@ -55,8 +52,7 @@ returns c =
     let s = c.loop-token.invariant in
     let p = c.whole_piece-2.ensures in
     let some = sym (c.is_empty.ensures bytes s.before s.begun) ∙ c.if-is_empty.false in
-    let all : c.push-2.new.self.items ≡ units_of bytes tokens notes =
-    c.in_ok-push-2.ensures.items
-    ∙ cuts_last bytes tokens notes c.loop-token.pieces.items c.loop-token.notes.now c.loop-token.unit c.loop-token.rest.now c.whole_piece-2.result s c.in_default.ensures.cases some
-    c.requires.positions p.from p.to p.body p.no_return in
-    record { units = all; joined = rw all (all_joined bytes tokens notes) }
+    let last = cuts_last bytes tokens notes c.loop-token.pieces.items c.loop-token.notes.now c.loop-token.unit c.loop-token.rest.now c.whole_piece-2.result s c.in_default.ensures.cases some
+    p.from p.to p.body p.no_return in
+    let cut : AreCut bytes tokens notes c.push-2.new.self.items = rw c.in_ok-push-2.ensures.items last in
+    record { bounds = cut.bounds; joined = cut_joined bytes tokens notes c.push-2.new.self.items cut; units = cut.all }

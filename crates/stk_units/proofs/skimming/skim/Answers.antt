@@ -52,6 +52,6 @@ returns c =
       tokens = tokens;
       notes = notes;
       few = rw c.from_vec.ensures (omega (arith, c.loop-token.invariant.few));
-      spans = rw tokens (kept_spans c.args.bytes.now (length c.args.bytes.now) c.args.tokens.now 0 0 0 c.requires.spans);
-      positions = rw notes (noted_positions c.args.bytes.now (length c.args.bytes.now) c.args.tokens.now 0 0 0 c.requires.spans);
+      spans = λ spans. rw tokens (kept_spans c.args.bytes.now (length c.args.bytes.now) c.args.tokens.now 0 0 0 spans);
+      positions = λ spans. rw notes (noted_positions c.args.bytes.now (length c.args.bytes.now) c.args.tokens.now 0 0 0 spans);
     }

@@ -1,7 +1,0 @@
-use Rattle.stk_expr.specs.Gives.{named}
-use Rattle.stk_expr.proofs.Stopped.{gives_stopped}
-use Rattle.stk_decl.proofs.expressions.stopped.Goals as goal
-
-pub returns-clause-value : goal.returns-clause-value
-returns-clause-value c =
-    gives_stopped (named c.args.bytes.now c.args.names.now) c.args.room c.args.level c.args.lexemes.now c.expression.result c.requires.level.1 c.expression.ensures.found c.expression.ensures.bare c.expression.ensures.none

@@ -1,0 +1,3 @@
+pub mod Passing
+pub mod Flat
+pub mod Levels
