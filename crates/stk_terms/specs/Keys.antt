@@ -1,7 +1,8 @@
 -- The nodes that keep the terms: a term with its width, each once.
 use Rattle.std.specs.Prelude.{◌≡◌, ℕ, List, [], ◌∷◌, ◌++◌, map, slice_get, Some}
 use Rattle.stk_terms.specs.declared.term.Node.{Node}
-use Rattle.stk_terms.specs.Terms.{Term, term_of}
+use Rattle.stk_terms.specs.declared.term.TermId.{TermId}
+use Rattle.stk_terms.specs.Terms.{Term, Stored, term_of, term_at}
 use Rattle.stk_terms.specs.Values.{evaluated, width_of}
 use Rattle.stk_terms.specs.Fitting.{AreWidths, FitBehind}
 
@@ -12,6 +13,14 @@ plain n = term_of n.op n.args.items
 -- the terms of nodes
 abbrev pub terms_of : List Node → List Term
 terms_of ns = map plain ns
+
+-- the store of these inputs and nodes
+abbrev pub stored : List ℕ → List Node → Stored
+stored inputs ns = record { inputs = inputs; terms = terms_of ns }
+
+-- the arguments of the node at a place
+abbrev pub args_in : List Node → ℕ → List TermId
+args_in ns i = (term_at (stored [] ns) i).args
 
 -- the widths that nodes keep
 abbrev pub sizes_of : List Node → List ℕ

@@ -2,6 +2,7 @@
 #![tactic(auto)]
 
 mod kept;
+mod marks;
 mod nodes;
 mod operators;
 mod table;

@@ -1,12 +1,14 @@
 //! The store of terms and its calls.
-ghost use Rattle.std.specs.Prelude.{◌≡◌, ℕ, ◌+◌, List, ◌<◌, ◌≤◌, ◌^◌, [], length, get_or, IfOk, OnOk, OnErr};
+ghost use Rattle.std.specs.Prelude.{◌≡◌, ℕ, ◌+◌, List, ◌<◌, ◌≤◌, ◌^◌, [], true, false, length, get_or, IfOk, OnOk, OnErr};
 ghost use Rattle.stk_terms.specs.Fitting.{AreWidths, AreResidues, CanMake, IsSound};
 ghost use Rattle.stk_terms.specs.Terms.{StandsAt, Adds, Term, term_of, no_terms};
 ghost use Rattle.stk_terms.specs.Values.{meaning, meanings, bits_of, width_of, widths_of, width_at, number_at};
 ghost use Rattle.stk_terms.specs.Cost.{total_cost, bound_of};
 ghost use Rattle.stk_terms.specs.Growth.{Keeps};
+ghost use Rattle.stk_terms.specs.Parts.{IsPart, is_part};
 
 use crate::kept;
+use crate::marks::parts;
 use crate::nodes::{number, width_of};
 use crate::term::{Node, TermId, TermOp};
 use indexmap::IndexSet;
@@ -112,6 +114,24 @@ impl Terms {
         ensures { (t : Term) → StandsAt self.now.terms id.0 t → result.now ≡ t.args }
     {
         self.nodes.as_slice()[id.0].args.as_slice()
+    }
+
+    /// For each term up to this one, whether this one depends on it: it is this one, or an argument of a term on which this
+    /// one depends.
+    pub fn parts(&self, id: TermId) -> Result<List<bool>, NoMemory>
+        requires { id.0 < length self.now.terms }
+        ensures count { IfOk result (λ m. length m ≡ id.0 + 1) }
+        ensures told { IfOk result (λ m. (j : ℕ) → j ≤ id.0 → get_or m j false ≡ is_part self.now id.0 j) }
+        ensures all { (j : ℕ) → IsPart self.now j id.0 → (j ≤ id.0) × (is_part self.now id.0 j ≡ true) }
+        ensures only { (j : ℕ) → is_part self.now id.0 j ≡ true → IsPart self.now j id.0 }
+    {
+        let marks = parts(
+            *self.nodes.allocator(),
+            self.inputs.as_slice(),
+            self.nodes.as_slice(),
+            id.0,
+        )?;
+        Ok(List::from_vec(marks))
     }
 
     /// The number of a term for residues of the inputs, below 2 to the term's width. It takes one pass over the terms up
