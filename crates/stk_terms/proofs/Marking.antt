@@ -1,5 +1,5 @@
 -- Marks that go from a term down to the arguments of marked terms.
-use Rattle.std.proofs.Common.{◌≡◌, ◌≢◌, ℕ, zero, suc, ◌+◌, ◌-◌, ◌<◌, ◌≤◌, Bool, true, false, ◌⊎◌, inl, inr, List, [], ◌∷◌, length, get_or, refl, sym, ap, subst, ◌∙◌, arith, nat_eq, if◌then◌else◌, replicate}
+use Rattle.std.proofs.Common.{◌≡◌, ◌≢◌, ℕ, zero, suc, ◌+◌, ◌-◌, ◌<◌, ◌≤◌, Bool, true, false, ◌⊎◌, inl, inr, List, [], ◌∷◌, length, get_or, refl, sym, subst, ◌∙◌, arith, nat_eq, if◌then◌else◌, replicate}
 use Rattle.std.proofs.Math.ListN.{set, length-set}
 use Rattle.std.proofs.lemmas.List.{get_or-set_same, get_or-set_other, length-replicate, length-map}
 use Rattle.std.proofs.lemmas.Bool.{eqb-true}
@@ -8,8 +8,7 @@ use Rattle.stk_terms.specs.declared.term.Node.{Node}
 use Rattle.stk_terms.specs.Keys.{plain, terms_of}
 use Rattle.stk_terms.specs.Terms.{Stored, term_at, nth, child}
 use Rattle.stk_terms.specs.Fitting.{IsSound, AreBelow}
-use Rattle.stk_terms.specs.Parts.{IsPart, Whole, Within, is_part, marked, AreMarked}
-use Rattle.stk_terms.specs.Cost.{IsClosed}
+use Rattle.stk_terms.specs.Parts.{IsPart, Whole, is_part, marked, AreMarked}
 use Rattle.stk_terms.proofs.Args.{wider}
 use Rattle.stk_terms.proofs.Reading.{child_below, below_own}
 use Rattle.stk_terms.proofs.Parting.{told, reached, goes_on, part_chosen}

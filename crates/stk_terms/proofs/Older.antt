@@ -1,5 +1,5 @@
 -- What older terms are after others were made.
-use Rattle.std.proofs.Common.{◌≡◌, ℕ, zero, suc, ◌<◌, List, [], ◌∷◌, length, get_or, refl, sym, ap, subst, ◌∙◌, arith}
+use Rattle.std.proofs.Common.{◌≡◌, ℕ, zero, suc, ◌<◌, List, [], ◌∷◌, length, get_or, sym, ap, subst, ◌∙◌, arith}
 use Rattle.std.proofs.lemmas.Option.{none-some}
 use Rattle.stk_terms.specs.declared.term.TermId.{TermId}
 use Rattle.stk_terms.specs.Terms.{Stored, Term, StandsAt, term_at, nth, child}

@@ -1,5 +1,5 @@
 -- What stands at the places of a store.
-use Rattle.std.proofs.Common.{◌≡◌, ℕ, zero, suc, ◌^◌, ◌<◌, ◌≤◌, false, List, [], ◌∷◌, length, get_or, slice_get, Some, refl, sym, ap, subst, ◌∙◌, arith, nat_eq, if◌then◌else◌}
+use Rattle.std.proofs.Common.{◌≡◌, ℕ, zero, suc, ◌^◌, ◌<◌, ◌≤◌, List, [], ◌∷◌, length, get_or, slice_get, Some, refl, sym, ap, subst, ◌∙◌, arith, nat_eq, if◌then◌else◌}
 use Rattle.std.proofs.Math.Nat.{zero-add}
 use Rattle.stk_terms.specs.declared.term.TermOp.{TermOp}
 use Rattle.stk_terms.specs.declared.term.TermOp.TheVariants.{Ite}

@@ -8,7 +8,7 @@ use Rattle.stk_terms.specs.Growth.{Keeps}
 use Rattle.stk_terms.specs.Values.{widths_of, arg_at}
 use Rattle.stk_terms.specs.Cost.{bound, bound_of, bound_at, IsClosed, weight, Grows, cost}
 use Rattle.stk_terms.proofs.Args.{wider}
-use Rattle.stk_terms.specs.Parts.{IsPart, is_part}
+use Rattle.stk_terms.specs.Parts.{is_part}
 use Rattle.stk_terms.proofs.Reading.{below_own, child_below}
 use Rattle.stk_terms.proofs.Older.{term_kept}
 use Rattle.stk_terms.proofs.Parting.{or_first, or_second, or_cases, part_chosen, reached}

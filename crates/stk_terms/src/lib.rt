@@ -1,6 +1,7 @@
 //! Shared bit-vector terms: a term is an operator over earlier terms, and the same term is made once.
 #![tactic(auto)]
 
+mod fitting;
 mod kept;
 mod marks;
 mod nodes;

@@ -1,11 +1,12 @@
 //! What nodes are, over the nodes before them.
-ghost use Rattle.std.specs.Prelude.{◌≡◌, ◌+◌, ◌<◌, ◌≤◌, [], length, take, map, get_or, IfOk};
+ghost use Rattle.std.specs.Prelude.{◌≡◌, ◌+◌, ◌<◌, ◌≤◌, [], length, take, map, get_or, IsTrue, ◌↔◌, IfOk};
 ghost use Rattle.stk_terms.specs.Fitting.{AreWidths, AreResidues, AreBelow, Fits};
 ghost use Rattle.stk_terms.specs.Terms.{term_of};
 ghost use Rattle.stk_terms.specs.Keys.{sizes_of, terms_of, AreKept, plain};
 ghost use Rattle.stk_terms.specs.Values.{none, width_by, number_by, arg_at, bits_of, evaluated};
 ghost use Rattle.stk_terms.specs.Applying.{CanApply};
 
+use crate::fitting::{are_below, arity_of, widths_fit};
 use crate::operators::apply;
 use crate::term::{Node, TermId, TermOp};
 use std::alloc::{AllocError, Global};
@@ -51,6 +52,19 @@ pub fn width_of(inputs: &[u8], nodes: &[Node], op: TermOp, args: &[TermId]) -> u
         TermOp::Ite => size_at(nodes, args, 1),
         _ => first,
     }
+}
+
+/// Whether an operator and its arguments fit behind nodes.
+pub fn fits(inputs: &[u8], nodes: &[Node], op: TermOp, args: &[TermId]) -> bool
+    ensures { IsTrue result ↔ Fits inputs.now (sizes_of nodes.now) (term_of op args.now) }
+{
+    if args.len() != arity_of(op) || !are_below(nodes.len(), args) {
+        return false;
+    }
+    let first = size_at(nodes, args, 0);
+    let second = size_at(nodes, args, 1);
+    let third = size_at(nodes, args, 2);
+    widths_fit(inputs, op, first, second, third)
 }
 
 // The number of a node, over the numbers of the nodes before it.

@@ -1,5 +1,5 @@
 //! The store of terms and its calls.
-ghost use Rattle.std.specs.Prelude.{◌≡◌, ℕ, ◌+◌, List, ◌<◌, ◌≤◌, ◌^◌, [], true, false, length, get_or, IfOk, OnOk, OnErr};
+ghost use Rattle.std.specs.Prelude.{◌≡◌, ℕ, ◌+◌, List, ◌<◌, ◌≤◌, ◌^◌, [], true, false, length, get_or, ◌↔◌, IsTrue, IfOk, OnOk, OnErr};
 ghost use Rattle.stk_terms.specs.Fitting.{AreWidths, AreResidues, CanMake, IsSound};
 ghost use Rattle.stk_terms.specs.Terms.{StandsAt, Adds, Term, term_of, no_terms};
 ghost use Rattle.stk_terms.specs.Values.{meaning, meanings, bits_of, width_of, widths_of, width_at, number_at};
@@ -7,9 +7,10 @@ ghost use Rattle.stk_terms.specs.Cost.{total_cost, bound_of};
 ghost use Rattle.stk_terms.specs.Growth.{Keeps};
 ghost use Rattle.stk_terms.specs.Parts.{IsPart, is_part};
 
+use crate::fitting::are_residues;
 use crate::kept;
 use crate::marks::parts;
-use crate::nodes::{number, width_of};
+use crate::nodes::{fits, number, width_of};
 use crate::term::{Node, TermId, TermOp};
 use indexmap::IndexSet;
 use smallvec::SmallVec;
@@ -53,6 +54,21 @@ impl Terms {
             inputs: widths,
             nodes: IndexSet::new(alloc),
         }
+    }
+
+    /// Whether `make` can make a term of this operator and these arguments: whether the arguments exist, and fit the operator
+    /// in number and widths, and the numbers in the operator are in their ranges.
+    pub fn can_make(&self, op: TermOp, args: &[TermId]) -> bool
+        ensures { IsTrue result ↔ CanMake self.now (term_of op args.now) }
+    {
+        fits(self.inputs.as_slice(), self.nodes.as_slice(), op, args)
+    }
+
+    /// Whether there is one residue for each input, below 2 to the input's width.
+    pub fn has_residues(&self, inputs: &Residues) -> bool
+        ensures { IsTrue result ↔ AreResidues self.now.inputs inputs.now.numbers }
+    {
+        are_residues(self.inputs.as_slice(), inputs.numbers.as_slice())
     }
 
     /// The term of an operator over earlier terms: the one that is there, or a new one behind all others.

@@ -1,7 +1,7 @@
-use Rattle.std.proofs.Common.{◌≡◌, ◌+◌, ◌-◌, ◌∙◌, false, get_or, if◌then◌else◌, sym, ap, subst, arith}
+use Rattle.std.proofs.Common.{◌≡◌, ◌+◌, ◌-◌, ◌∙◌, sym, subst, arith}
 use Rattle.std.proofs.lemmas.List.{take_at}
-use Rattle.stk_terms.specs.Keys.{stored, args_in}
-use Rattle.stk_terms.specs.Parts.{AreMarked, marked}
+use Rattle.stk_terms.specs.Keys.{stored}
+use Rattle.stk_terms.specs.Parts.{AreMarked}
 use Rattle.stk_terms.proofs.Marking.{begun, can_mark, one_down, all_marked, in_terms}
 use Rattle.stk_terms.proofs.marks.parts.Goals as goal
 

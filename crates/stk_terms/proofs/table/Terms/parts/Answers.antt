@@ -1,4 +1,4 @@
-use Rattle.std.proofs.Common.{◌≡◌, subst}
+use Rattle.std.proofs.Common.{subst}
 use Rattle.stk_terms.specs.Fitting.{IsSound}
 use Rattle.stk_terms.proofs.Parting.{told, reached, part_below}
 use Rattle.stk_terms.proofs.table.Terms.parts.Goals as goal
