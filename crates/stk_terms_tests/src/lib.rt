@@ -4,6 +4,8 @@
 #![tactic(auto)]
 
 #[cfg(test)]
+mod making;
+#[cfg(test)]
 mod operators;
 #[cfg(test)]
 mod sharing;
