@@ -1,0 +1,6 @@
+pub mod Numbers
+pub mod Adders
+pub mod Alike
+pub mod Tops
+pub mod Shifting
+pub mod LeftShifts
