@@ -4,3 +4,5 @@ pub mod Alike
 pub mod Tops
 pub mod Shifting
 pub mod LeftShifts
+pub mod Products
+pub mod Quotients

@@ -3,7 +3,7 @@
 ghost use Rattle.std.specs.Prelude.{◌≡◌, ℕ, ◌+◌, ◌*◌, ◌<◌, ◌≤◌, Bool, length, replicate, IfOk, if◌then◌else◌, nat_lt};
 ghost use Rattle.stk_gates.specs.Edges.{edge_value};
 ghost use Rattle.stk_gates.specs.Tables.{IsEdge, Obeys, Extends, AddsWithin, HasRoom};
-ghost use Rattle.stk_arith.specs.Rows.{number, AreEdges};
+ghost use Rattle.stk_arith.specs.Rows.{bit, number, AreEdges};
 
 use std::alloc::Global;
 use stk_base::NoMemory;
@@ -59,4 +59,29 @@ pub fn select(
         row.push(edge)?;
     }
     Ok(row)
+}
+
+/// The row where an edge is true, and else 0.
+#[tactic(auto, using(crate::proofs::Numbers::kept))]
+pub fn mask(
+    alloc: Global,
+    gates: &mut Gates,
+    test: Edge,
+    row: &[Edge],
+) -> Result<Vec<Edge>, NoMemory>
+    requires test { IsEdge gates.old test }
+    requires row { AreEdges gates.old row.now }
+    requires room { HasRoom gates.old (length row.now) }
+    ensures length { IfOk result (λ r. length r.items ≡ length row.now) }
+    ensures edges { IfOk result (λ r. AreEdges gates.new r.items) }
+    ensures value { IfOk result (λ r. (values : ℕ → Bool) → Obeys gates.new values → number values r.items ≡ bit (edge_value values test) * number values row.now) }
+    ensures extends { Extends gates.old gates.new }
+    ensures adds { AddsWithin gates.old gates.new (length row.now) }
+{
+    let mut masked = Vec::new(alloc);
+    for i in 0..row.len() {
+        let edge = gates.and(test, row[i])?;
+        masked.push(edge)?;
+    }
+    Ok(masked)
 }

@@ -117,12 +117,7 @@ pub fn subtract_rows(
 
 /// The sum of two rows in as many bits: what the carry out of the last one would add is dropped.
 #[tactic(auto, using(crate::proofs::Numbers::kept))]
-pub fn add(
-    alloc: Global,
-    gates: &mut Gates,
-    a: &[Edge],
-    b: &[Edge],
-) -> Result<List<Edge>, NoMemory>
+pub fn add(alloc: Global, gates: &mut Gates, a: &[Edge], b: &[Edge]) -> Result<List<Edge>, NoMemory>
     requires same { length b.now ≡ length a.now }
     requires a { AreEdges gates.old a.now }
     requires b { AreEdges gates.old b.now }
@@ -139,12 +134,7 @@ pub fn add(
 
 /// The difference of two rows in as many bits: where the second number is larger, 2 to the number of bits is added.
 #[tactic(auto, using(crate::proofs::Numbers::kept))]
-pub fn sub(
-    alloc: Global,
-    gates: &mut Gates,
-    a: &[Edge],
-    b: &[Edge],
-) -> Result<List<Edge>, NoMemory>
+pub fn sub(alloc: Global, gates: &mut Gates, a: &[Edge], b: &[Edge]) -> Result<List<Edge>, NoMemory>
     requires same { length b.now ≡ length a.now }
     requires a { AreEdges gates.old a.now }
     requires b { AreEdges gates.old b.now }

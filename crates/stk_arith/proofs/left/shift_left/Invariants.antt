@@ -1,4 +1,4 @@
-use Rattle.std.proofs.Common.{◌≡◌, ℕ, ◌*◌, ◌^◌, Bool, length, take}
+use Rattle.std.proofs.Common.{◌≡◌, ℕ, ◌*◌, Bool, length, take}
 use Rattle.stk_gates.specs.Tables.{Obeys, Extends, AddsWithin}
 use Rattle.stk_arith.specs.Rows.{number, AreEdges}
 use Rattle.stk_arith.specs.Shifts.{shifted_left}
