@@ -12,7 +12,8 @@ mod sums;
 
 pub use left::shift_left;
 pub use order::less;
+pub use parts::{any, filled, select};
 pub use product::multiply;
 pub use quotient::{divide, remainder};
 pub use right::{shift_right, shift_right_signed};
-pub use sums::{add, sub};
+pub use sums::{add, inverted_row, sub};

@@ -79,7 +79,7 @@ pub fn add_rows(
 
 /// The row with each edge inverted.
 #[tactic(auto, using(crate::proofs::Numbers::kept))]
-fn inverted_row(alloc: Global, row: &[Edge]) -> Result<Vec<Edge>, NoMemory>
+pub fn inverted_row(alloc: Global, row: &[Edge]) -> Result<Vec<Edge>, NoMemory>
     ensures length { IfOk result (λ r. length r.items ≡ length row.now) }
     ensures edges { IfOk result (λ r. (t : Table) → AreEdges t row.now → AreEdges t r.items) }
     ensures value { IfOk result (λ r. (values : ℕ → Bool) → number values r.items + number values row.now + 1 ≡ 2 ^ length row.now) }
