@@ -1,0 +1,12 @@
+use Rattle.std.proofs.Common.{◌^◌, ◌<◌, length, subst, ◌∙◌}
+use Rattle.stk_gates.specs.Edges.{edge_value}
+use Rattle.stk_arith.specs.Rows.{number}
+use Rattle.stk_arith.proofs.Numbers.{number-below}
+use Rattle.stk_arith.proofs.Adders.{borrow_tells}
+use Rattle.stk_arith.proofs.sums.below.Goals as goal
+
+pub returns-clause-value : goal.returns-clause-value
+returns-clause-value c gates o =
+    let row = c.in_ok-difference.difference.row.items in
+    let below = subst (λ n. number gates row < 2 ^ n) c.in_ok-difference.ensures.length (number-below gates row) in
+    c.inverted.ensures.value gates ∙ borrow_tells (number gates row) (number gates c.args.a.now) (number gates c.args.b.now) (2 ^ length c.args.a.now) (edge_value gates c.in_ok-difference.difference.carry) (c.in_ok-difference.ensures.value gates o) below

@@ -1,0 +1,10 @@
+//! A list of bits: the inputs of a circuit, or the values of the variables of some clauses.
+#![tactic(auto)]
+
+use stk_base::List;
+
+/// Bits in order, each `true` for 1.
+#[derive(Debug, Drop, PartialEq)]
+pub struct Bits {
+    pub bits: List<bool>,
+}

@@ -1,0 +1,4 @@
+pub mod Growth
+pub mod Edges
+pub mod Decided
+pub mod Sharing
