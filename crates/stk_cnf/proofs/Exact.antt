@@ -8,18 +8,8 @@ use Rattle.stk_gates.specs.Tables.{Table, Obeys, IsOrdered}
 use Rattle.stk_gates.proofs.Decided.{edge_same}
 use Rattle.stk_cnf.specs.Clauses.{named, ties, tied_by, all_tied}
 use Rattle.stk_cnf.specs.Standing.{variables}
+use Rattle.stk_cnf.proofs.Literals.{and_left, and_right, both_true}
 use Rattle.stk_cnf.specs.Naming.{IsNaming, IsAmong, IsClosed}
-
-and_left : (a b : Bool) → a && b ≡ true → a ≡ true
-and_left true b e = refl
-and_left false b e = e
-
-and_right : (a b : Bool) → a && b ≡ true → b ≡ true
-and_right true b e = e
-and_right false b e = absurd cc
-
-both_true : (a b : Bool) → a ≡ true → b ≡ true → a && b ≡ true
-both_true a b e f = (λ j. e j && f j)
 
 from_ties : (g x y : Bool) → ties g x y ≡ true → g ≡ x && y
 from_ties true x y e = sym e

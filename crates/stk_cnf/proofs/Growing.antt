@@ -1,7 +1,7 @@
 -- Clauses over edges that grow at their end.
 use Rattle.std.proofs.Common.{◌≡◌, ℕ, zero, suc, ◌+◌, ◌<◌, Bool, true, false, not, ◌&&◌, ◌||◌, List, [], ◌∷◌, ◌++◌, length, take, get_or, refl, sym, ap, ◌∙◌, subst, arith}
-use Rattle.std.proofs.Common.{Option, Some}
-use Rattle.std.specs.Prelude.{MatchOption}
+use Rattle.std.proofs.Common.{Option, Some, None}
+use Rattle.std.specs.Prelude.{MatchOption, IfSome}
 use Rattle.std.proofs.lemmas.List.{take_more}
 use Rattle.stk_gates.specs.declared.edge.Edge.{Edge}
 use Rattle.std.proofs.Common.{slice_get, ◌-◌}
@@ -11,13 +11,16 @@ use Rattle.stk_clauses.specs.declared.literal.Lit.{Lit}
 use Rattle.stk_clauses.specs.Literals.{literal_value}
 use Rattle.stk_cnf.specs.Clauses.{clause_value, cnf_value, some_edge, named, ties, tied_by, all_tied}
 
-or_false : (x : Bool) → x || false ≡ x
+pub or_false : (x : Bool) → x || false ≡ x
 or_false true = refl
 or_false false = refl
 
-or_true : (x : Bool) → x || true ≡ true
+pub or_true : (x : Bool) → x || true ≡ true
 or_true true = refl
 or_true false = refl
+
+pub or_same : (a b x y : Bool) → a ≡ b → x ≡ y → a || x ≡ b || y
+or_same a b x y e f = (λ j. e j || f j)
 
 or_between : (x y z : Bool) → (x || y) || z ≡ (x || z) || y
 or_between true y z = refl
@@ -50,9 +53,6 @@ edge_false names v e h = ap (λ n. edge_value (named names v) (record { 0 = n })
 pub clause_kept : (gates : ℕ → Bool) (es : List Edge) (i : ℕ) (d : Edge) (b : Bool) → i < length es → edge_value gates (get_or es i d) ≡ false → b ≡ some_edge gates (take i es) → b ≡ some_edge gates (take (i + 1) es)
 clause_kept gates es i d b h e before = before ∙ sym (some_more gates es i d h ∙ (ap (λ x. some_edge gates (take i es) || x) e ∙ or_false (some_edge gates (take i es))))
 
-pub clause_grown : (v gates : ℕ → Bool) (es : List Edge) (i : ℕ) (d : Edge) (old new : List Lit) (l : Lit) → new ≡ old ++ l ∷ [] → i < length es → literal_value v l ≡ edge_value gates (get_or es i d) → clause_value v old ≡ some_edge gates (take i es) → clause_value v new ≡ some_edge gates (take (i + 1) es)
-clause_grown v gates es i d old new l is h e before = ap (clause_value v) is ∙ (clause_push v old l ∙ ((λ j. before j || e j) ∙ sym (some_more gates es i d h)))
-
 and_between : (x y z : Bool) → (x && y) && z ≡ (x && z) && y
 and_between true true z = sym (and_true z)
   where
@@ -69,6 +69,12 @@ and_between false y z = refl
 pub cnf_push : (v : ℕ → Bool) (cs : List (List Lit)) (c : List Lit) → cnf_value v (cs ++ c ∷ []) ≡ cnf_value v cs && clause_value v c
 cnf_push v [] c = refl
 cnf_push v (d ∷ cs) c = ap (λ x. x && clause_value v d) (cnf_push v cs c) ∙ and_between (cnf_value v cs) (clause_value v c) (clause_value v d)
+
+pub none_case : {A : Type 0} (r : Option A) (P : Type 0) (Q : A → Type 0) → r ≡ None → MatchOption r P Q → P
+none_case r P Q e m = subst (λ o. MatchOption o P Q) e m
+
+pub some_if : {A : Type 0} (r : Option A) (x : A) (Q : A → Type 0) → r ≡ Some x → IfSome r Q → Q x
+some_if r x Q e m = subst (λ o. IfSome o Q) e m
 
 pub some_case : {A : Type 0} (r : Option A) (x : A) (P : Type 0) (Q : A → Type 0) → r ≡ Some x → MatchOption r P Q → Q x
 some_case r x P Q e m = subst (λ o. MatchOption o P Q) e m

@@ -108,8 +108,9 @@ pub fn clauses_of(alloc: Global, gates: &Gates, goal: Edge) -> Result<Cnf, NoMem
     ensures none { IfOk result (λ cnf. goal.0 ≡ 1 → cnf.store ≡ []) }
     ensures empty { IfOk result (λ cnf. goal.0 ≡ 0 → cnf.store ≡ [] ∷ []) }
 {
+    let _ = gates.count();
     let marks = depending(alloc, gates, goal)?;
-    let Numbering { names, ands, vars } = numbered(alloc, gates, &marks, goal)?;
+    let Numbering { names, ands, vars } = numbered(alloc, gates, &marks)?;
     let store = encoded(alloc, gates, &names, &ands, vars, goal)?;
     Ok(Cnf { vars, store })
 }

@@ -1,8 +1,7 @@
 // The gates on which an edge depends, marked from its gate down.
-ghost use Rattle.std.specs.Prelude.{◌≡◌, ◌+◌, ◌<◌, ◌↔◌, ℕ, length, IfOk};
+ghost use Rattle.std.specs.Prelude.{◌+◌, ◌<◌, IfOk};
 ghost use Rattle.stk_gates.specs.Tables.{gate_count, IsEdge};
-ghost use Rattle.stk_cnf.specs.Standing.{Needs};
-ghost use Rattle.stk_cnf.specs.Marks.{IsMarked, AreMarked};
+ghost use Rattle.stk_cnf.specs.Marks.{AreMarked};
 
 use std::alloc::Global;
 use stk_base::NoMemory;
@@ -27,8 +26,7 @@ fn mark_operands(gates: &Gates, marks: &mut [bool], gate: u32, _goal: Edge)
 /// Which gates the edge depends on, by number.
 pub(crate) fn depending(alloc: Global, gates: &Gates, goal: Edge) -> Result<Vec<bool>, NoMemory>
     requires { IsEdge gates.now goal }
-    ensures sized { IfOk result (λ m. length m.items ≡ gate_count gates.now) }
-    ensures marked { IfOk result (λ m. (n : ℕ) → IsMarked m.items n ↔ Needs gates.now goal n) }
+    ensures { IfOk result (λ m. AreMarked gates.now goal m.items 0) }
 {
     let count = gates.count();
     let mut owned = vec![in alloc; false; count as usize]?;

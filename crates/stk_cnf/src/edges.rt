@@ -1,5 +1,5 @@
 // Clauses over edges, as clauses over the variables that the edges' gates have.
-ghost use Rattle.std.specs.Prelude.{◌≡◌, ℕ, ◌+◌, ◌*◌, ◌/◌, ◌^◌, ◌-◌, ◌<◌, ◌≤◌, ◌∷◌, ◌++◌, [], Bool, true, ◌&&◌, length, slice_index, IfOk, OnOk, OnErr, MatchOption, IfSome};
+ghost use Rattle.std.specs.Prelude.{◌≡◌, ℕ, ◌+◌, ◌*◌, ◌/◌, ◌^◌, ◌-◌, ◌<◌, ◌≤◌, ◌∷◌, ◌++◌, [], Bool, true, ◌&&◌, ◌||◌, length, slice_index, IfOk, OnOk, OnErr, MatchOption, IfSome};
 ghost use Rattle.std.specs.List.{All};
 ghost use Rattle.stk_clauses.specs.Literals.{literal_value, AreBelow, AreDistinct};
 ghost use Rattle.stk_gates.specs.Edges.{edge_value};
@@ -22,6 +22,21 @@ fn literal(names: &[u32], edge: Edge) -> Lit
     Lit(2 * name + edge.0 % 2)
 }
 
+/// Puts a literal into a clause, if it isn't there.
+fn add(clause: &mut Vec<Lit>, lit: Lit) -> Result<(), NoMemory>
+    requires { AreDistinct clause.old.items }
+    ensures value { OnOk result ((v : ℕ → Bool) → clause_value v clause.new.items ≡ clause_value v clause.old.items || literal_value v lit) }
+    ensures distinct { OnOk result (AreDistinct clause.new.items) }
+    ensures below { OnOk result ((vars : ℕ) → AreBelow vars clause.old.items → lit.0 < 2 * vars → AreBelow vars clause.new.items) }
+    ensures long { OnOk result (length clause.new.items ≤ length clause.old.items + 1) }
+{
+    if is_among(clause, lit) {
+        return Ok(());
+    }
+    clause.push(lit)?;
+    Ok(())
+}
+
 /// The clause of some edges, or `None` where one of them is the constant true.
 fn clause_of(
     alloc: Global,
@@ -42,10 +57,7 @@ fn clause_of(
         if edge.0 == 0 {
             continue;
         }
-        let lit = literal(names, *edge);
-        if !is_among(&clause, lit) {
-            clause.push(lit)?;
-        }
+        add(&mut clause, literal(names, *edge))?;
     }
     Ok(Some(clause))
 }

@@ -7,3 +7,6 @@ mod edges;
 mod numbering;
 
 pub use clauses::clauses_of;
+
+#[cfg(test)]
+mod tests;
