@@ -1,0 +1,10 @@
+//! Checks derivations: each step by its hints, and the empty clause last.
+#![tactic(auto)]
+
+mod checking;
+mod marks;
+
+pub use checking::check;
+
+#[cfg(test)]
+mod tests;

@@ -1,0 +1,5 @@
+pub mod Values
+pub mod Units
+pub mod Steps
+pub mod Cuts
+pub mod Members

@@ -1,0 +1,23 @@
+use Rattle.std.proofs.Common.{◌≡◌, ◌++◌, ◌-◌, ◌^◌, ◌<◌, length, arith, ap}
+use Rattle.stk_clauses.proofs.Cuts.{length-cut, cut-push, store_push}
+use Rattle.stk_clauses.proofs.store.Store.push.Goals as goal
+
+-- the length of the literals with the clause behind them
+grown : (c : goal.In-Ok) → c.len.result ≡ length (c.self.inside.literals.items ++ c.args.clause.now)
+grown c = omega (arith, c.len.ensures, c.extend_from_slice.new.self.ok.0, ap length c.in_ok-extend_from_slice.ensures.items)
+
+few : (c : goal.In-Ok) → length c.self.inside.ends.items < 2 ^ 31 - 1
+few c = omega (arith, c.requires.room, length-cut c.self.inside.literals.items 0 c.self.inside.ends.items, ap length c.self.view_is)
+
+pub invariant_of-self-2 : goal.invariant_of-self-2
+invariant_of-self-2 c =
+    rw (c.in-Ok.ensures.items, c.in_ok-extend_from_slice.ensures.items, c.in_ok-reserve.ensures.items)
+    (store_push c.self.inside.literals.items c.args.clause.now c.self.inside.ends.items c.len.result c.self.invariant (few c) c.requires.distinct (grown c))
+
+pub returns-clause-number : goal.returns-clause-number
+returns-clause-number c = omega (arith, c.len-id.ensures, ap length c.in_ok-reserve.ensures.items, c.reserve.new.self.ok.0, length-cut c.self.inside.literals.items 0 c.self.inside.ends.items, ap length c.self.view_is, c.self.inside.ends.ok.0)
+
+pub returns-clause-pushed : goal.returns-clause-pushed
+returns-clause-pushed c =
+    rw (← c.self.view_is, c.in-Ok.ensures.items, c.in_ok-extend_from_slice.ensures.items, c.in_ok-reserve.ensures.items)
+    (cut-push c.self.inside.literals.items c.args.clause.now 0 c.self.inside.ends.items c.len.result c.self.invariant.rising (grown c))

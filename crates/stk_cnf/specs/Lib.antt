@@ -1,0 +1,4 @@
+pub mod Clauses
+pub mod Naming
+pub mod Standing
+pub mod Marks
