@@ -8,10 +8,8 @@ mod leaves;
 mod parse;
 mod reader;
 mod reading;
-mod stopped;
 
 pub use front::{base, basic_base, begins_type, is_named};
 pub use parse::Parse;
 pub use reader::{FoundDimensions, array_parts, higher};
-pub use reading::{Leading, expr, expression};
-pub use stopped::stopped;
+pub use reading::{Leading, expr, expression, stopped};

@@ -9,6 +9,8 @@ ghost use Rattle.stk_tree.specs.View.{view_expression};
 ghost use Rattle.stk_lexeme.specs.Lexemes.{lexemes_of, spans_of};
 ghost use Rattle.stk_tree.specs.Unlaid.{unlaid_expression};
 ghost use Rattle.stk_grammar.specs.Expressions.{IsExpression, Leads};
+ghost use Rattle.stk_grammar.specs.Stopped.{stopped_at};
+ghost use Rattle.stk_expr.specs.Gives.{Gives};
 ghost use Rattle.stk_ctype.specs.Names.{named};
 
 use crate::front::stops;
@@ -118,4 +120,21 @@ pub fn expression<'a>(
     } else {
         Err(Parse::NoTree)
     }
+}
+
+/// The same as `expression`, said by what reading from left to right gives: the call for readers that are proved against that.
+pub fn stopped<'a>(
+    alloc: Global,
+    bytes: &[u8],
+    names: &Names,
+    room: usize,
+    level: usize,
+    lexemes: &'a [Lexeme],
+) -> Result<Leading<'a>, Parse>
+    requires room { room ≤ most_nesting }
+    requires level { (1 ≤ level) × (level ≤ 17) }
+    ensures value { Gives (λ x. (view_expression x.tree, x.rest.now)) result (stopped_at (named bytes.now names.now) room level lexemes.now) }
+    ensures nesting { IfOk result (λ x. (x.nesting ≡ expression_nesting (view_expression x.tree)) × (x.nesting ≤ room)) }
+{
+    expression(alloc, bytes, names, room, level, lexemes)
 }

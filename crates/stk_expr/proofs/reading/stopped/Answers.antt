@@ -1,6 +1,6 @@
 use Rattle.stk_expr.specs.Gives.{named}
 use Rattle.stk_expr.proofs.Stopped.{gives_stopped}
-use Rattle.stk_expr.proofs.stopped.stopped.Goals as goal
+use Rattle.stk_expr.proofs.reading.stopped.Goals as goal
 
 pub returns-clause-value : goal.returns-clause-value
 returns-clause-value c =
