@@ -7,3 +7,4 @@ pub mod Index
 pub mod Facts
 pub mod Turns
 pub mod Parts
+pub mod Named

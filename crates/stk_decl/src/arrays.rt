@@ -6,7 +6,7 @@ ghost use Rattle.stk_tree.specs.View.{dimensions, view_declarator, view_dimensio
 ghost use Rattle.stk_grammar.specs.Reading.{dimensions_at};
 ghost use Rattle.stk_grammar.specs.Stopped.{stopped_at};
 ghost use Rattle.stk_decl_grammar.specs.Reading.{array_declarator_at};
-ghost use Rattle.stk_ctype.specs.Names.{named};
+ghost use Rattle.stk_ctype.specs.Named.{named};
 ghost use Rattle.stk_expr.specs.Gives.{Gives};
 
 use crate::build;

@@ -4,7 +4,7 @@ ghost use Rattle.std.specs.Prelude.{◌≡◌, ◌≤◌, ◌<◌, map};
 ghost use Rattle.stk_tree.specs.Nesting.{most_nesting};
 ghost use Rattle.stk_tree.specs.View.{enumerators, given_expression, members, view_base_form, view_enumerator, view_member};
 ghost use Rattle.stk_decl_grammar.specs.Reading.{enum_behind, enumerator_at, enumerators_at, full_base_at, full_base_on, member_at, members_at, optional_word_at, struct_behind, value_at};
-ghost use Rattle.stk_ctype.specs.Names.{named};
+ghost use Rattle.stk_ctype.specs.Named.{named};
 ghost use Rattle.stk_expr.specs.Gives.{Gives};
 
 use crate::build;

@@ -5,7 +5,7 @@ ghost use Rattle.stk_tree.specs.Nesting.{most_nesting};
 ghost use Rattle.stk_tree.specs.Placed.{local_storage};
 ghost use Rattle.stk_tree.specs.View.{declarators, view_declaration, view_declarator};
 ghost use Rattle.stk_decl_grammar.specs.Reading.{declaration_at, declarator_at, file_behind, file_declarators_at, front_at, front_behind, local_behind, local_on, storage_at};
-ghost use Rattle.stk_ctype.specs.Names.{named};
+ghost use Rattle.stk_ctype.specs.Named.{named};
 ghost use Rattle.stk_expr.specs.Gives.{Gives};
 
 use crate::bases::full_base;

@@ -4,7 +4,7 @@ ghost use Rattle.std.specs.Prelude.{◌≡◌, ◌+◌, ◌≤◌, IfOk, length,
 ghost use Rattle.stk_tree.specs.Nesting.{tail_nesting, most_nesting};
 ghost use Rattle.stk_tree.specs.View.{declarators, view_declarator, view_tail};
 ghost use Rattle.stk_decl_grammar.specs.Reading.{declarator_at, declarators_at, declared_tail_at, function_declarator_at};
-ghost use Rattle.stk_ctype.specs.Names.{named};
+ghost use Rattle.stk_ctype.specs.Named.{named};
 ghost use Rattle.stk_expr.specs.Gives.{Gives};
 ghost use Rattle.stk_decl.specs.Places.{declarator_in};
 

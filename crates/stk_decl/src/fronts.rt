@@ -2,7 +2,7 @@
 
 ghost use Rattle.std.specs.Prelude.{◌≡◌, option_map};
 ghost use Rattle.stk_decl_grammar.specs.Reading.{declared_name_at, name_at, optional_name_at};
-ghost use Rattle.stk_ctype.specs.Names.{named};
+ghost use Rattle.stk_ctype.specs.Named.{named};
 
 use stk_base::Span;
 use stk_ctype::Names;

@@ -4,7 +4,7 @@ ghost use Rattle.std.specs.Prelude.{◌≡◌, ◌+◌, ◌≤◌, ◌<◌, suc,
 ghost use Rattle.stk_tree.specs.Nesting.{designator_nesting, designators_nesting, maybe_initialiser_nesting, most_nesting};
 ghost use Rattle.stk_tree.specs.View.{designators, items, view_designator, view_initialiser, view_item};
 ghost use Rattle.stk_decl_grammar.specs.Reading.{behind_path, designator_at, designators_at, initial_at, initialiser_at, item_at, items_at, path_at};
-ghost use Rattle.stk_ctype.specs.Names.{named};
+ghost use Rattle.stk_ctype.specs.Named.{named};
 ghost use Rattle.stk_expr.specs.Gives.{Gives};
 ghost use Rattle.stk_decl.specs.Given.{given_initialiser};
 

@@ -5,7 +5,7 @@ ghost use Rattle.stk_tree.specs.Nesting.{parameter_nesting, parameters_nesting, 
 ghost use Rattle.stk_tree.specs.Syntax as s;
 ghost use Rattle.stk_tree.specs.View.{parameters, view_parameter, view_tail};
 ghost use Rattle.stk_decl_grammar.specs.Reading.{more_parameters_at, parameter_at, parameter_tail_at};
-ghost use Rattle.stk_ctype.specs.Names.{named};
+ghost use Rattle.stk_ctype.specs.Named.{named};
 ghost use Rattle.stk_expr.specs.Gives.{Gives};
 ghost use Rattle.stk_decl.specs.Rows.{first_of, paired};
 

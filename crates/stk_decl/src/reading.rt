@@ -9,7 +9,7 @@ ghost use Rattle.stk_tree.specs.View.{view_declaration};
 ghost use Rattle.stk_lexeme.specs.Lexemes.{lexemes_of, spans_of};
 ghost use Rattle.stk_tree.specs.Unlaid.{unlaid_declaration};
 ghost use Rattle.stk_decl_grammar.specs.Declarations.{DeclarationLeads, FrontLeads, IsDeclaration, IsFront};
-ghost use Rattle.stk_ctype.specs.Names.{named};
+ghost use Rattle.stk_ctype.specs.Named.{named};
 
 use crate::declarations::{declaration, function_front};
 use std::alloc::Global;

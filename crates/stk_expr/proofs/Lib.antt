@@ -1,4 +1,4 @@
 pub mod Rows
 pub mod Steps
-pub mod Stopped
+pub mod StoppedReading
 pub mod Placing

@@ -7,7 +7,7 @@ ghost use Rattle.stk_tree.specs.View.{view_base_form};
 ghost use Rattle.stk_grammar.specs.Expressions.{stop_mark, stops};
 ghost use Rattle.stk_grammar.specs.Reading.{base_at, begins_type, behind_left_paren, first_opener, opens_type, tag_base, taken, texts_at, words_at, words_base};
 ghost use Rattle.stk_expr.specs.Fronts.{text_at};
-ghost use Rattle.stk_ctype.specs.Names.{named};
+ghost use Rattle.stk_ctype.specs.Named.{named};
 ghost use Rattle.stk_expr.specs.Gives.{Gives};
 
 use crate::bases;
@@ -78,7 +78,7 @@ pub fn stops(least: usize, lexemes: &[Lexeme]) -> bool
 }
 
 /// Whether the word at a span is a typedef name in force.
-#[tactic(auto, unfolding(stk_ctype::specs::Names::named))]
+#[tactic(auto, unfolding(stk_ctype::specs::Named::named))]
 pub fn is_named(bytes: &[u8], names: &Names, at: Span) -> bool
     ensures { result ≡ named bytes.now names.now at }
 {

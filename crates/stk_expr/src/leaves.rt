@@ -7,7 +7,7 @@ ghost use Rattle.stk_tree.specs.Syntax as s;
 ghost use Rattle.stk_tree.specs.View.{view_expression};
 ghost use Rattle.stk_grammar.specs.Reading.{texts_at};
 ghost use Rattle.stk_expr.specs.Fronts.{found, member_at};
-ghost use Rattle.stk_ctype.specs.Names.{named};
+ghost use Rattle.stk_ctype.specs.Named.{named};
 ghost use Rattle.stk_expr.specs.Gives.{Gives, IsRead};
 
 use crate::build;

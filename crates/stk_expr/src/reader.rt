@@ -7,7 +7,7 @@ ghost use Rattle.stk_tree.specs.Nesting.{dimension_nesting, dimensions_nesting, 
 ghost use Rattle.stk_tree.specs.View.{dimensions, expressions, view_dimension, view_expression, view_type_name};
 ghost use Rattle.stk_grammar.specs.Reading.{arguments, before_at, begins_type, behind_left_paren, behind_right_bracket, climb, dimension_at, dimensions_at, expression_at, operand_at, opens_type, paren_at, size_at, tail_at, type_at};
 ghost use Rattle.stk_grammar.specs.declared.tables.Suffix.TheVariants.{Assign, Binary, Call, Choice, Index};
-ghost use Rattle.stk_ctype.specs.Names.{named};
+ghost use Rattle.stk_ctype.specs.Named.{named};
 ghost use Rattle.stk_expr.specs.Gives.{AreRead, Gives, IsRead, IsTypeRead};
 ghost use Rattle.stk_expr.specs.Prefixes.{prefix_form, prefix_operand};
 

@@ -11,7 +11,7 @@ ghost use Rattle.stk_tree.specs.Unlaid.{unlaid_expression};
 ghost use Rattle.stk_grammar.specs.Expressions.{IsExpression, Leads};
 ghost use Rattle.stk_grammar.specs.Stopped.{stopped_at};
 ghost use Rattle.stk_expr.specs.Gives.{Gives};
-ghost use Rattle.stk_ctype.specs.Names.{named};
+ghost use Rattle.stk_ctype.specs.Named.{named};
 
 use crate::front::stops;
 use crate::parse::Parse;

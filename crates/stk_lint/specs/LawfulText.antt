@@ -15,7 +15,7 @@ use Rattle.stk_tree.specs.Layout.{unit_laid_out}
 use Rattle.stk_lexeme.specs.Lexemes.{lexemes_of, spans_of}
 use Rattle.stk_tree.specs.Unlaid.{unlaid_unit}
 use Rattle.stk_stmt_grammar.specs.Units.{IsUnit}
-use Rattle.stk_ctype.specs.Names.{named}
+use Rattle.stk_ctype.specs.Named.{named}
 use Rattle.stk_meaning.specs.declared.finding.Finding.{Finding}
 use Rattle.stk_meaning.specs.declared.finding.Finding.TheVariants.{Clear, Unstable, Undecided}
 use Rattle.stk_meaning.specs.Parts.{candidates}

@@ -5,7 +5,7 @@ ghost use Rattle.stk_tree.specs.Nesting.{most_nesting};
 ghost use Rattle.stk_tree.specs.View.{view_declaration, view_start};
 ghost use Rattle.stk_decl_grammar.specs.Reading.{declaration_at, front_at};
 ghost use Rattle.stk_stmt_grammar.specs.Reading.{begins_local, start_at};
-ghost use Rattle.stk_ctype.specs.Names.{named};
+ghost use Rattle.stk_ctype.specs.Named.{named};
 ghost use Rattle.stk_expr.specs.Gives.{Gives};
 
 use crate::build::opened;

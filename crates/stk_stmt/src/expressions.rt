@@ -5,7 +5,7 @@ ghost use Rattle.stk_tree.specs.Nesting.{most_nesting};
 ghost use Rattle.stk_tree.specs.View.{given_expression, view_expression};
 ghost use Rattle.stk_grammar.specs.Stopped.{stopped_at};
 ghost use Rattle.stk_stmt_grammar.specs.Reading.{closed_at, condition_at, ended_at};
-ghost use Rattle.stk_ctype.specs.Names.{named};
+ghost use Rattle.stk_ctype.specs.Named.{named};
 ghost use Rattle.stk_expr.specs.Gives.{Gives};
 
 use std::alloc::Global;

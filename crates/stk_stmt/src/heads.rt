@@ -4,7 +4,7 @@ ghost use Rattle.std.specs.Prelude.{◌≡◌, ◌-◌};
 ghost use Rattle.stk_tree.specs.Nesting.{most_nesting};
 ghost use Rattle.stk_tree.specs.View.{view_unit};
 ghost use Rattle.stk_lexeme.specs.Lexemes.{spans_of};
-ghost use Rattle.stk_ctype.specs.Names.{named};
+ghost use Rattle.stk_ctype.specs.Named.{named};
 ghost use Rattle.stk_expr.specs.Gives.{Gives};
 ghost use Rattle.stk_stmt.specs.Heads.{last_end};
 ghost use Rattle.stk_stmt.specs.Units.{declaration_unit_at};

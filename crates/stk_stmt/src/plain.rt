@@ -5,7 +5,7 @@ ghost use Rattle.stk_tree.specs.Nesting.{most_nesting};
 ghost use Rattle.stk_tree.specs.Syntax as s;
 ghost use Rattle.stk_tree.specs.View.{labels, view_label, view_statement};
 ghost use Rattle.stk_stmt_grammar.specs.Reading.{label_at, plain_at, return_at, word_statement};
-ghost use Rattle.stk_ctype.specs.Names.{named};
+ghost use Rattle.stk_ctype.specs.Named.{named};
 ghost use Rattle.stk_expr.specs.Gives.{Gives};
 ghost use Rattle.stk_stmt.specs.Sections.{some_labels_at};
 ghost use Rattle.stk_stmt.specs.Loops.{do_behind};

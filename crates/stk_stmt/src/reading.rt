@@ -9,7 +9,7 @@ ghost use Rattle.stk_tree.specs.View.{view_unit};
 ghost use Rattle.stk_lexeme.specs.Lexemes.{lexemes_of, spans_of};
 ghost use Rattle.stk_tree.specs.Unlaid.{unlaid_unit};
 ghost use Rattle.stk_stmt_grammar.specs.Units.{IsUnit};
-ghost use Rattle.stk_ctype.specs.Names.{named};
+ghost use Rattle.stk_ctype.specs.Named.{named};
 ghost use Rattle.stk_stmt.specs.Heads.{IsHead, ended_lexemes, ended_spans};
 
 use crate::heads::{end_of, head_of};

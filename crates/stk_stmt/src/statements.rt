@@ -6,7 +6,7 @@ ghost use Rattle.std.specs.Prelude.{◌≡◌, ◌≤◌, ◌<◌, map, suc, len
 ghost use Rattle.stk_tree.specs.Nesting.{most_nesting};
 ghost use Rattle.stk_tree.specs.View.{given_expression, parts, sections, statements, view_expression, view_part, view_section, view_statement};
 ghost use Rattle.stk_stmt_grammar.specs.Reading.{behind_else, block_at, do_at, else_on, if_at, part_at, parts_at, section_at, sections_at, statement_at, statement_on, statements_at, switch_at, while_at};
-ghost use Rattle.stk_ctype.specs.Names.{named};
+ghost use Rattle.stk_ctype.specs.Named.{named};
 ghost use Rattle.stk_expr.specs.Gives.{Gives};
 ghost use Rattle.stk_stmt.specs.Loops.{for_parts_at, for_with};
 ghost use Rattle.stk_stmt.specs.Sections.{section_with};

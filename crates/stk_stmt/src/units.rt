@@ -4,7 +4,7 @@ ghost use Rattle.std.specs.Prelude.{◌≡◌, map, option_map, ◌-◌};
 ghost use Rattle.stk_tree.specs.Nesting.{most_nesting};
 ghost use Rattle.stk_tree.specs.View.{declarators, view_declaration, view_declarator, view_statement, view_unit};
 ghost use Rattle.stk_stmt_grammar.specs.Reading.{function_of, unit_at};
-ghost use Rattle.stk_ctype.specs.Names.{named};
+ghost use Rattle.stk_ctype.specs.Named.{named};
 ghost use Rattle.stk_expr.specs.Gives.{Gives};
 ghost use Rattle.stk_stmt.specs.Units.{declaration_unit_at, definition_at, lone_declarator};
 

@@ -14,10 +14,10 @@ use Rattle.stk_tree.specs.Tokens.{expression_tokens}
 use Rattle.stk_tree.specs.Unlaid.{unlaid_expression}
 use Rattle.stk_grammar.specs.Expressions.{stops}
 use Rattle.stk_tree.specs.Fits.{expression_fits, statement_fits}
-use Rattle.stk_grammar.specs.Reading.{Sub, begins_type, behind_right_brace, behind_right_paren, behind_semicolon, climb, expression_at, first_head, head_at, is_tag_word, made}
+use Rattle.stk_grammar.specs.Reading.{Sub, begins_type, behind_right_brace, behind_right_paren, behind_semicolon, climb, expression_at, first_opener, operand_at, is_tag_word, made}
 use Rattle.stk_grammar.specs.Stopped.{if_stopped, stopped_at}
-use Rattle.stk_grammar.specs.declared.tables.Head.{Head}
-use Rattle.stk_grammar.specs.declared.tables.Head.TheVariants as head
+use Rattle.stk_grammar.specs.declared.tables.Opener.{Opener}
+use Rattle.stk_grammar.specs.declared.tables.Opener.TheVariants as opener
 use Rattle.stk_grammar.proofs.Operators.{bind_some, some_is, unless_some}
 use Rattle.stk_grammar.proofs.Stopped.{stopped_reads}
 use Rattle.stk_stmt_grammar.specs.Reading.{begins_label, begins_local, begins_static, behind_else, ends_section, kind_at}
@@ -26,10 +26,10 @@ use Rattle.stk_stmt_grammar.proofs.Prints.{prints}
 
 -- some expression begins here
 pub record IsOpen (named : Span → Bool) (ts : List Lexeme) : Type 0 where
-  pub first : (h : Head × List Lexeme) × (first_head ts ≡ Some h)
+  pub first : (h : Opener × List Lexeme) × (first_opener ts ≡ Some h)
   pub no_type : begins_type named ts ≡ false
 
-token_no_type : (f : Fixed) (ts : List Lexeme) (h : Head × List Lexeme) → first_head (Token f ∷ ts) ≡ Some h → cond (is_basic f) true (is_tag_word f) ≡ false
+token_no_type : (f : Fixed) (ts : List Lexeme) (h : Opener × List Lexeme) → first_opener (Token f ∷ ts) ≡ Some h → cond (is_basic f) true (is_tag_word f) ≡ false
 token_no_type fixed.Void ts h e = absurd cc
 token_no_type fixed.Char ts h e = absurd cc
 token_no_type fixed.Short ts h e = absurd cc
@@ -42,12 +42,12 @@ token_no_type fixed.Struct ts h e = absurd cc
 token_no_type fixed.Enum ts h e = absurd cc
 token_no_type f ts h e = refl
 
-no_type_of : (named : Span → Bool) (sub : Sub) (inner least : ℕ) (ts : List Lexeme) (h : Head × List Lexeme) (a : ExprTree × List Lexeme) → first_head ts ≡ Some h
-    → head_at named sub inner least h.0 h.1 ≡ Some a → begins_type named ts ≡ false
-unfolding head_at
+no_type_of : (named : Span → Bool) (sub : Sub) (inner least : ℕ) (ts : List Lexeme) (h : Opener × List Lexeme) (a : ExprTree × List Lexeme) → first_opener ts ≡ Some h
+    → operand_at named sub inner least h.0 h.1 ≡ Some a → begins_type named ts ≡ false
+unfolding operand_at
 no_type_of named sub inner least [] h a e by = absurd cc
 no_type_of named sub inner least (Leaf Word at ∷ ts) h a e by =
-    (unless_some (named at) (Some (made (s.name at), ts)) a (ap (λ (h : Head × List Lexeme). head_at named sub inner least h.0 h.1) (some_is (head.Name at, ts) h e) ∙ by)).0
+    (unless_some (named at) (Some (made (s.name at), ts)) a (ap (λ (h : Opener × List Lexeme). operand_at named sub inner least h.0 h.1) (some_is (opener.Name at, ts) h e) ∙ by)).0
 no_type_of named sub inner least (Leaf class at ∷ ts) h a e by = refl
 no_type_of named sub inner least (Token f ∷ ts) h a e by = token_no_type f ts h e
 
@@ -55,8 +55,8 @@ open_of_found : (named : Span → Bool) (room least : ℕ) (ts : List Lexeme) (x
 unfolding expression_at
 open_of_found named zero least ts x e = absurd cc
 open_of_found named (suc inner) least ts x e =
-    let h = bind_some (first_head ts) _ x e in
-    let a = bind_some (head_at named (expression_at named inner) inner least h.0.0 h.0.1) (λ a. climb (expression_at named inner) inner least (suc (suc inner)) a.0 a.1) x h.2 in
+    let h = bind_some (first_opener ts) _ x e in
+    let a = bind_some (operand_at named (expression_at named inner) inner least h.0.0 h.0.1) (λ a. climb (expression_at named inner) inner least (suc (suc inner)) a.0 a.1) x h.2 in
     record { first = (h.0, h.1); no_type = no_type_of named (expression_at named inner) inner least ts h.0 a.0 h.1 a.1 }
 
 pub expression_open : (named : Span → Bool) (least : ℕ) (t : ExprTree) (rest : List Lexeme) → expression_placed least t ≡ true → expression_fits named t ≡ true → stops least rest ≡ true

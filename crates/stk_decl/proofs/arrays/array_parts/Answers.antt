@@ -1,5 +1,5 @@
 use Rattle.std.proofs.Common.{suc, length}
-use Rattle.stk_ctype.specs.Names.{named}
+use Rattle.stk_ctype.specs.Named.{named}
 use Rattle.stk_grammar.proofs.Stopped.{dimensions_stopped}
 use Rattle.stk_decl.proofs.arrays.array_parts.Goals as goal
 

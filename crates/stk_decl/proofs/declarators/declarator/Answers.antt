@@ -1,7 +1,7 @@
 use Rattle.std.proofs.Common.{◌-◌, sym, ◌∙◌}
 use Rattle.std.proofs.lemmas.Result.{err_from_is_err_and}
 use Rattle.stk_tree.specs.View.{view_tail}
-use Rattle.stk_ctype.specs.Names.{named}
+use Rattle.stk_ctype.specs.Named.{named}
 use Rattle.stk_decl.specs.Given.{given_initialiser}
 use Rattle.stk_decl.proofs.Steps.{Fails_along, behind_name, declarator_high, declarator_low, initial_fails, tail_fails}
 use Rattle.stk_decl.proofs.declarators.declarator.Goals as goal

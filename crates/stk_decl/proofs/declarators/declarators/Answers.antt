@@ -3,7 +3,7 @@ use Rattle.std.proofs.lemmas.Result.{err_from_is_err_and}
 use Rattle.stk_tree.specs.Syntax as s
 use Rattle.stk_tree.specs.View.{view_declarator}
 use Rattle.stk_decl_grammar.specs.Reading.{declarators_at, more_declarators_at}
-use Rattle.stk_ctype.specs.Names.{named}
+use Rattle.stk_ctype.specs.Named.{named}
 use Rattle.stk_expr.proofs.Rows.{map_push}
 use Rattle.stk_decl.specs.Places.{declarator_in}
 use Rattle.stk_decl.proofs.Rows.{declarators_first, declarators_row, first_begins, pushed_first, row_ends, row_fails, row_more, row_spent, row_stops, turn_end, turn_more}

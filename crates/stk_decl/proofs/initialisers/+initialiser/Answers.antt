@@ -3,7 +3,7 @@ use Rattle.std.proofs.lemmas.Result.{err_from_is_err_and}
 use Rattle.stk_tree.specs.Syntax as s
 use Rattle.stk_tree.specs.View.{view_item}
 use Rattle.stk_decl_grammar.specs.Reading.{initialiser_at, item_at, items_at, more_items_at, path_at}
-use Rattle.stk_ctype.specs.Names.{named}
+use Rattle.stk_ctype.specs.Named.{named}
 use Rattle.stk_expr.proofs.Rows.{map_push}
 use Rattle.stk_decl.specs.Rows.{paired}
 use Rattle.stk_decl.proofs.Rows.{first_begins, items_first, items_row, pushed_first, row_ends-paired, row_fails, row_more, row_spent, row_stops, turn_end, turn_more}

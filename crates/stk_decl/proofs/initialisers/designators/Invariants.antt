@@ -4,7 +4,7 @@ use Rattle.stk_tree.specs.Syntax as s
 use Rattle.stk_tree.specs.View.{designators, view_designator}
 use Rattle.stk_decl_grammar.specs.Reading.{designator_at, designators_at}
 use Rattle.stk_expr.specs.Fronts.{in_front}
-use Rattle.stk_ctype.specs.Names.{named}
+use Rattle.stk_ctype.specs.Named.{named}
 use Rattle.stk_decl.proofs.initialisers.designators.Given as goal
 
 abbrev pub invariant-loop-turn : goal.invariant-loop-turn

@@ -1,5 +1,5 @@
 use Rattle.stk_tree.specs.View.{view_initialiser}
-use Rattle.stk_ctype.specs.Names.{named}
+use Rattle.stk_ctype.specs.Named.{named}
 use Rattle.stk_decl.proofs.Low.{initialiser_low}
 use Rattle.stk_decl.proofs.initialisers.initial.Goals as goal
 

@@ -4,7 +4,7 @@ use Rattle.stk_tree.specs.Syntax as s
 use Rattle.stk_tree.specs.View.{parameters, view_parameter}
 use Rattle.stk_decl_grammar.specs.Reading.{more_parameters_at, parameter_at}
 use Rattle.stk_expr.specs.Fronts.{in_front}
-use Rattle.stk_ctype.specs.Names.{named}
+use Rattle.stk_ctype.specs.Named.{named}
 use Rattle.stk_decl.specs.Rows.{first_of, paired}
 use Rattle.stk_decl.proofs.parameters.parameters.Given as goal
 

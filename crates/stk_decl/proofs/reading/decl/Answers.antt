@@ -7,7 +7,7 @@ use Rattle.stk_tree_layout.proofs.Few.{declaration_tokens-few}
 use Rattle.stk_lexeme.specs.Lexemes.{lexeme_of, lexemes_of, spans_of}
 use Rattle.stk_decl_grammar.specs.Declarations.{IsDeclaration}
 use Rattle.stk_expr.specs.declared.parse.Parse.TheVariants as parse
-use Rattle.stk_ctype.specs.Names.{named}
+use Rattle.stk_ctype.specs.Named.{named}
 use Rattle.stk_decl.proofs.Placing.{laid_unlaid, laid_is, width_of}
 use Rattle.stk_decl.proofs.reading.decl.Goals as goal
 

@@ -4,7 +4,7 @@ use Rattle.stk_tree.specs.View.{view_declaration}
 use Rattle.stk_tree.specs.Tokens.{declaration_tokens}
 use Rattle.stk_decl_grammar.proofs.Declarations.{declaration_sound}
 use Rattle.stk_decl_grammar.proofs.Laws.{declaration_found_unlaid, declaration_of_found, no_declaration_of_none}
-use Rattle.stk_ctype.specs.Names.{named}
+use Rattle.stk_ctype.specs.Named.{named}
 use Rattle.stk_expr.proofs.Rows.{none_of_fails}
 use Rattle.stk_decl.proofs.Leading.{rest_within}
 use Rattle.stk_decl.proofs.reading.declaration_at.Goals as goal

@@ -1,7 +1,7 @@
 use Rattle.std.proofs.Common.{suc, None, Some, map, refl, sym, ◌∙◌, arith}
 use Rattle.std.proofs.lemmas.Result.{err_from_is_err_and}
 use Rattle.stk_tree.specs.View.{view_dimension, view_expression}
-use Rattle.stk_ctype.specs.Names.{named}
+use Rattle.stk_ctype.specs.Named.{named}
 use Rattle.stk_expr.proofs.Rows.{Fails_along, bracket_shorter, comma_shorter, ends, fails_in, map_push, more_done, more_fail, more_nesting-push, more_turn, part_shorter, parts_done, parts_fail, parts_nesting-items, parts_turn, pushed_size, rest_within, too_high, turn}
 use Rattle.stk_expr.proofs.reader.+reader.Goals as goal
 

@@ -4,7 +4,7 @@ use Rattle.stk_tree.specs.Syntax as s
 use Rattle.stk_tree.specs.View.{dimensions, expressions, view_dimension, view_expression}
 use Rattle.stk_grammar.specs.Reading.{arguments, climb, dimensions_at, expression_at, more_arguments}
 use Rattle.stk_expr.specs.Fronts.{in_front}
-use Rattle.stk_ctype.specs.Names.{named}
+use Rattle.stk_ctype.specs.Named.{named}
 use Rattle.stk_expr.specs.Gives.{AreRead, IsRead}
 use Rattle.stk_expr.proofs.reader.+reader.Given as goal
 

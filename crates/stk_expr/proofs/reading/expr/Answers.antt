@@ -5,7 +5,7 @@ use Rattle.stk_tree.specs.View.{view_expression}
 use Rattle.stk_tree_layout.proofs.Few.{expression_tokens-few}
 use Rattle.stk_lexeme.specs.Lexemes.{lexeme_of, lexemes_of, spans_of}
 use Rattle.stk_grammar.specs.Expressions.{IsExpression}
-use Rattle.stk_ctype.specs.Names.{named}
+use Rattle.stk_ctype.specs.Named.{named}
 use Rattle.stk_expr.proofs.Placing.{laid_unlaid, laid_is, width_of}
 use Rattle.stk_expr.proofs.reading.expr.Goals as goal
 

@@ -2,7 +2,7 @@ use Rattle.std.proofs.Common.{sym, ◌∙◌}
 use Rattle.std.proofs.lemmas.Result.{err_from_is_err_and}
 use Rattle.stk_tree.specs.View.{view_expression}
 use Rattle.stk_grammar.proofs.Stopped.{nothing_leads, stopped_by_more, stopped_some, stopped_sound, stopped_without}
-use Rattle.stk_ctype.specs.Names.{named}
+use Rattle.stk_ctype.specs.Named.{named}
 use Rattle.stk_expr.proofs.Rows.{none_of_fails}
 use Rattle.stk_expr.proofs.reading.expression.Goals as goal
 

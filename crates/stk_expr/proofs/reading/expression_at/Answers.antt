@@ -3,7 +3,7 @@ use Rattle.std.proofs.lemmas.Result.{err_from_is_err_and}
 use Rattle.std.proofs.lemmas.List.{length-drop}
 use Rattle.stk_tree.specs.View.{view_expression}
 use Rattle.stk_grammar.proofs.Laws.{Ends-stops, expression_of_found, found_unlaid, none_of_more, none_of_none}
-use Rattle.stk_ctype.specs.Names.{named}
+use Rattle.stk_ctype.specs.Named.{named}
 use Rattle.stk_expr.proofs.Rows.{none_of_fails, rest_within}
 use Rattle.stk_expr.proofs.reading.expression_at.Goals as goal
 

@@ -1,5 +1,5 @@
-use Rattle.stk_expr.specs.Gives.{named}
-use Rattle.stk_expr.proofs.Stopped.{gives_stopped}
+use Rattle.stk_ctype.specs.Named.{named}
+use Rattle.stk_expr.proofs.StoppedReading.{gives_stopped}
 use Rattle.stk_expr.proofs.reading.stopped.Goals as goal
 
 pub returns-clause-value : goal.returns-clause-value

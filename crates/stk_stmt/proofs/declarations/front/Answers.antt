@@ -1,5 +1,5 @@
 use Rattle.stk_tree.specs.View.{view_declaration}
-use Rattle.stk_ctype.specs.Names.{named}
+use Rattle.stk_ctype.specs.Named.{named}
 use Rattle.stk_stmt.proofs.Declared.{gives_front}
 use Rattle.stk_stmt.proofs.declarations.front.Goals as goal
 

@@ -1,7 +1,7 @@
 use Rattle.std.proofs.Common.{◌+◌, length, map, refl, sym, ◌∙◌}
 use Rattle.std.proofs.lemmas.Result.{err_from_is_err_and}
 use Rattle.stk_tree.specs.View.{view_label}
-use Rattle.stk_ctype.specs.Names.{named}
+use Rattle.stk_ctype.specs.Named.{named}
 use Rattle.stk_expr.proofs.Rows.{map_push}
 use Rattle.stk_stmt.proofs.Rows.{labels_go, labels_row, labels_stop, row_ends, row_fails, row_more, row_spent}
 use Rattle.stk_stmt.proofs.plain.labels.Goals as goal

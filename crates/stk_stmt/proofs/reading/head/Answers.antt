@@ -3,7 +3,7 @@ use Rattle.std.proofs.lemmas.Result.{err_from_is_err_and}
 use Rattle.stk_tree.specs.Layout.{unit_laid_out}
 use Rattle.stk_tree.specs.View.{view_unit}
 use Rattle.stk_lexeme.specs.Lexemes.{lexemes_of, spans_of}
-use Rattle.stk_ctype.specs.Names.{named}
+use Rattle.stk_ctype.specs.Named.{named}
 use Rattle.stk_expr.proofs.Rows.{none_of_fails}
 use Rattle.stk_stmt.specs.Heads.{ended_lexemes, ended_spans}
 use Rattle.stk_stmt.specs.Units.{declaration_unit_at}

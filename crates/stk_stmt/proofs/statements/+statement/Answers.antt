@@ -3,7 +3,7 @@ use Rattle.std.proofs.lemmas.Result.{err_from_is_err_and}
 use Rattle.stk_tree.specs.Syntax as s
 use Rattle.stk_tree.specs.View.{view_part, view_section, view_statement}
 use Rattle.stk_stmt_grammar.specs.Reading.{behind_first, parts_at, section_at, sections_at, statement_at, statement_on, statements_at}
-use Rattle.stk_ctype.specs.Names.{named}
+use Rattle.stk_ctype.specs.Named.{named}
 use Rattle.stk_expr.proofs.Rows.{map_push}
 use Rattle.stk_stmt.specs.Loops.{for_with}
 use Rattle.stk_stmt.proofs.Rows.{for_is, map_none, no_section_in, no_statement_in, none_begins, parts_row, row_ends, row_fails, row_more, row_spent, section_in, sections_row, statement_in, statements_go, statements_row, statements_stop}
