@@ -40,7 +40,7 @@ impl Lit {
 }
 
 /// Whether the literal is one of these.
-fn is_among(literals: &[Lit], lit: Lit) -> bool
+pub fn is_among(literals: &[Lit], lit: Lit) -> bool
     ensures { IsTrue result ↔ Contains literals.now lit }
 {
     for other in literals {

@@ -1,13 +1,13 @@
 // Clauses over edges, as clauses over the variables that the edges' gates have.
-ghost use Rattle.std.specs.Prelude.{◌≡◌, ℕ, ◌+◌, ◌*◌, ◌/◌, ◌^◌, ◌-◌, ◌<◌, ◌≤◌, ◌∷◌, ◌++◌, [], Bool, true, ◌&&◌, ◌||◌, length, slice_index, IfOk, OnOk, OnErr, MatchOption, IfSome, IsTrue, ◌↔◌};
-ghost use Rattle.std.specs.List.{All, Contains};
+ghost use Rattle.std.specs.Prelude.{◌≡◌, ℕ, ◌+◌, ◌*◌, ◌/◌, ◌^◌, ◌-◌, ◌<◌, ◌≤◌, ◌∷◌, ◌++◌, [], Bool, true, ◌&&◌, ◌||◌, length, slice_index, IfOk, OnOk, OnErr, MatchOption, IfSome};
+ghost use Rattle.std.specs.List.{All};
 ghost use Rattle.stk_clauses.specs.Literals.{literal_value, AreBelow, AreDistinct};
 ghost use Rattle.stk_gates.specs.Edges.{edge_value};
 ghost use Rattle.stk_cnf.specs.Clauses.{clause_value, cnf_value, some_edge, named, ties, HasName, IsGrown, IsPutAlone};
 
 use std::alloc::Global;
 use stk_base::NoMemory;
-use stk_clauses::{Lit, Store};
+use stk_clauses::{Lit, Store, is_among};
 use stk_gates::Edge;
 
 /// The literal of an edge whose gate has a variable.
@@ -20,18 +20,6 @@ fn literal(names: &[u32], edge: Edge) -> Lit
 {
     let name = names[(edge.0 / 2) as usize];
     Lit(2 * name + edge.0 % 2)
-}
-
-/// Whether the literal stands in the clause.
-fn is_among(clause: &[Lit], lit: Lit) -> bool
-    ensures { IsTrue result ↔ Contains clause.now lit }
-{
-    for other in clause {
-        if other.0 == lit.0 {
-            return true;
-        }
-    }
-    false
 }
 
 /// Puts a literal into a clause, if it isn't there.
