@@ -151,9 +151,9 @@ fn agrees(alloc: Global, call: Call, width: u32, pairs: &[(u128, u128)]) -> Resu
 /// All pairs of 4-bit numbers.
 fn small_pairs(alloc: Global) -> Result<Vec<(u128, u128)>, NoMemory> {
     let mut pairs = Vec::new(alloc);
-    for x in 0..16u128 {
-        for y in 0..16u128 {
-            pairs.push((x, y))?;
+    for x in 0..16u32 {
+        for y in 0..16u32 {
+            pairs.push((u128::from(x), u128::from(y)))?;
         }
     }
     Ok(pairs)

@@ -32,7 +32,7 @@ pub prefix_more : (before middle after : Option (List ℕ)) (a b rest : List ℕ
 prefix_more before middle after a b rest first (front, back, same, second) =
     let whole : a ++ (b ++ rest) ≡ (a ++ front) ++ (back ++ rest) =
     ap (λ (u : List ℕ). a ++ (u ++ rest)) same ∙ ap (λ (u : List ℕ). a ++ u) (append_assoc front back rest) ∙ sym (append_assoc a front (back ++ rest)) in
-    (a ++ prefix, back ++ rest, whole, appended_more before middle after a front first second)
+    (a ++ front, back ++ rest, whole, appended_more before middle after a front first second)
 
 -- what was taken is a prefix of that and more
 pub prefix_of : (before after : Option (List ℕ)) (a rest : List ℕ) → AppendedPrefix before after a → AppendedPrefix before after (a ++ rest)
@@ -235,5 +235,5 @@ module _ (bytes : List ℕ) (kept : List Token) (pieces : List Piece) (units : A
     text = w.lines ++ summary_text counts;
     status = status_of counts.unstable;
     lawful = lawful w.lines counts w.are;
-    written = (w.lines ++ prefix, back, ap (λ (u : List ℕ). w.lines ++ u) same ∙ sym (append_assoc w.lines front back), appended_more before middle after w.lines front w.written taken);
+    written = (w.lines ++ front, back, ap (λ (u : List ℕ). w.lines ++ u) same ∙ sym (append_assoc w.lines front back), appended_more before middle after w.lines front w.written taken);
   }

@@ -1,14 +1,14 @@
-use Rattle.std.proofs.Common.{arith}
+use Rattle.std.proofs.Common.{◌∙◌, refl, arith}
 use Rattle.stk_lint.proofs.lint.cut_into_units.Goals as goal
 
-pub cut-requires-clause-few : goal.cut-requires-clause-few
-cut-requires-clause-few c = omega (arith, c.in_ok-skimmed.ensures.few, c.requires)
+pub cut-requires : goal.cut-requires
+cut-requires c = omega (arith, c.in_ok-skimmed.ensures.few, c.requires)
 
-pub cut-requires-clause-spans : goal.cut-requires-clause-spans
-cut-requires-clause-spans c = c.in_ok-skimmed.ensures.spans
-
-pub cut-requires-clause-positions : goal.cut-requires-clause-positions
-cut-requires-clause-positions c = c.in_ok-skimmed.ensures.positions
+pub returns-clause-are : goal.returns-clause-are
+returns-clause-are c =
+    let skimmed = c.in_ok-skimmed.ensures in
+    let pieces = c.in_ok-pieces.ensures.units (record { spans = skimmed.spans; positions = skimmed.positions }) in
+    record { tokens = skimmed.tokens; cut = skimmed.cut; same_tokens = skimmed.same_tokens; same_pieces = pieces ∙ rw skimmed.same_notes refl }
 
 pub returns-clause-few : goal.returns-clause-few
 returns-clause-few c = omega (arith, c.in_ok-skimmed.ensures.few, c.requires)
