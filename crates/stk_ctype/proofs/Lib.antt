@@ -4,4 +4,6 @@ pub mod Noting
 pub mod Views
 pub mod SizesOfTypes
 pub mod Placing
-pub mod Layering
+pub mod Turning
+pub mod Building
+pub mod Staying

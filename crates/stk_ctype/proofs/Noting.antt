@@ -27,7 +27,7 @@ use Rattle.stk_ctype.specs.Index.{IsIndexOf}
 use Rattle.stk_ctype.specs.Facts.{symbol_word, symbol_words, tag_word, tag_words, entry_at, IsKept, AreLawful, AreFactsOf, IsNewLayout}
 
 -- ---- lists
-default-append : {X : Type 0} (xs : List X) (d : X) (i : ℕ) → slice_index_or (xs ++ d ∷ []) i d ≡ slice_index_or xs i d
+pub default-append : {X : Type 0} (xs : List X) (d : X) (i : ℕ) → slice_index_or (xs ++ d ∷ []) i d ≡ slice_index_or xs i d
 default-append [] d zero = refl
 default-append [] d (suc i) = refl
 default-append (x ∷ xs) d zero = refl

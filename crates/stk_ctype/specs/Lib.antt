@@ -5,4 +5,5 @@ pub mod Sound
 pub mod Names
 pub mod Index
 pub mod Facts
-pub mod Layers
+pub mod Turns
+pub mod Parts

@@ -1,109 +1,95 @@
-// Copies of types. Pointers, arrays and results are walked by loops, so that a long chain of them takes no stack.
-ghost use Rattle.std.specs.Prelude.{◌≡◌, IfOk};
-ghost use Rattle.stk_ctype.specs.Layers.{wrapped, wrapped_in};
+// Copies of types. A type is listed part by part, and then built from its last part to its first, so that no nesting of types
+// takes stack.
+ghost use Rattle.std.specs.Prelude.{◌≡◌, ◌≤◌, [], ◌∷◌, ◌++◌, length, map, reverse, IfOk, OnOk, List};
+ghost use Rattle.stk_ctype.specs.declared.ctype.CType.{CType};
+ghost use Rattle.stk_ctype.specs.Parts.{parts, Builds};
 
 use crate::{CType, Signature};
 use std::alloc::Global;
 use stk_base::{Boxed, List, NoMemory};
-
-/// What stands round a type: a pointer to it, an array of it, a function with this result.
-#[derive(Drop)]
-enum Layer {
-    Pointer,
-    Array(Option<u64>),
-    Function {
-        params: List<CType>,
-        more: bool,
-        no_return: bool,
-    },
-}
 
 impl CType {
     /// An equal type.
     pub fn copy(&self, alloc: Global) -> Result<CType, NoMemory>
         ensures { IfOk result (λ new. new ≡ self.now) }
     {
-        copy_type(alloc, self)
-    }
-}
-
-/// An equal type. It goes down pointers, arrays and results by a loop, and calls itself for parameters alone.
-#[cycle(copy)]
-#[tactic(auto, using(crate::proofs::Layering::layering))]
-fn copy_type(alloc: Global, ty: &CType) -> Result<CType, NoMemory>
-    ensures { IfOk result (λ new. new ≡ ty.now) }
-{
-    let mut layers = Vec::new(alloc);
-    let mut at = ty;
-    loop {
-        match at {
-            CType::Pointer(inner) => {
-                layers.push(Layer::Pointer)?;
-                at = inner.get();
-            }
-            CType::Array(inner, count) => {
-                layers.push(Layer::Array(*count))?;
-                at = inner.get();
-            }
-            CType::Function(inner) => {
-                let signature = inner.get();
-                layers.push(Layer::Function {
-                    params: copy_types(alloc, signature.params.as_slice())?,
-                    more: signature.more,
-                    no_return: signature.no_return,
-                })?;
-                at = &signature.result;
-            }
-            CType::Void => return wrap_in(alloc, layers, CType::Void),
-            CType::Int(kind) => return wrap_in(alloc, layers, CType::Int(*kind)),
-            CType::Struct(id) => return wrap_in(alloc, layers, CType::Struct(*id)),
+        let mut left = list_parts(alloc, self)?;
+        let mut built = Vec::new(alloc);
+        while let Some(at) = left.pop() {
+            let next = build_one(alloc, &mut built, at)?;
+            built.push(next)?;
+        }
+        match built.pop() {
+            Some(new) => Ok(new),
+            None => unreachable!(),
         }
     }
 }
 
-/// Copies of types in a row.
-#[cycle(copy)]
-fn copy_types(alloc: Global, types: &[CType]) -> Result<List<CType>, NoMemory>
-    ensures { IfOk result (λ new. new ≡ types.now) }
+/// A type and all that is in it, each type before its parts, and before each part those that are pushed behind it.
+fn list_parts<'a>(alloc: Global, ty: &'a CType) -> Result<Vec<&'a CType>, NoMemory>
+    ensures { IfOk result (λ order. Builds ty.now (reverse (map (λ t. t.now) order.items)) []) }
 {
-    let mut all = Vec::new(alloc);
-    for i in 0..types.len() {
-        all.push(copy_type(alloc, &types[i])?)?;
+    let mut order = Vec::new(alloc);
+    let mut waiting = Vec::new(alloc);
+    waiting.push(ty)?;
+    while let Some(at) = waiting.pop() {
+        order.push(at)?;
+        push_parts(&mut waiting, at)?;
     }
-    Ok(List::from_vec(all))
+    Ok(order)
 }
 
-/// A type with layers round it, the outermost first.
-#[tactic(auto, using(crate::proofs::Layering::layering))]
-fn wrap_in(alloc: Global, mut layers: Vec<Layer>, inner: CType) -> Result<CType, NoMemory>
-    ensures { IfOk result (λ t. t ≡ wrapped_in layers.items inner) }
+/// Puts the parts of a type behind those that wait.
+fn push_parts<'a>(waiting: &mut Vec<&'a CType>, at: &'a CType) -> Result<(), NoMemory>
+    ensures { OnOk result (map (λ t. t.now) waiting.new.items ≡ map (λ t. t.now) waiting.old.items ++ parts at.now) }
 {
-    let mut ty = inner;
-    while let Some(layer) = layers.pop() {
-        ty = wrap(alloc, layer, ty)?;
+    match at {
+        CType::Pointer(inner) | CType::Array(inner, _) => waiting.push(inner.get())?,
+        CType::Function(inner) => {
+            let signature = inner.get();
+            waiting.push(&signature.result)?;
+            for param in signature.params.as_slice() {
+                waiting.push(param)?;
+            }
+        }
+        CType::Void | CType::Int(_) | CType::Struct(_) => {}
     }
-    Ok(ty)
+    Ok(())
 }
 
-/// A type with one layer round it.
-fn wrap(alloc: Global, layer: Layer, inner: CType) -> Result<CType, NoMemory>
-    ensures { IfOk result (λ t. t ≡ wrapped layer inner) }
+/// A type equal to one whose parts are the last ones built; they are taken away.
+fn build_one(alloc: Global, built: &mut Vec<CType>, at: &CType) -> Result<CType, NoMemory>
+    requires { length (parts at.now) ≤ length built.old.items }
+    ensures { IfOk result (λ new. (rest : List CType) → built.old.items ≡ rest ++ parts at.now → (new ≡ at.now) × (built.new.items ≡ rest)) }
 {
-    match layer {
-        Layer::Pointer => Ok(CType::Pointer(Boxed::new(alloc, inner)?)),
-        Layer::Array(count) => Ok(CType::Array(Boxed::new(alloc, inner)?, count)),
-        Layer::Function {
-            params,
-            more,
-            no_return,
-        } => {
+    match at {
+        CType::Void => Ok(CType::Void),
+        CType::Int(kind) => Ok(CType::Int(*kind)),
+        CType::Struct(id) => Ok(CType::Struct(*id)),
+        CType::Pointer(_) => Ok(CType::Pointer(Boxed::new(alloc, take_last(built))?)),
+        CType::Array(_, count) => Ok(CType::Array(Boxed::new(alloc, take_last(built))?, *count)),
+        CType::Function(inner) => {
+            let old = inner.get();
+            let params = built.split_off(built.len() - old.params.len())?;
             let signature = Signature {
-                result: inner,
-                params,
-                more,
-                no_return,
+                result: take_last(built),
+                params: List::from_vec(params),
+                more: old.more,
+                no_return: old.no_return,
             };
             Ok(CType::Function(Boxed::new(alloc, signature)?))
         }
+    }
+}
+
+/// The last type of a list, which is taken away.
+fn take_last(built: &mut Vec<CType>) -> CType
+    requires { 1 ≤ length built.old.items }
+    ensures { built.old.items ≡ built.new.items ++ result ∷ [] }
+{
+    match built.pop() {
+        Some(last) => last,
+        None => unreachable!(),
     }
 }

@@ -1,3 +1,6 @@
+ghost use Rattle.std.specs.Prelude.{◌≡◌, [], ◌∷◌, ◌++◌, MatchOption};
+ghost use Rattle.stk_ctype.specs.Turns.{IsOpened};
+
 use crate::IntKind;
 use std::mem;
 use stk_base::{Boxed, List};
@@ -6,7 +9,6 @@ use stk_base::{Boxed, List};
 /// where that is known, a struct by its number, a function.
 ///
 /// Structs are numbered from 0 in the order in which names declare them.
-#[derive(Debug)]
 #[cycle(ctype)]
 pub enum CType {
     Void,
@@ -19,7 +21,7 @@ pub enum CType {
 
 /// What a function takes and gives: its result, its parameters in order, whether it takes more arguments, and whether it is
 /// marked as one that doesn't return.
-#[derive(Debug, Drop)]
+#[derive(Drop)]
 #[cycle(ctype)]
 pub struct Signature {
     pub result: CType,
@@ -28,8 +30,38 @@ pub struct Signature {
     pub no_return: bool,
 }
 
+/// A type taken apart by one step: nothing is in it, one type is in it, or it is a function.
+enum Opened {
+    Nothing,
+    Inner(CType),
+    Function(Boxed<Signature>),
+}
+
+impl CType {
+    /// What is in a type.
+    fn open(self) -> Opened
+        ensures { IsOpened self result }
+    {
+        match self {
+            CType::Pointer(inner) => Opened::Inner(inner.into_inner()),
+            CType::Array(inner, _) => Opened::Inner(inner.into_inner()),
+            CType::Function(inner) => Opened::Function(inner),
+            CType::Void | CType::Int(_) | CType::Struct(_) => Opened::Nothing,
+        }
+    }
+}
+
+/// The types of a row before the last one, and the last one, where the row has one.
+fn split_last(row: List<CType>) -> (List<CType>, Option<CType>)
+    ensures { MatchOption result.1 ((row ≡ []) × (result.0 ≡ [])) (λ last. row ≡ result.0 ++ last ∷ []) }
+{
+    let mut items = row.into_vec();
+    let last = items.pop();
+    (List::from_vec(items), last)
+}
+
 impl Drop for CType {
-    /// Goes down pointers, arrays and results by a loop, so that a long chain of them takes no stack.
+    /// Goes down by loops, so that no nesting of types takes stack.
     #[cycle(ctype_drop)]
     fn drop(mut self) {
         loop {
@@ -43,10 +75,63 @@ impl Drop for CType {
                         more: _,
                         no_return: _,
                     } = inner.into_inner();
-                    mem::drop(params);
-                    self = result;
+                    return drop_row(result, params);
                 }
                 CType::Void | CType::Int(_) | CType::Struct(_) => return,
+            }
+        }
+    }
+}
+
+/// Drops a type and the types of a row.
+///
+/// A function that is met takes the row at hand, and the function that keeps the row outside, into the places of its own
+/// parameters and result. So the rows that wait hang on `outer`, and it takes neither stack nor memory.
+#[cycle(ctype_drop)]
+fn drop_row(first: CType, types: List<CType>) {
+    let mut at = first;
+    let mut row = types;
+    let mut outer = CType::Void;
+    loop {
+        match at.open() {
+            Opened::Inner(inner) => at = inner,
+            Opened::Function(mut inner) => {
+                let signature = inner.get_mut();
+                row = mem::replace(&mut signature.params, row);
+                at = mem::replace(&mut signature.result, outer);
+                outer = CType::Function(inner);
+            }
+            Opened::Nothing => {
+                let (rest, last) = split_last(row);
+                match last {
+                    Some(next) => {
+                        at = next;
+                        row = rest;
+                    }
+                    None => match outer.open() {
+                        Opened::Function(inner) => {
+                            let Signature {
+                                result,
+                                params,
+                                more: _,
+                                no_return: _,
+                            } = inner.into_inner();
+                            mem::drop(rest);
+                            row = params;
+                            outer = result;
+                            at = CType::Void;
+                        }
+                        Opened::Inner(inner) => {
+                            at = inner;
+                            row = rest;
+                            outer = CType::Void;
+                        }
+                        Opened::Nothing => {
+                            mem::drop(rest);
+                            return;
+                        }
+                    },
+                }
             }
         }
     }

@@ -1,9 +1,9 @@
-ghost use Rattle.std.specs.Prelude.{◌≡◌, ◌<◌, ◌≤◌, ◌-◌, ◌^◌, [], ◌∷◌, ◌++◌, length, take, IfOk, OnOk, OnErr};
+ghost use Rattle.std.specs.Prelude.{◌≡◌, ◌<◌, ◌≤◌, ◌-◌, ◌^◌, [], ◌∷◌, ◌++◌, length, take, IfOk, IfSome, OnOk, OnErr};
 ghost use Rattle.std.specs.Option.{option_copied, option_map};
 ghost use Rattle.stk_ctype.specs.Facts.{symbol_in, IsNewLayout};
 ghost use Rattle.stk_ctype.specs.Names.{find, is_type, struct_count, tag_of};
 ghost use Rattle.stk_ctype.specs.Structs.{structs_of};
-ghost use Rattle.stk_ctype.specs.Sound.{RestsOn};
+ghost use Rattle.stk_ctype.specs.Sound.{IsSoundSymbol, RestsOn};
 
 use crate::facts::{Facts, Layout};
 use crate::{NameEntry, Symbol, Tag};
@@ -116,9 +116,10 @@ impl Names {
     }
 
     /// What a name means: the meaning in the last entry of this name, and `None` exactly where no entry has it. The name is
-    /// given as bytes.
+    /// given as bytes, and the types in its meaning are sound.
     pub fn find(&self, name: &[u8]) -> Option<&Symbol>
-        ensures { option_copied result ≡ find name.now self.now }
+        ensures value { option_copied result ≡ find name.now self.now }
+        ensures sound { IfSome (option_copied result) (IsSoundSymbol (structs_of self.now)) }
     {
         let Some(place) = self.facts.symbols.get(name) else {
             return None;

@@ -1,5 +1,5 @@
 // Sizes, alignments and members under the names in force.
-ghost use Rattle.std.specs.Prelude.{◌≡◌, ◌≤◌, ◌+◌, ◌*◌, length, IfOk};
+ghost use Rattle.std.specs.Prelude.{◌≡◌, ◌≤◌, ◌+◌, ◌*◌, length, IfOk, IfSome};
 ghost use Rattle.std.specs.Option.{option_copied, option_map};
 ghost use Rattle.stk_ctype.specs.Facts.{IsKept};
 ghost use Rattle.stk_ctype.specs.Kinds.{bytes_of};
@@ -177,9 +177,11 @@ impl Names {
 
     /// The member of a name that a type has: its offset in bytes and its type (C11 6.5.2.3).
     ///
-    /// `None` exactly where the type isn't a struct that has a member of this name. The name is given as bytes.
+    /// `None` exactly where the type isn't a struct that has a member of this name. The name is given as bytes, and the
+    /// member's type is sound.
     pub fn member(&self, ty: &CType, name: &[u8]) -> Option<(u64, &CType)>
-        ensures { option_map (λ p. (p.0, p.1.now)) result ≡ member_of (structs_of self.now) (type_of ty.now) name.now }
+        ensures sound { IfSome result (λ p. IsSound (structs_of self.now) (type_of p.1.now)) }
+        ensures value { option_map (λ p. (p.0, p.1.now)) result ≡ member_of (structs_of self.now) (type_of ty.now) name.now }
     {
         let CType::Struct(id) = ty else {
             return None;

@@ -3,7 +3,7 @@ use stk_base::List;
 
 /// What an ordinary identifier means (C11 6.2.3): a typedef name for a type, an object of a type, a function, or an
 /// enumerator with its value.
-#[derive(Debug, Drop)]
+#[derive(Drop)]
 pub enum Symbol {
     TypeDef(CType),
     Object(CType),
@@ -12,7 +12,7 @@ pub enum Symbol {
 }
 
 /// A member of a struct: its name, as bytes, and its type.
-#[derive(Debug, Drop)]
+#[derive(Drop)]
 pub struct MemberInfo {
     pub name: List<u8>,
     pub ty: CType,
@@ -22,7 +22,7 @@ pub struct MemberInfo {
 /// its members, in order; the tag of an enumeration is declared.
 ///
 /// The number of a struct counts the `Struct` entries before its own.
-#[derive(Debug, Drop)]
+#[derive(Drop)]
 pub enum NameEntry {
     Symbol { name: List<u8>, symbol: Symbol },
     Struct { tag: Option<List<u8>> },

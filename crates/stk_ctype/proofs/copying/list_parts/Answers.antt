@@ -1,0 +1,5 @@
+use Rattle.stk_ctype.proofs.Building.{less_listed}
+use Rattle.stk_ctype.proofs.copying.list_parts.Goals as goal
+
+pub loop-at-smaller : goal.loop-at-smaller
+loop-at-smaller c = less_listed (λ t. t.now) c.loop-at.waiting.items _ c.in-Some.at _ c.in-Some.ensures.items c.in_ok-push_parts.ensures
