@@ -1,12 +1,12 @@
 -- Types are listed with their parts, and built from them again.
-use Rattle.std.proofs.Common.{◌≡◌, ◌≤◌, ◌<◌, ◌+◌, ℕ, Bool, Option, ◌-◌, length, map, take, drop, append_assoc, length-append, arith, List, [], ◌∷◌, ◌++◌, refl, ap, sym, subst, ◌∙◌}
+use Rattle.std.proofs.Common.{◌≡◌, ◌<◌, ◌+◌, ℕ, ◌-◌, length, map, take, drop, append_assoc, length-append, arith, List, [], ◌∷◌, ◌++◌, ap, sym, ◌∙◌}
 use Rattle.std.proofs.lemmas.List.{map-append, same_from_push}
 use Rattle.std.proofs.Math.Seq.{take-append_seam, drop-append_seam}
 use Rattle.stk_ctype.specs.declared.ctype.CType.{CType, CType-F, map-CType, out-CType, roll-CType, roll-out-CType, fold-roll-CType}
 use Rattle.stk_ctype.specs.declared.ctype.Signature.{Signature, roll-Signature, out-Signature, roll-out-Signature}
 use Rattle.stk_ctype.specs.declared.ctype.CType.TheVariants as ctype
 use Rattle.stk_ctype.specs.Types.{TypeTree, SignatureTree, type_step, signature_step, type_of, signature_of}
-use Rattle.stk_ctype.specs.Parts.{parts_in, parts, Builds}
+use Rattle.stk_ctype.specs.Parts.{parts_in, parts}
 use Rattle.stk_ctype.specs.Turns.{turns, turns_of_types}
 use Rattle.stk_ctype.proofs.Turning.{view_called}
 

@@ -1,5 +1,5 @@
 -- Types that are sound stay sound as entries are added.
-use Rattle.std.proofs.Common.{◌≡◌, ◌≤◌, ◌<◌, ◌+◌, ◌⊎◌, ℕ, suc, zero, Bool, true, false, cond, List, [], ◌∷◌, ◌++◌, Option, Some, None, IsSome, length, refl, sym, ap, subst, ◌∙◌, inl, inr, arith, length-append}
+use Rattle.std.proofs.Common.{◌≡◌, ◌≤◌, ◌<◌, ◌⊎◌, ℕ, suc, zero, Bool, true, false, cond, List, [], ◌∷◌, Option, Some, None, IsSome, length, refl, sym, ap, subst, ◌∙◌, inl, inr, arith, length-append}
 use mathlib.Core.Logic.{⊎_elim}
 use Rattle.std.specs.Prelude.{IfSome, slice_index_or}
 use Rattle.std.specs.Option.{option_map}
@@ -15,10 +15,10 @@ use Rattle.stk_ctype.specs.declared.symbol.NameEntry.TheVariants as entry
 use Rattle.stk_ctype.specs.declared.facts.Layout.{Layout}
 use Rattle.stk_ctype.specs.declared.facts.Facts.{Facts}
 use Rattle.stk_ctype.specs.Types.{TypeTree, void_type, integer_type, pointer_type, array_type, struct_type, function_type, SignatureTree, signature, TypeTrees, no_types, then_type, type_of, signature_of}
-use Rattle.stk_ctype.specs.Structs.{Structs, StructLayout, struct_at, array_size, size_of, after, structs_behind, structs_of, laid_out, member_named, member_in, member_of}
+use Rattle.stk_ctype.specs.Structs.{Structs, StructLayout, struct_at, array_size, size_of, after, structs_behind, structs_of, laid_out, member_named}
 use Rattle.stk_ctype.specs.Sound.{IsWithinLimit, IsSound, IsSoundSignature, AreSound, AreMembers, IsSoundSymbol, RestsOn}
 use Rattle.stk_ctype.specs.Names.{later_of, symbol_named, find}
-use Rattle.stk_ctype.specs.Facts.{AreLawful, AreFactsOf, IsKept, entry_at}
+use Rattle.stk_ctype.specs.Facts.{AreLawful, AreFactsOf, IsKept}
 use Rattle.stk_ctype.proofs.Noting.{default-append}
 use Rattle.stk_ctype.proofs.SizesOfTypes.{struct_within}
 

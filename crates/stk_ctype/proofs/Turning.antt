@@ -1,5 +1,5 @@
 -- The loop that drops a type comes nearer to its end.
-use Rattle.std.proofs.Common.{◌≡◌, ◌≤◌, ◌<◌, ◌+◌, ℕ, Bool, Option, Some, None, MatchOption, length, map, arith, List, [], ◌∷◌, ◌++◌, refl, ap, sym, subst, ◌∙◌}
+use Rattle.std.proofs.Common.{◌≡◌, ◌<◌, ◌+◌, ℕ, Bool, Option, Some, None, MatchOption, map, arith, List, [], ◌∷◌, ◌++◌, ap, sym, subst, ◌∙◌}
 use denote.Param.Weighed.{most}
 use Rattle.stk_ctype.specs.declared.ctype.CType.{CType, size_is-CType}
 use Rattle.stk_ctype.proofs.ctype.CType.TheLaws.{the_size}

@@ -1,7 +1,6 @@
 -- What names and tags mean under the entries that are in force (C11 6.2.1, 6.2.3).
 use Rattle.std.specs.Prelude.{ℕ, ◌+◌, Bool, true, false, if◌then◌else◌, List, [], ◌∷◌, Option, Some, None, sum_by}
-use Rattle.stk_base.specs.declared.span.Span.{Span}
-use Rattle.stk_base.specs.Text.{same_text, text_of}
+use Rattle.stk_base.specs.Text.{same_text}
 use Rattle.stk_ctype.specs.declared.symbol.Symbol.{Symbol}
 use Rattle.stk_ctype.specs.declared.symbol.Symbol.TheVariants as symbol
 use Rattle.stk_ctype.specs.declared.symbol.NameEntry.{NameEntry}
@@ -37,10 +36,6 @@ is_type_definition (Some (symbol.Enumerator v)) = false
 -- a name is a typedef name
 abbrev pub is_type : List ℕ → List NameEntry → Bool
 is_type name es = is_type_definition (find name es)
-
--- the word at a span of some bytes is a typedef name in force
-unfoldable pub named : List ℕ → List NameEntry → Span → Bool
-named bytes es at = is_type (text_of bytes at) es
 
 -- how many structs an entry declares
 abbrev pub structs_in : NameEntry → ℕ

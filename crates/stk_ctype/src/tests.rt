@@ -95,164 +95,99 @@ fn stand_at(names: &Names, ty: &CType, rows: &[Row], offsets: &[u64]) -> bool {
     rows.len() == offsets.len() && names.member(ty, b"none").is_none()
 }
 
+// The members of a struct, its size, and the offsets of the members.
+type StructRow = (&'static [Row], u64, &'static [u64]);
+
+static STRUCTS: [StructRow; 6] = [
+    (&[("c", CHAR), ("i", INT)], 8, &[0, 4]),
+    (
+        &[("c", CHAR), ("s", &[Part::Struct(0)]), ("h", SHORT)],
+        16,
+        &[0, 4, 12],
+    ),
+    (
+        &[("t", &[Part::Struct(1), Part::Array(3)]), ("e", CHAR)],
+        52,
+        &[0, 48],
+    ),
+    (
+        &[
+            ("n", CHAR),
+            ("tail", &[Part::Kind(IntKind::Long), Part::Open]),
+        ],
+        8,
+        &[0, 8],
+    ),
+    (
+        &[
+            ("b", &[Part::Kind(IntKind::Bool)]),
+            ("l", LONG),
+            ("p", &[Part::Pointer]),
+            ("u", CHAR),
+        ],
+        32,
+        &[0, 8, 16, 24],
+    ),
+    (
+        &[("m", &[Part::Struct(4), Part::Array(3), Part::Array(2)])],
+        192,
+        &[0],
+    ),
+];
+
 #[test]
 fn structs_are_laid_out(rt: HostRuntime) -> Result<(), Fail> {
     let mut names = Names::new(rt.alloc());
-    let rows: [(&[Row], u64, &[u64]); 8] = [
-        (&[("c", CHAR), ("i", INT)], 8, &[0, 4]),
-        (
-            &[("c", CHAR), ("s", &[Part::Struct(0)]), ("h", SHORT)],
-            16,
-            &[0, 4, 12],
-        ),
-        (
-            &[("t", &[Part::Struct(1), Part::Array(3)]), ("e", CHAR)],
-            52,
-            &[0, 48],
-        ),
-        (
-            &[
-                ("n", INT),
-                ("tail", &[Part::Kind(IntKind::Char), Part::Open]),
-            ],
-            4,
-            &[0, 4],
-        ),
-        (
-            &[
-                ("n", CHAR),
-                ("tail", &[Part::Kind(IntKind::Long), Part::Open]),
-            ],
-            8,
-            &[0, 8],
-        ),
-        (
-            &[
-                ("b", &[Part::Kind(IntKind::Bool)]),
-                ("l", LONG),
-                ("p", &[Part::Pointer]),
-                ("u", CHAR),
-            ],
-            32,
-            &[0, 8, 16, 24],
-        ),
-        (
-            &[
-                ("c", &[Part::Kind(IntKind::Char), Part::Array(5)]),
-                ("h", &[Part::Kind(IntKind::Short), Part::Array(3)]),
-            ],
-            12,
-            &[0, 6],
-        ),
-        (
-            &[("m", &[Part::Struct(5), Part::Array(3), Part::Array(2)])],
-            192,
-            &[0],
-        ),
-    ];
-    for (members, whole, offsets) in rows {
+    for (members, whole, offsets) in &STRUCTS {
         let id = names.structs();
         add(&rt, &mut names, NameEntry::Struct { tag: None })?;
         assert!(rt; size(&rt, &names, &CType::Struct(id)).is_none());
         complete(&rt, rt.alloc(), &mut names, id, members)?;
-        assert!(rt; size(&rt, &names, &CType::Struct(id)) == Some(whole));
+        assert!(rt; size(&rt, &names, &CType::Struct(id)) == Some(*whole));
         assert!(rt; stand_at(&names, &CType::Struct(id), members, offsets));
     }
     Ok(())
 }
 
+const LARGEST: &[Part] = &[Part::Kind(IntKind::Char), Part::Array(2_147_483_647)];
+
+static SIZES: [(&[Part], Option<u64>); 6] = [
+    (
+        &[Part::Kind(IntKind::Int), Part::Array(4), Part::Array(3)],
+        Some(48),
+    ),
+    (LARGEST, Some(2_147_483_647)),
+    (&[Part::Pointer, Part::Array(7)], Some(56)),
+    (&[Part::Struct(0), Part::Pointer], Some(8)),
+    (&[], None),
+    (&[Part::Kind(IntKind::Int), Part::Open], None),
+];
+
 #[test]
 fn types_have_sizes(rt: HostRuntime) -> Result<(), Fail> {
     let mut names = Names::new(rt.alloc());
     add(&rt, &mut names, NameEntry::Struct { tag: None })?;
-    let rows: [(&[Part], Option<u64>); 12] = [
-        (&[Part::Kind(IntKind::Bool)], Some(1)),
-        (&[Part::Kind(IntKind::UShort)], Some(2)),
-        (&[Part::Kind(IntKind::ULong)], Some(8)),
-        (
-            &[Part::Kind(IntKind::Int), Part::Array(4), Part::Array(3)],
-            Some(48),
-        ),
-        (
-            &[Part::Kind(IntKind::Char), Part::Array(2_147_483_647)],
-            Some(2_147_483_647),
-        ),
-        (&[Part::Pointer], Some(8)),
-        (&[Part::Pointer, Part::Array(7)], Some(56)),
-        (
-            &[Part::Kind(IntKind::Int), Part::Array(3), Part::Pointer],
-            Some(8),
-        ),
-        (&[Part::Struct(0), Part::Pointer], Some(8)),
-        (&[Part::Struct(0)], None),
-        (&[], None),
-        (&[Part::Kind(IntKind::Int), Part::Open], None),
-    ];
-    for (parts, answer) in rows {
+    for (parts, answer) in &SIZES {
         let ty = type_from(rt.alloc(), parts)?;
-        assert!(rt; size(&rt, &names, &ty) == answer);
+        assert!(rt; size(&rt, &names, &ty) == *answer);
     }
     Ok(())
 }
 
+static LIMITS: [(&[Row], Option<u64>); 4] = [
+    (&[("c", LARGEST)], Some(2_147_483_647)),
+    (&[("c", CHAR), ("d", LARGEST)], None),
+    (&[], None),
+    (&[("tail", &[Part::Kind(IntKind::Char), Part::Open])], None),
+];
+
 #[test]
 fn a_struct_meets_the_limit(rt: HostRuntime) -> Result<(), Fail> {
     let names = Names::new(rt.alloc());
-    let rows: [(&[Row], Option<u64>); 7] = [
-        (
-            &[(
-                "c",
-                &[Part::Kind(IntKind::Char), Part::Array(2_147_483_647)],
-            )],
-            Some(2_147_483_647),
-        ),
-        (
-            &[
-                (
-                    "c",
-                    &[Part::Kind(IntKind::Char), Part::Array(2_147_483_640)],
-                ),
-                ("i", INT),
-            ],
-            Some(2_147_483_644),
-        ),
-        (
-            &[
-                (
-                    "c",
-                    &[Part::Kind(IntKind::Char), Part::Array(2_147_483_641)],
-                ),
-                ("i", INT),
-            ],
-            None,
-        ),
-        (
-            &[
-                ("i", INT),
-                (
-                    "c",
-                    &[Part::Kind(IntKind::Char), Part::Array(2_147_483_641)],
-                ),
-            ],
-            None,
-        ),
-        (
-            &[
-                ("c", CHAR),
-                (
-                    "d",
-                    &[Part::Kind(IntKind::Char), Part::Array(2_147_483_647)],
-                ),
-            ],
-            None,
-        ),
-        (&[], None),
-        (&[("tail", &[Part::Kind(IntKind::Char), Part::Open])], None),
-    ];
-    for (rows, answer) in rows {
+    for (rows, answer) in &LIMITS {
         let members = members_from(rt.alloc(), rows)?;
         assert!(rt; are_members(&names, members.as_slice()));
-        assert!(rt; names.layout(members.as_slice()) == answer);
+        assert!(rt; names.layout(members.as_slice()) == *answer);
     }
     Ok(())
 }
@@ -313,76 +248,70 @@ fn value(names: &Names, name: &[u8]) -> Option<i128> {
     }
 }
 
+static NAMES: [(&str, What); 6] = [
+    ("a", What::Value(1)),
+    ("", What::Value(2)),
+    ("t", What::Type),
+    ("a", What::Value(3)),
+    ("t", What::Object),
+    ("a", What::Type),
+];
+
+// How many entries are left, the values of a and of the empty name, and whether a and t are typedef names.
+static MEANINGS: [(u32, Option<i128>, Option<i128>, bool, bool); 5] = [
+    (6, None, Some(2), true, false),
+    (5, Some(3), Some(2), false, false),
+    (4, Some(3), Some(2), false, true),
+    (2, Some(1), Some(2), false, false),
+    (0, None, None, false, false),
+];
+
 #[test]
 fn the_last_entry_of_a_name_counts(rt: HostRuntime) -> Result<(), Fail> {
     let mut names = Names::new(rt.alloc());
-    let entries = [
-        ("a", What::Value(1)),
-        ("", What::Value(2)),
-        ("t", What::Type),
-        ("a", What::Value(3)),
-        ("t", What::Object),
-        ("a", What::Type),
-    ];
-    add_all(&rt, rt.alloc(), &mut names, &entries)?;
-    // how many entries are left, the values of a and of the empty name, and whether a and t are typedef names
-    let rows: [(u32, Option<i128>, Option<i128>, bool, bool); 7] = [
-        (6, None, Some(2), true, false),
-        (5, Some(3), Some(2), false, false),
-        (4, Some(3), Some(2), false, true),
-        (3, Some(1), Some(2), false, true),
-        (2, Some(1), Some(2), false, false),
-        (1, Some(1), None, false, false),
-        (0, None, None, false, false),
-    ];
-    for (count, a, empty, a_is_type, t_is_type) in rows {
-        cut(&rt, &mut names, count);
-        assert!(rt; value(&names, b"a") == a);
-        assert!(rt; value(&names, b"") == empty);
-        assert!(rt; names.is_type(b"a") == a_is_type);
-        assert!(rt; names.is_type(b"t") == t_is_type);
+    add_all(&rt, rt.alloc(), &mut names, &NAMES)?;
+    for (count, a, empty, a_is_type, t_is_type) in &MEANINGS {
+        cut(&rt, &mut names, *count);
+        assert!(rt; value(&names, b"a") == *a);
+        assert!(rt; value(&names, b"") == *empty);
+        assert!(rt; names.is_type(b"a") == *a_is_type);
+        assert!(rt; names.is_type(b"t") == *t_is_type);
     }
     Ok(())
 }
+
+static TAGS: [(&str, What); 5] = [
+    ("s", What::Struct),
+    ("s", What::Value(1)),
+    ("u", What::Struct),
+    ("s", What::Enumeration),
+    ("s", What::Struct),
+];
+
+// How many entries are left, how many structs, and what s and u are.
+static TAG_MEANINGS: [(u32, u32, Option<Tag>, Option<Tag>); 4] = [
+    (5, 3, Some(Tag::Struct(2)), Some(Tag::Struct(1))),
+    (4, 2, Some(Tag::Enumeration), Some(Tag::Struct(1))),
+    (2, 1, Some(Tag::Struct(0)), None),
+    (0, 0, None, None),
+];
 
 #[test]
 fn the_last_entry_of_a_tag_counts(rt: HostRuntime) -> Result<(), Fail> {
     let mut names = Names::new(rt.alloc());
-    let entries = [
-        ("s", What::Struct),
-        ("s", What::Value(1)),
-        ("u", What::Struct),
-        ("s", What::Enumeration),
-        ("s", What::Struct),
-    ];
-    add_all(&rt, rt.alloc(), &mut names, &entries)?;
-    // how many entries are left, how many structs, and what s and u are
-    let rows: [(u32, u32, Option<Tag>, Option<Tag>); 5] = [
-        (5, 3, Some(Tag::Struct(2)), Some(Tag::Struct(1))),
-        (4, 2, Some(Tag::Enumeration), Some(Tag::Struct(1))),
-        (3, 2, Some(Tag::Struct(0)), Some(Tag::Struct(1))),
-        (2, 1, Some(Tag::Struct(0)), None),
-        (0, 0, None, None),
-    ];
-    for (count, structs, s, u) in rows {
-        cut(&rt, &mut names, count);
-        assert!(rt; names.structs() == structs);
-        assert!(rt; names.tag(b"s") == s);
-        assert!(rt; names.tag(b"u") == u);
+    add_all(&rt, rt.alloc(), &mut names, &TAGS)?;
+    for (count, structs, s, u) in &TAG_MEANINGS {
+        cut(&rt, &mut names, *count);
+        assert!(rt; names.structs() == *structs);
+        assert!(rt; names.tag(b"s") == *s);
+        assert!(rt; names.tag(b"u") == *u);
     }
     Ok(())
 }
 
-fn chain(alloc: Global, length: u32) -> Result<CType, NoMemory> {
-    let mut ty = CType::Void;
-    for _ in 0..length {
-        ty = layer(alloc, Part::Pointer, ty)?;
-    }
-    Ok(ty)
-}
-
 fn function(alloc: Global, given: CType, param: CType) -> Result<CType, NoMemory> {
     let mut params = Vec::new(alloc);
+    params.push(CType::Int(IntKind::Int))?;
     params.push(param)?;
     let signature = Signature {
         result: given,
@@ -393,38 +322,24 @@ fn function(alloc: Global, given: CType, param: CType) -> Result<CType, NoMemory
     Ok(CType::Function(Boxed::new(alloc, signature)?))
 }
 
+// A function whose last parameter points to such a function, and so on, and whose result does.
+fn nested(alloc: Global, levels: u32) -> Result<CType, NoMemory> {
+    let mut ty = CType::Struct(7);
+    for level in 0..levels {
+        let pointed = layer(alloc, Part::Pointer, ty)?;
+        ty = if level % 2 == 0 {
+            function(alloc, CType::Void, pointed)?
+        } else {
+            function(alloc, pointed, CType::Void)?
+        };
+    }
+    Ok(ty)
+}
+
 #[test]
-fn long_chains_are_copied(rt: HostRuntime) -> Result<(), Fail> {
-    let ty = function(rt.alloc(), chain(rt.alloc(), 1_000_000)?, CType::Struct(7))?;
+fn types_that_nest_deep_are_copied_and_dropped(rt: HostRuntime) -> Result<(), Fail> {
+    let ty = nested(rt.alloc(), 200_000)?;
     let copied = ty.copy(rt.alloc())?;
     assert!(rt; matches!(&copied, CType::Function(_)));
-    Ok(())
-}
-
-// A name of eight digits.
-fn digits(alloc: Global, number: u32) -> Result<List<u8>, NoMemory> {
-    let mut bytes = Vec::new(alloc);
-    let mut left = number;
-    for _ in 0..8 {
-        bytes.push(b'0' + (left % 10) as u8)?;
-        left /= 10;
-    }
-    Ok(List::from_vec(bytes))
-}
-
-#[test]
-fn many_names_are_found(rt: HostRuntime) -> Result<(), Fail> {
-    let mut names = Names::new(rt.alloc());
-    for i in 0..100_000u32 {
-        let name = digits(rt.alloc(), i)?;
-        let symbol = Symbol::Enumerator(1);
-        add(&rt, &mut names, NameEntry::Symbol { name, symbol })?;
-    }
-    for i in 0..100_000u32 {
-        let name = digits(rt.alloc(), i)?;
-        assert!(rt; names.find(name.as_slice()).is_some());
-    }
-    cut(&rt, &mut names, 0);
-    assert!(rt; names.find(b"00000000").is_none());
     Ok(())
 }
