@@ -2,6 +2,8 @@
 ghost use Rattle.std.specs.Prelude.{◌≡◌};
 ghost use Rattle.stk_numbers.specs.Taken.{is_taken, number_of};
 
+use stk_base::List;
+
 /// A kind of undefined behaviour, in the order of their numbers from 1 to 8: signed overflow, division by zero, oversized
 /// shift, null dereference, pointer overflow, index out of bounds, absolute value overflow, overlapping copy.
 #[derive(Clone, Copy, Debug, PartialEq, Eq)]
@@ -21,6 +23,29 @@ pub enum UbKind {
 pub struct Condition {
     pub node: u32,
     pub kind: UbKind,
+}
+
+/// What a candidate fragment may be found to be: code that is never entered, a test that is always true or always false, a
+/// comparison that is the same as its replacement.
+#[derive(Clone, Copy, Debug, PartialEq, Eq)]
+pub enum CandKind {
+    Arm,
+    AlwaysTrue,
+    AlwaysFalse,
+    Algebra,
+}
+
+/// A candidate fragment of a function: a node, by its number, and what it may be found to be.
+#[derive(Clone, Copy, Debug, PartialEq, Eq)]
+pub struct Candidate {
+    pub node: u32,
+    pub kind: CandKind,
+}
+
+/// An input map: a number for each key of a function, in the order of the keys.
+#[derive(Debug, Drop)]
+pub struct Inputs {
+    pub numbers: List<i128>,
 }
 
 /// The kinds of undefined behaviour that are taken out of the table: true for taken out.

@@ -62,12 +62,6 @@ pub fn common(left: IntKind, right: IntKind) -> IntKind
     match (signed(a), signed(b)) {
         (false, true) => mixed(a, b),
         (true, false) => mixed(b, a),
-        (true, true) | (false, false) => {
-            if rank(b) <= rank(a) {
-                a
-            } else {
-                b
-            }
-        }
+        (true, true) | (false, false) => { if rank(b) <= rank(a) { a } else { b } }
     }
 }

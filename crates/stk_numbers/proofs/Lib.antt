@@ -1,0 +1,6 @@
+pub mod Bounds
+pub mod Residues
+pub mod Wrapping
+pub mod Machine
+pub mod Dividing
+pub mod Laws
