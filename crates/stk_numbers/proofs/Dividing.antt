@@ -4,6 +4,7 @@ use Rattle.std.specs.Prelude.{◌<ℤ◌, int_lt, int_div, int_rem, unsigned_abs
 use Rattle.std.specs.Ordering.{int_eq}
 use Rattle.std.proofs.lemmas.Int.{ints, to_z-of_z, fits_signed_from_abs, fits_signed_mul, quot_is, rem_is, rem_below}
 use Rattle.std.proofs.Math.Nat.{div-le_self, pow-le-pow_right}
+use mir.Val.{to_z, of_z}
 use mir.Syntax.{w128}
 use Rattle.stk_ctype.specs.declared.kind.IntKind.{IntKind}
 use Rattle.stk_numbers.specs.declared.operators.ArithOp.TheVariants.{Div, Rem}
@@ -31,6 +32,10 @@ apart_eq x y other = grind (arith, ints)
 alike_eq : (x y : ℤ) → x ≡ y → int_eq x y ≡ true
 alike_eq x y same_ = grind (arith, ints)
 
+-- a number whose bits are 0 is 0
+pub is_zero : (k : IntKind) (y : ℤ) → fits k y ≡ true → of_z w128 y ≡ 0 → y ≡ pos 0
+is_zero k y iny none = sym (same k y iny) ∙ ap (to_z w128) none
+
 -- a quotient by a number that isn't 0, and by 0
 pub quotient_value : (k : IntKind) (x y r : ℤ) → fits k x ≡ true → fits k y ≡ true → (y ≡ pos 0 → ⊥) → r ≡ wrap k (again (int_div (again x) (again y))) → again r ≡ arith_of Div k x y
 quotient_value k x y r inx iny other is =
@@ -51,7 +56,7 @@ remainder_by_zero k x y r inx zero_ is = shown k x r (is ∙ ap (wrap k) (same k
 
 -- ---- left shifts
 power_fits : (n : ℕ) → n < 64 → 2 ^ n ≤ 2 ^ 63
-power_fits n below = pow-le-pow_right (omega arith) (omega (arith, below))
+power_fits n below = pow-le-pow_right {n = 2} (omega arith) {i = n} {j = 63} (omega (arith, below))
 
 shift_fits : (k : IntKind) (x : ℤ) (n : ℕ) → fits k x ≡ true → n < 64 → FitsSigned w128 (x *ℤ pos (2 ^ n))
 shift_fits k x n inx below = fits_signed_mul w128 x (pos (2 ^ n)) (2 ^ 64 - 1) (2 ^ 63) (number_abs k x inx) (power_fits n below) (omega arith)
@@ -76,10 +81,8 @@ minus_fits k (negsuc n) inx = fits_signed_from_abs w128 (pos (suc n)) (omega (ar
 minus_is : (x : ℤ) → neg_ℤ x ≡ pos 0 -ℤ x
 minus_is x = omega (arith, ints)
 
-below_zero : (x : ℤ) → x <ℤ pos 0 → int_lt x (pos 0) ≡ true
-below_zero x low = grind (arith, ints)
-
-pub absolute_value : (k : IntKind) (x r : ℤ) → fits k x ≡ true → x <ℤ pos 0 → r ≡ wrap k (again (neg_ℤ (again x))) → again r ≡ absolute k x
+pub absolute_value : (k : IntKind) (x r : ℤ) → fits k x ≡ true → int_lt (again x) (pos 0) ≡ true → r ≡ wrap k (again (pos 0 -ℤ again x)) → again r ≡ absolute k x
 absolute_value k x r inx low is =
-    shown k (pos 0 -ℤ x) r (is ∙ ap (wrap k) (ap (λ u. again (neg_ℤ u)) (same k x inx) ∙ to_z-of_z w128 (neg_ℤ x) (minus_fits k x inx) ∙ minus_is x))
-    ∙ sym (ap (λ b. if b then wrap k (pos 0 -ℤ x) else x) (below_zero x low))
+    let below = ap (λ u. int_lt u (pos 0)) (sym (same k x inx)) ∙ low in
+    shown k (pos 0 -ℤ x) r (is ∙ ap (wrap k) (ap (λ u. again (pos 0 -ℤ u)) (same k x inx) ∙ ap again (sym (minus_is x)) ∙ to_z-of_z w128 (neg_ℤ x) (minus_fits k x inx) ∙ minus_is x))
+    ∙ sym (ap (λ b. if b then wrap k (pos 0 -ℤ x) else x) below)
