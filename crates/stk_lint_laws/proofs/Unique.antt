@@ -145,19 +145,19 @@ same_judged bytes f g xs ys e h k =
 
 one_unit_text : {bytes : List ℕ} {tokens : List Token} {text other : List ℕ} {counts also : Counts} → IsUnitText bytes tokens text counts → IsUnitText bytes tokens other also → Same text other counts also
 unfolding Same
-one_unit_text (accepted u is no) (accepted v is' no') = (refl, refl)
-one_unit_text (accepted u is no) (skipped NoTree none) = absurd (none u is)
-one_unit_text {bytes = bytes} {tokens = tokens} (accepted u is no) (skipped OtherForm other) = absurd (false≢true (sym no ∙ one_definition bytes _ u (s.defines other.node other.function) is other.is))
-one_unit_text {bytes = bytes} {tokens = tokens} (accepted u is no) (judged {f = g} ys prints lawful) = absurd (false≢true (sym no ∙ one_definition bytes tokens u (s.defines prints.node g) is prints.is))
-one_unit_text (skipped NoTree none) (accepted v is' no') = absurd (none v is')
-one_unit_text {bytes = bytes} (skipped OtherForm other) (accepted v is' no') = absurd (false≢true (sym no' ∙ one_definition bytes _ v (s.defines other.node other.function) is' other.is))
+one_unit_text (accepted u is plain) (accepted v is' plain') = (refl, refl)
+one_unit_text (accepted u is plain) (skipped NoTree none) = absurd (none u is)
+one_unit_text {bytes = bytes} {tokens = tokens} (accepted u is plain) (skipped OtherForm other) = absurd (false≢true (sym plain ∙ one_definition bytes _ u (s.defines other.node other.function) is other.is))
+one_unit_text {bytes = bytes} {tokens = tokens} (accepted u is plain) (judged {f = g} ys prints lawful) = absurd (false≢true (sym plain ∙ one_definition bytes tokens u (s.defines prints.node g) is prints.is))
+one_unit_text (skipped NoTree none) (accepted v is' plain') = absurd (none v is')
+one_unit_text {bytes = bytes} (skipped OtherForm other) (accepted v is' plain') = absurd (false≢true (sym plain' ∙ one_definition bytes _ v (s.defines other.node other.function) is' other.is))
 one_unit_text (skipped NoTree none) (skipped NoTree none') = (refl, refl)
 one_unit_text (skipped NoTree none) (skipped OtherForm other) = absurd (none (s.defines other.node other.function) other.is)
 one_unit_text (skipped OtherForm other) (skipped NoTree none) = absurd (none (s.defines other.node other.function) other.is)
 one_unit_text (skipped OtherForm other) (skipped OtherForm other') = (refl, refl)
 one_unit_text (skipped NoTree none) (judged {f = g} ys prints lawful) = absurd (none (s.defines prints.node g) prints.is)
 one_unit_text (skipped OtherForm other) (judged {f = g} ys prints lawful) = absurd (other.other g prints)
-one_unit_text {bytes = bytes} {tokens = tokens} (judged {f = f} xs prints lawful) (accepted v is' no') = absurd (false≢true (sym no' ∙ one_definition bytes tokens v (s.defines prints.node f) is' prints.is))
+one_unit_text {bytes = bytes} {tokens = tokens} (judged {f = f} xs prints lawful) (accepted v is' plain') = absurd (false≢true (sym plain' ∙ one_definition bytes tokens v (s.defines prints.node f) is' prints.is))
 one_unit_text (judged {f = f} xs prints lawful) (skipped NoTree none) = absurd (none (s.defines prints.node f) prints.is)
 one_unit_text (judged {f = f} xs prints lawful) (skipped OtherForm other) = absurd (other.other f prints)
 one_unit_text {bytes = bytes} {tokens = tokens} (judged {f = f} xs prints lawful) (judged {f = g} ys prints' lawful') = same_judged bytes f g xs ys (one_function bytes tokens f g prints prints') lawful lawful'
