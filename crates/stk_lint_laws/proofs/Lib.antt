@@ -1,3 +1,0 @@
-pub mod Exists
-pub mod Unique
-pub mod Among
