@@ -1,14 +1,13 @@
 -- What the trees of declarations print holds no `;` outside of brackets but the last token.
-use Rattle.std.proofs.Common.{◌≡◌, ℕ, suc, ◌+◌, ◌-◌, ◌≤◌, Bool, true, false, not, ◌&&◌, List, [], ◌∷◌, ◌++◌, length, take, drop, slice_range, refl, sym, ap, ◌∙◌, append_assoc, length-append, length-take, arith}
+use Rattle.std.proofs.Common.{◌≡◌, ℕ, suc, ◌+◌, ◌-◌, ◌≤◌, Bool, true, false, not, ◌&&◌, List, [], ◌∷◌, ◌++◌, length, drop, slice_range, refl, sym, ap, ◌∙◌, append_assoc, length-append, length-take, arith}
 use Rattle.std.specs.Prelude.{nat_le}
 use Rattle.std.proofs.lemmas.Bool.{false≢true}
 use Rattle.std.proofs.lemmas.List.{length-drop}
 use Rattle.stk_base.specs.declared.span.Span.{Span}
-use Rattle.stk_tree.specs.declared.fixed.Fixed.{Fixed}
 use Rattle.stk_tree.specs.declared.fixed.Fixed.TheVariants as fixed
 use Rattle.stk_tree.specs.declared.fixed.Lexeme.{Lexeme}
 use Rattle.stk_tree.specs.declared.fixed.Lexeme.TheVariants.{Fixed as Token}
-use Rattle.stk_tree.specs.Placed.{all_basic, arguments_placed, base_form_placed, base_placed, basic_words, comma_placed, constant_placed, declarator_placed, declarators_placed, designator_placed, designators_placed, dimension_placed, dimensions_placed, enumerator_placed, enumerators_placed, expression_form_placed, expression_placed, file_declarators, file_placed, form_level, initialiser_placed, is_basic, is_unbraced, item_placed, items_placed, local_declarators, local_placed, local_storage, lone_void, maybe_initialiser_placed, member_declarators, member_placed, members_placed, parameter_declarator, parameter_placed, parameters_placed, some_declarators, some_enumerators, some_members, some_parameters, tail_placed, type_name_placed}
+use Rattle.stk_tree.specs.Placed.{arguments_placed, base_form_placed, base_placed, comma_placed, constant_placed, declarator_placed, declarators_placed, designator_placed, designators_placed, dimension_placed, dimensions_placed, enumerator_placed, enumerators_placed, expression_form_placed, expression_placed, file_declarators, form_level, initialiser_placed, is_unbraced, item_placed, items_placed, local_declarators, local_storage, lone_void, maybe_initialiser_placed, member_declarators, member_placed, members_placed, parameter_declarator, parameter_placed, parameters_placed, some_declarators, some_enumerators, some_members, some_parameters, tail_placed, type_name_placed}
 use Rattle.stk_tree.specs.Syntax.{BaseTree, BaseFormTree, MemberTree, MemberTrees, EnumrTree, EnumrTrees, DeclrTree, DeclrTrees, TailTree, DimensionTree, DimensionTrees, ParamTree, ParamTrees, TypeNameTree, InitTree, MaybeInitTree, ItemTree, ItemTrees, DesigTree, DesigTrees, ExprTree, ExprTrees, MaybeExprTree, ExprFormTree, DeclarationTree}
 use Rattle.stk_tree.specs.Syntax as s
 use Rattle.stk_tree.specs.Tokens.{base_form_tokens, base_tokens, declaration_tokens, declarator_tokens, declarators_tokens, designator_tokens, designators_tokens, dimension_tokens, dimensions_tokens, enumerator_tokens, enumerators_tokens, expression_form_tokens, expression_tokens, expressions_tokens, initial_tokens, initialiser_tokens, item_tokens, items_tokens, member_tokens, members_tokens, more_declarators, more_enumerators, more_expressions, more_items, more_parameters, parameter_tokens, parameters_tokens, storage_tokens, tail_tokens, type_name_tokens, value_tokens}

@@ -1,3 +1,4 @@
 pub mod Passing
 pub mod Flat
 pub mod Levels
+pub mod Alike

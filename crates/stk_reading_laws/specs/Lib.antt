@@ -1,1 +1,2 @@
 pub mod Semicolons
+pub mod Layouts

@@ -2,6 +2,8 @@
 //! builds none of them.
 #![tactic(auto)]
 
+mod layouts;
 mod semicolons;
 
+pub use layouts::laid_out_by_its_tokens;
 pub use semicolons::ends_at_the_first_semicolon;

@@ -1,0 +1,3 @@
+pub mod Exists
+pub mod Unique
+pub mod Among
