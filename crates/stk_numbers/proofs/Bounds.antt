@@ -6,7 +6,7 @@ use Rattle.stk_ctype.specs.declared.kind.IntKind.{IntKind}
 use Rattle.stk_ctype.specs.declared.kind.IntKind.TheVariants as kind
 use Rattle.stk_numbers.specs.Kinds.{is_signed, least, greatest, fits}
 
-both_true : (a b : Bool) → (a && b) ≡ true → (a ≡ true) × (b ≡ true)
+pub both_true : (a b : Bool) → (a && b) ≡ true → (a ≡ true) × (b ≡ true)
 both_true true b e = (refl, e)
 both_true false b e = (cc, cc)
 

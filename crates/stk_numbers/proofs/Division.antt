@@ -30,7 +30,7 @@ quotient_truncates (negsuc a) (negsuc b) = refl
 pub remainder_smaller : (x y : ℤ) → 0 < unsigned_abs y → unsigned_abs (int_rem x y) < unsigned_abs y
 remainder_smaller x y some = rem_below x y some
 
-neg_below : (n : ℕ) → neg_ℤ (pos n) ≤ℤ pos 0
+pub neg_below : (n : ℕ) → neg_ℤ (pos n) ≤ℤ pos 0
 neg_below zero = omega (arith, ints)
 neg_below (suc n) = omega (arith, ints)
 

@@ -4,4 +4,5 @@ pub mod Wrapping
 pub mod Machine
 pub mod Dividing
 pub mod Division
+pub mod Ranges
 pub mod Laws
