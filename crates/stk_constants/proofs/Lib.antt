@@ -1,0 +1,3 @@
+mod Quotes
+mod Reading
+mod Spelling
