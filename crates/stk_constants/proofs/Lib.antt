@@ -1,0 +1,4 @@
+mod Quotes
+pub mod Enough
+mod Reading
+mod Spelling

@@ -1,0 +1,4 @@
+pub mod Digits
+pub mod Integers
+pub mod Characters
+pub mod Strings

@@ -1,0 +1,8 @@
+pub mod Bounds
+pub mod Residues
+pub mod Wrapping
+pub mod Machine
+pub mod Dividing
+pub mod Division
+pub mod Ranges
+pub mod Laws

@@ -1,0 +1,5 @@
+pub mod Kinds
+pub mod Taken
+pub mod Values
+pub mod Conditions
+pub mod Suffixes
