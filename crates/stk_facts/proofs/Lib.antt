@@ -1,0 +1,2 @@
+pub mod FactsAt
+pub mod Steps

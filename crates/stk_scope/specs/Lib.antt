@@ -1,0 +1,5 @@
+pub mod Scope
+pub mod Literals
+pub mod Specifiers
+pub mod Bases
+pub mod Arrays

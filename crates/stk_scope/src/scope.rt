@@ -1,0 +1,168 @@
+//! The names in force at a place of a function.
+
+ghost use Rattle.std.specs.Prelude.{◌≡◌, IfOk, IfSome, List, ℕ, Some, None, Option, map};
+ghost use Rattle.std.specs.Option.{option_map, option_copied};
+ghost use Rattle.stk_ctype.specs.Types.{type_of, signature_of};
+ghost use Rattle.stk_ctype.specs.Structs.{Structs, structs_of};
+ghost use Rattle.stk_ctype.specs.Sound.{IsSound, IsSoundSymbol, IsSoundSignature};
+ghost use Rattle.stk_facts.specs.Facts.{Fits, place};
+ghost use Rattle.stk_facts.specs.Outcome.{MakesFact};
+ghost use Rattle.stk_scope.specs.Scope.{Scope, AreSoundLocals, IsSoundScope, local_of, find_local, is_one, scope_of, local_rule, symbol_rule, named_as, name_rule, called_symbol, callee_rule, signature_in, signature_named};
+
+use std::alloc::Global;
+use stk_base::{NoMemory, Span};
+use stk_ctype::{CType, IntKind, Names, Signature, Symbol};
+use stk_facts::{Broken, NodeFact};
+
+/// A parameter or a local object: its name, the number of its declarator's node, its type.
+#[derive(Drop)]
+pub struct LocalName {
+    pub name: Span,
+    pub node: u32,
+    pub ty: CType,
+}
+
+/// The names in force at a place: the input, the names of file scope, the locals with the last one last, and the declarator of
+/// the register whose initialiser this is, if it is one.
+#[derive(Clone, Copy)]
+pub struct Scoped<'a> {
+    pub alloc: Global,
+    pub bytes: &'a [u8],
+    pub names: &'a Names,
+    pub locals: &'a [LocalName],
+    pub own: Option<u32>,
+}
+
+// The last local of a name.
+fn last_local<'a>(
+    bytes: &[u8],
+    name: &[u8],
+    locals: &'a [LocalName],
+) -> Option<&'a LocalName>
+    ensures { option_map local_of (option_copied result) ≡ find_local bytes.now name.now (map local_of locals.now) }
+{
+    let mut found = None;
+    for local in locals {
+        if local.name.text(bytes) == name {
+            found = Some(local);
+        }
+    }
+    found
+}
+
+/// The last local of a name, as the bytes of the input spell it; its type is sound where those of all locals are.
+#[tactic(auto, using(crate::proofs::Locals::found_sound))]
+pub fn find_local<'a>(
+    bytes: &[u8],
+    name: &[u8],
+    locals: &'a [LocalName],
+) -> Option<&'a LocalName>
+    ensures is { option_map local_of (option_copied result) ≡ find_local bytes.now name.now (map local_of locals.now) }
+    ensures sound { (structs : Structs) → AreSoundLocals structs (map local_of locals.now) → IfSome (option_copied result) (λ l. IsSound structs (type_of l.ty)) }
+{
+    last_local(bytes, name, locals)
+}
+
+// Whether it is the one.
+fn is_one(one: Option<u32>, node: u32) -> bool
+    ensures { result ≡ is_one one node }
+{
+    match one {
+        None => false,
+        Some(own) => own == node,
+    }
+}
+
+// A local's name.
+fn local_rule(alloc: Global, own: Option<u32>, local: &LocalName) -> Result<NodeFact, Broken>
+    ensures fact { MakesFact (local_rule own (local_of local.now)) result }
+    ensures sound { (structs : Structs) → IsSound structs (type_of local.now.ty) → IfOk result (λ f. IsSound structs (type_of f.ty)) }
+{
+    if is_one(own, local.node) {
+        return Err(Broken::Rule(1));
+    }
+    let ty = local.ty.copy(alloc)?;
+    let mut fact = NodeFact::place(ty);
+    fact.means = Some(local.node);
+    Ok(fact)
+}
+
+// An object of file scope.
+fn object(alloc: Global, ty: &CType) -> Result<NodeFact, Broken>
+    ensures fact { MakesFact (Fits (place (type_of ty.now))) result }
+    ensures sound { (structs : Structs) → IsSound structs (type_of ty.now) → IfOk result (λ f. IsSound structs (type_of f.ty)) }
+{
+    let ty = ty.copy(alloc)?;
+    Ok(NodeFact::place(ty))
+}
+
+// A name of file scope that isn't called.
+fn symbol_rule(alloc: Global, symbol: Option<&Symbol>) -> Result<NodeFact, Broken>
+    ensures fact { MakesFact (symbol_rule (option_copied symbol.entry)) result }
+    ensures sound { (structs : Structs) → IfSome (option_copied symbol.entry) (IsSoundSymbol structs) → IfOk result (λ f. IsSound structs (type_of f.ty)) }
+{
+    match symbol {
+        Some(Symbol::Object(ty)) => object(alloc, ty),
+        Some(Symbol::Enumerator(number)) => {
+            Ok(NodeFact::literal(CType::Int(IntKind::Int), *number))
+        }
+        Some(Symbol::Function(_)) => Err(Broken::Rule(8)),
+        Some(Symbol::TypeDef(_)) | None => Err(Broken::Rule(1)),
+    }
+}
+
+/// A name that isn't called: the last local of this name, or else an object or an enumerator of file scope (C11 6.5.1). Rule 1
+/// refuses a name that isn't declared, and that of a register in its own initialiser; rule 8 that of a function.
+pub fn name_rule(s: &Scoped, name: &[u8]) -> Result<NodeFact, Broken>
+    requires { IsSoundScope (scope_of s.now) }
+    ensures fact { MakesFact (name_rule (scope_of s.now) name.now) result }
+    ensures sound { IfOk result (λ f. IsSound (structs_of s.now.names.now) (type_of f.ty)) }
+{
+    match find_local(s.bytes, name, s.locals) {
+        Some(local) => local_rule(s.alloc, s.own, local),
+        None => symbol_rule(s.alloc, s.names.find(name)),
+    }
+}
+
+// A name of file scope that is called.
+fn called_symbol(alloc: Global, symbol: Option<&Symbol>) -> Result<NodeFact, Broken>
+    ensures fact { MakesFact (called_symbol (option_copied symbol.entry)) result }
+    ensures sound { (structs : Structs) → IfSome (option_copied symbol.entry) (IsSoundSymbol structs) → IfOk result (λ f. IsSound structs (type_of f.ty)) }
+{
+    match symbol {
+        Some(Symbol::Object(ty)) => object(alloc, ty),
+        Some(Symbol::Enumerator(number)) => {
+            Ok(NodeFact::literal(CType::Int(IntKind::Int), *number))
+        }
+        Some(Symbol::Function(_)) => Ok(NodeFact::plain()),
+        Some(Symbol::TypeDef(_)) | None => Err(Broken::Rule(1)),
+    }
+}
+
+/// A name that is called: as one that isn't, but that a function's name has no type (C11 6.5.2.2). Rule 1 refuses as there.
+pub fn callee_rule(s: &Scoped, name: &[u8]) -> Result<NodeFact, Broken>
+    requires { IsSoundScope (scope_of s.now) }
+    ensures fact { MakesFact (callee_rule (scope_of s.now) name.now) result }
+    ensures sound { IfOk result (λ f. IsSound (structs_of s.now.names.now) (type_of f.ty)) }
+{
+    match find_local(s.bytes, name, s.locals) {
+        Some(local) => local_rule(s.alloc, s.own, local),
+        None => called_symbol(s.alloc, s.names.find(name)),
+    }
+}
+
+/// The signature of the function that a name means; none where it means no function.
+pub fn signature_of_name<'a>(s: &Scoped<'a>, name: &[u8]) -> Option<&'a Signature>
+    ensures is { option_map signature_of (option_copied result) ≡ signature_named (scope_of s.now) name.now }
+    ensures sound { IfSome (option_copied result) (λ f. IsSoundSignature (structs_of s.now.names.now) (signature_of f)) }
+{
+    if find_local(s.bytes, name, s.locals).is_some() {
+        return None;
+    }
+    match s.names.find(name) {
+        Some(Symbol::Function(signature)) => Some(signature),
+        Some(Symbol::Object(_)) | Some(Symbol::Enumerator(_)) | Some(Symbol::TypeDef(_)) | None => {
+            None
+        }
+    }
+}
