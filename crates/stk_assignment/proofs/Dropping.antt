@@ -1,13 +1,13 @@
 -- Fewer true literals.
-use Rattle.std.proofs.Common.{◌≡◌, ℕ, ◌+◌, ◌*◌, ◌/◌, ◌<◌, ◌≤◌, Bool, true, false, List, [], ◌∷◌, ◌++◌, length, get_or, take, set, sym, ◌∙◌, ap, subst, inl, inr, arith, cond, Option}
-use Rattle.std.specs.List.{Contains, All, count_by}
+use Rattle.std.proofs.Common.{◌≡◌, ℕ, ◌+◌, ◌*◌, ◌<◌, ◌≤◌, Bool, true, false, List, [], ◌∷◌, ◌++◌, length, get_or, take, set, sym, ◌∙◌, ap, subst, inl, inr, arith, cond}
+use Rattle.std.specs.List.{Contains, count_by}
 use Rattle.std.specs.Vec.{vec_capacity}
 use Rattle.std.proofs.lemmas.Bool.{cases_eq, cases_order, false≢true}
 use Rattle.std.proofs.lemmas.List.{get_or-set_same, get_or-set_other, length-set, length-take, get_or-take, take-take, take_more, take_all}
 use Rattle.std.proofs.lemmas.List.Sums.{sum_by-set}
 use Rattle.std.proofs.lemmas.List.Elements.{All-take, Contains-push_cases, Contains-append_left, Contains-push}
 use Rattle.stk_clauses.specs.declared.literal.Lit.{Lit}
-use Rattle.stk_clauses.specs.Literals.{negated, AreBelow}
+use Rattle.stk_clauses.specs.Literals.{AreBelow}
 use Rattle.stk_clauses.specs.Propagation.{IsOpen}
 use Rattle.stk_clauses.proofs.Values.{same_lit}
 use Rattle.stk_assignment.specs.Assigned.{Assigned, IsAssigned, AreFresh}

@@ -131,6 +131,7 @@ impl Assignment {
     pub fn literals(&self) -> &[Lit]
         ensures literals { result.now ≡ self.now.literals }
         ensures facts { IsAssigned self.now }
+        ensures few { length self.now.literals ≤ 2 * self.now.vars }
     {
         &self.literals
     }

@@ -1,4 +1,4 @@
-use Rattle.std.proofs.Common.{◌≡◌, ◌+◌, ◌-◌, ◌<◌, ◌≤◌, length, arith, refl, subst, sym}
+use Rattle.std.proofs.Common.{◌-◌, ◌<◌, length, arith, refl, subst, sym}
 use Rattle.stk_assignment.specs.Assigned.{Assigned}
 use Rattle.stk_assignment.proofs.Dropping.{inside_drop}
 use Rattle.stk_assignment.proofs.assignment.Assignment.drop_last.Goals as goal

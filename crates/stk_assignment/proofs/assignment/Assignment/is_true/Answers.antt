@@ -1,4 +1,4 @@
-use Rattle.std.proofs.Common.{◌≡◌, ◌<◌, ◌*◌, arith, subst, sym}
+use Rattle.std.proofs.Common.{◌<◌, ◌*◌, arith, subst, sym}
 use Rattle.stk_assignment.specs.Assigned.{Assigned}
 use Rattle.stk_assignment.proofs.Pushing.{true_where}
 use Rattle.stk_assignment.proofs.assignment.Assignment.is_true.Goals as goal

@@ -1,4 +1,4 @@
-use Rattle.std.proofs.Common.{◌≡◌, ◌<◌, ◌≤◌, ◌*◌, length, arith, refl, subst, sym}
+use Rattle.std.proofs.Common.{◌<◌, ◌*◌, arith, refl, subst, sym}
 use Rattle.stk_clauses.specs.Propagation.{IsOpen}
 use Rattle.stk_assignment.specs.Assigned.{Assigned}
 use Rattle.stk_assignment.proofs.Pushing.{room_left, inside_push}
