@@ -1,0 +1,4 @@
+pub mod Numbers
+pub mod Following
+pub mod Apart
+pub mod Operations
