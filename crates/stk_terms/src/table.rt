@@ -108,10 +108,12 @@ impl Terms {
         self.inputs.as_slice()
     }
 
-    /// The width of a term.
+    /// The width of a term, from 1 to 128.
     pub fn width(&self, id: TermId) -> u8
         requires { id.0 < length self.now.terms }
-        ensures { result ≡ width_at self.now id.0 }
+        ensures is { result ≡ width_at self.now id.0 }
+        ensures least { 1 ≤ result }
+        ensures most { result ≤ 128 }
     {
         self.nodes.as_slice()[id.0].width
     }
@@ -155,7 +157,8 @@ impl Terms {
     pub fn value(&self, id: TermId, inputs: &Residues) -> Result<u128, NoMemory>
         requires exists { id.0 < length self.now.terms }
         requires residues { AreResidues self.now.inputs inputs.now.numbers }
-        ensures { IfOk result (λ n. n ≡ number_at self.now inputs.now.numbers id.0) }
+        ensures is { IfOk result (λ n. n ≡ number_at self.now inputs.now.numbers id.0) }
+        ensures below { IfOk result (λ n. n < 2 ^ width_at self.now id.0) }
     {
         let number = number(
             *self.nodes.allocator(),
