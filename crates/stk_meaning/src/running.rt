@@ -11,9 +11,10 @@ ghost use Rattle.stk_base.specs.Text.{text_of, decimal, decimal_behind, same_tex
 
 use crate::function::{body_of, parameters_of};
 use crate::values::{binary_number, is_comparison, is_true};
-use crate::{Condition, Entry, Inputs, UbKind};
+use crate::Entry;
 use std::alloc::Global;
 use stk_base::{List, NoMemory, Span};
+use stk_numbers::{Condition, Inputs, UbKind};
 use stk_tree::{
     BinaryOp, Declaration, Declr, Expr, ExprForm, Function, Init, Param, Part, Stmt, StmtForm,
 };

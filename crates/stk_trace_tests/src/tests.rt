@@ -1,6 +1,7 @@
 use crate::traces::trace_of;
-use stk_meaning::{Condition, Entry, UbKind};
+use stk_meaning::Entry;
 use std::test::Fail;
+use stk_numbers::{Condition, UbKind};
 
 // Nodes are numbered from 0, children first: in the function below the division is the node 8, the test 12, the branch 14.
 const TEXT: &[u8] =
