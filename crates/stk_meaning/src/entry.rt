@@ -1,4 +1,3 @@
-
 use stk_numbers::Condition;
 
 /// An entry of a trace: what a run passes, in the order in which it does.
