@@ -63,9 +63,8 @@ fn typedef_rule(alloc: Global, symbol: Option<&Symbol>) -> Result<NodeFact, Brok
 {
     match symbol {
         Some(Symbol::TypeDef(ty)) => named(alloc, ty),
-        Some(Symbol::Object(_)) | Some(Symbol::Function(_)) | Some(Symbol::Enumerator(_)) | None => {
-            Err(Broken::Rule(1))
-        }
+        Some(Symbol::Object(_)) | Some(Symbol::Function(_)) | Some(Symbol::Enumerator(_)) | None =>
+            { Err(Broken::Rule(1)) }
     }
 }
 
