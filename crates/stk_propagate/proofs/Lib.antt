@@ -1,0 +1,13 @@
+pub mod Lists
+pub mod Calm
+pub mod Fits
+pub mod Links
+pub mod Plain
+pub mod Alive
+pub mod Choose
+pub mod Visiting
+pub mod Looks
+pub mod Forcing
+pub mod Steps
+pub mod Walks
+pub mod Ends

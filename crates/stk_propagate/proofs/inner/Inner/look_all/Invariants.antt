@@ -1,0 +1,15 @@
+use Rattle.std.proofs.Common.{◌-◌}
+use Rattle.stk_propagate.specs.Trailed.{IsGrown}
+use Rattle.stk_propagate.specs.Fitting.{Fits}
+use Rattle.stk_propagate.specs.Linked.{trailed, IsLinked}
+use Rattle.stk_propagate.proofs.inner.Inner.look_all.Given as goal
+
+abbrev pub invariant-loop-self : goal.invariant-loop-self
+invariant-loop-self l = record {
+  linked : IsLinked l.self;
+  fits : Fits (trailed l.self) l.store;
+  grown : IsGrown l.fn.self.assigned l.self.assigned;
+}
+
+abbrev pub decreases-loop-self : goal.decreases-loop-self
+decreases-loop-self l = l.count - l.self.looked

@@ -1,0 +1,5 @@
+pub mod Trailed
+pub mod Fitting
+pub mod Choosing
+pub mod Linked
+pub mod Inside
