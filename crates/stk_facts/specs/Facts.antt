@@ -1,6 +1,8 @@
 -- What is known of a node, and what a rule says of one.
 use Rattle.std.specs.Prelude.{ℕ, ℤ, Bool, true, false, Option, Some, None, List, get_or}
 use Rattle.stk_ctype.specs.Types.{TypeTree, void_type, type_of}
+use Rattle.stk_ctype.specs.Structs.{Structs}
+use Rattle.stk_ctype.specs.Sound.{IsSound}
 use Rattle.stk_facts.specs.declared.facts.NodeFact.{NodeFact}
 use Rattle.stk_facts.specs.declared.facts.Role.{Role}
 use Rattle.stk_facts.specs.declared.facts.Role.TheVariants.{Plain, Value, Declares, Names}
@@ -60,6 +62,10 @@ declares t = record { role = Declares; ty = t; lvalue = false; means = None; con
 -- the fact at a place, and no type past the end
 abbrev pub fact_at : List Fact → ℕ → Fact
 fact_at facts i = get_or facts i plain
+
+-- the types of facts are sound
+abbrev pub AreSoundFacts : Structs → List Fact → Type 0
+AreSoundFacts structs facts = (i : ℕ) → IsSound structs (fact_at facts i).ty
 
 -- a rule, by its number, that refuses a node; or what is known of the node
 pub data Ruled : Type 0 where

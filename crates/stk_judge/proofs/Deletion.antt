@@ -4,11 +4,11 @@ use Rattle.std.proofs.Math.Seq.{take-suc, take-length, drop-length}
 use Rattle.std.proofs.lemmas.List.{reverse-append, append-nil}
 use Rattle.std.specs.Prelude.{ℤ, Option, Some, None, MatchOption}
 use Rattle.stk_tree.specs.Syntax.{FunctionTree}
-use Rattle.stk_meaning.specs.declared.candidate.Candidate.{Candidate}
-use Rattle.stk_meaning.specs.declared.condition.Condition.{Condition}
-use Rattle.stk_meaning.specs.declared.condition.UbKind.TheVariants.{Overflow}
+use Rattle.stk_numbers.specs.declared.conditions.Candidate.{Candidate}
+use Rattle.stk_numbers.specs.declared.conditions.Condition.{Condition}
+use Rattle.stk_numbers.specs.declared.conditions.UbKind.TheVariants.{Overflow}
 use Rattle.stk_meaning.specs.declared.finding.Need.{Need}
-use Rattle.stk_meaning.specs.declared.inputs.Inputs.{Inputs}
+use Rattle.stk_numbers.specs.declared.conditions.Inputs.{Inputs}
 use Rattle.stk_meaning.specs.Findings.{members, need, NoAnswer, IsFirstAnswer, IsMinimal, no_more, member, no_member}
 use Rattle.stk_judge.specs.Judging.{IsNeededSet}
 

@@ -5,8 +5,8 @@ use Rattle.std.specs.Prelude.{ℤ}
 use Rattle.stk_tree.specs.Syntax.{FunctionTree}
 use Rattle.stk_tree.specs.View.{view_parameter, parameters}
 use Rattle.stk_tree.specs.declared.declaration.Param.{Param}
-use Rattle.stk_meaning.specs.declared.candidate.Candidate.{Candidate}
-use Rattle.stk_meaning.specs.declared.condition.Condition.{Condition}
+use Rattle.stk_numbers.specs.declared.conditions.Candidate.{Candidate}
+use Rattle.stk_numbers.specs.declared.conditions.Condition.{Condition}
 use Rattle.stk_meaning.specs.Findings.{Answers, NoAnswer}
 use Rattle.stk_meaning.specs.Keys.{Covers, Precedes, key_count, parameter_count}
 use Rattle.stk_meaning.specs.Runs.{parameters_of}

@@ -1,8 +1,8 @@
 -- What the search for a set of conditions gives.
 use Rattle.std.specs.Prelude.{ℕ, List, []}
 use Rattle.stk_tree.specs.Syntax.{FunctionTree}
-use Rattle.stk_meaning.specs.declared.candidate.Candidate.{Candidate}
-use Rattle.stk_meaning.specs.declared.condition.Condition.{Condition}
+use Rattle.stk_numbers.specs.declared.conditions.Candidate.{Candidate}
+use Rattle.stk_numbers.specs.declared.conditions.Condition.{Condition}
 use Rattle.stk_meaning.specs.declared.finding.Need.{Need}
 use Rattle.stk_meaning.specs.Findings.{members, NoAnswer, IsMinimal}
 

@@ -1,7 +1,7 @@
 -- Lawful findings of the candidates of a function.
 use Rattle.std.specs.Prelude.{List, [], ◌∷◌, ℕ}
 use Rattle.stk_tree.specs.Syntax.{FunctionTree}
-use Rattle.stk_meaning.specs.declared.candidate.Candidate.{Candidate}
+use Rattle.stk_numbers.specs.declared.conditions.Candidate.{Candidate}
 use Rattle.stk_meaning.specs.declared.finding.Finding.{Finding}
 use Rattle.stk_meaning.specs.Findings.{IsLawful}
 

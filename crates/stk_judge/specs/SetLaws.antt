@@ -1,10 +1,10 @@
 -- Laws of the sets of conditions that reports name.
 use Rattle.std.specs.Prelude.{◌≡◌, ℕ, List, [], ◌∷◌, ◌++◌, Some}
 use Rattle.stk_tree.specs.Syntax.{FunctionTree}
-use Rattle.stk_meaning.specs.declared.candidate.Candidate.{Candidate}
-use Rattle.stk_meaning.specs.declared.condition.Condition.{Condition}
+use Rattle.stk_numbers.specs.declared.conditions.Candidate.{Candidate}
+use Rattle.stk_numbers.specs.declared.conditions.Condition.{Condition}
 use Rattle.stk_meaning.specs.declared.finding.Need.{Need}
-use Rattle.stk_meaning.specs.declared.inputs.Inputs.{Inputs}
+use Rattle.stk_numbers.specs.declared.conditions.Inputs.{Inputs}
 use Rattle.stk_meaning.specs.Findings.{members, Answers, NoAnswer, IsUnstable, IsMinimal}
 use Rattle.stk_meaning.specs.Parts.{conditions}
 

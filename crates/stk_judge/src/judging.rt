@@ -11,9 +11,8 @@ ghost use Rattle.stk_judge.specs.Judging.{IsNeededSet};
 use crate::maps::{advance, first_map};
 use std::alloc::Global;
 use stk_base::{List, NoMemory};
-use stk_meaning::{
-    Candidate, Condition, Finding, Inputs, Need, hits_free, parameters_of, path_run,
-};
+use stk_meaning::{Finding, Need, hits_free, parameters_of, path_run};
+use stk_numbers::{Candidate, Condition, Inputs};
 use stk_tree::Function;
 
 // Whether the path run from these inputs hits the candidate free of the set.

@@ -6,7 +6,7 @@ ghost use Rattle.stk_judge.specs.Maps.{IsFirst, IsStep};
 
 use std::alloc::Global;
 use stk_base::{List, NoMemory};
-use stk_meaning::Inputs;
+use stk_numbers::Inputs;
 
 /// The first input map for so many keys: a number of `unsigned char` for each, all 0 (C11 6.2.5p9). The only refusal is
 /// want of memory.

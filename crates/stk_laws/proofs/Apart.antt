@@ -2,13 +2,14 @@
 use Rattle.std.proofs.Common.{◌≡◌, ℕ, ◌<◌, ◌≤◌, Bool, true, false, List, [], ◌∷◌, ◌++◌, refl, sym, ◌∙◌, arith}
 use Rattle.std.specs.Prelude.{◌==◌, ◌&&◌}
 use Rattle.std.proofs.lemmas.Bool.{eqb-true}
-use Rattle.stk_meaning.specs.declared.candidate.CandKind.{CandKind}
-use Rattle.stk_meaning.specs.declared.candidate.CandKind.TheVariants.{Arm, AlwaysTrue, AlwaysFalse, Algebra}
-use Rattle.stk_meaning.specs.declared.candidate.Candidate.{Candidate}
-use Rattle.stk_meaning.specs.declared.condition.Condition.{Condition}
+use Rattle.stk_numbers.specs.declared.conditions.CandKind.{CandKind}
+use Rattle.stk_numbers.specs.declared.conditions.CandKind.TheVariants.{Arm, AlwaysTrue, AlwaysFalse, Algebra}
+use Rattle.stk_numbers.specs.declared.conditions.Candidate.{Candidate}
+use Rattle.stk_numbers.specs.declared.conditions.Condition.{Condition}
 use Rattle.stk_meaning.specs.declared.entry.Entry.{Entry}
 use Rattle.stk_meaning.specs.declared.entry.Entry.TheVariants.{Ub, Enter, Seen}
-use Rattle.stk_meaning.specs.Hits.{hits_kind, hits, kind_number, same_condition}
+use Rattle.stk_numbers.specs.Taken.{number_of}
+use Rattle.stk_meaning.specs.Hits.{hits_kind, hits, same_condition}
 
 -- the node of an entry
 abbrev pub node_of : Entry → ℕ
@@ -18,7 +19,7 @@ node_of (Seen n truth other) = n
 
 -- the sort of an entry: an entering, a violation of a kind, or a truth
 abbrev pub sort_of : Entry → ℕ
-sort_of (Ub k) = kind_number k.kind
+sort_of (Ub k) = number_of k.kind
 sort_of (Enter n) = 0
 sort_of (Seen n truth other) = 7
 
@@ -150,4 +151,4 @@ no_two_hits c e e' a h h' =
 -- nor do they violate one condition
 pub no_two_violations : (k k' : Condition) → AreApart (Ub k) (Ub k') → same_condition k k' ≡ true → ⊥
 no_two_violations k k' a h =
-    a.apart (eqb-true k.node k'.node (first_holds (k.node == k'.node) _ h)) (eqb-true (kind_number k.kind) (kind_number k'.kind) (second_holds (k.node == k'.node) _ h))
+    a.apart (eqb-true k.node k'.node (first_holds (k.node == k'.node) _ h)) (eqb-true (number_of k.kind) (number_of k'.kind) (second_holds (k.node == k'.node) _ h))

@@ -10,9 +10,9 @@ use Rattle.stk_tree.specs.Syntax as s
 use Rattle.stk_tree.specs.Nodes.{expression_nodes, expression_form_nodes, declarator_nodes, declarators_nodes, base_nodes, declaration_nodes, tail_nodes, statement_nodes, part_nodes, parts_nodes}
 use Rattle.stk_tree.specs.Layout.{laid_expression, laid_expression_form, laid_declarator, laid_declarators, laid_declaration, laid_statement, laid_part, laid_parts, laid_function, unit_laid_out, expression_width, declarator_width, tail_width, base_width, part_width, node_at}
 use Rattle.stk_tree.specs.Tokens.{storage_tokens}
-use Rattle.stk_meaning.specs.declared.candidate.Candidate.{Candidate}
-use Rattle.stk_meaning.specs.declared.condition.UbKind.TheVariants as kinds
-use Rattle.stk_meaning.specs.declared.condition.Condition.{Condition}
+use Rattle.stk_numbers.specs.declared.conditions.Candidate.{Candidate}
+use Rattle.stk_numbers.specs.declared.conditions.UbKind.TheVariants as kinds
+use Rattle.stk_numbers.specs.declared.conditions.Condition.{Condition}
 use Rattle.stk_meaning.specs.declared.entry.Entry.{Entry}
 use Rattle.stk_meaning.specs.declared.entry.Entry.TheVariants.{Ub, Seen}
 use Rattle.stk_meaning.specs.declared.running.Register.{Register}

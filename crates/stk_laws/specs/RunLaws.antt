@@ -4,8 +4,8 @@ use Rattle.stk_base.specs.declared.span.Span.{Span}
 use Rattle.stk_tree.specs.declared.node.Node.{Node}
 use Rattle.stk_tree.specs.Syntax.{FunctionTree, UnitTree, defines}
 use Rattle.stk_tree.specs.Layout.{unit_laid_out}
-use Rattle.stk_meaning.specs.declared.candidate.Candidate.{Candidate}
-use Rattle.stk_meaning.specs.declared.condition.Condition.{Condition}
+use Rattle.stk_numbers.specs.declared.conditions.Candidate.{Candidate}
+use Rattle.stk_numbers.specs.declared.conditions.Condition.{Condition}
 use Rattle.stk_meaning.specs.declared.entry.Entry.{Entry}
 use Rattle.stk_meaning.specs.declared.entry.Entry.TheVariants.{Ub}
 use Rattle.stk_meaning.specs.Hits.{hits, same_condition}

@@ -7,7 +7,7 @@ use Rattle.stk_base.specs.Streams.{Appended, AppendedPrefix}
 use Rattle.stk_tree.specs.Syntax.{FunctionTree, UnitTree}
 use Rattle.stk_tree.specs.Unlaid.{unlaid_unit}
 use Rattle.stk_tree.specs.Layout.{unit_laid_out}
-use Rattle.stk_meaning.specs.declared.candidate.Candidate.{Candidate}
+use Rattle.stk_numbers.specs.declared.conditions.Candidate.{Candidate}
 use Rattle.stk_meaning.specs.declared.finding.Finding.{Finding}
 use Rattle.stk_meaning.specs.Parts.{candidates}
 use Rattle.stk_records.specs.declared.records.Counts.{Counts}

@@ -3,6 +3,8 @@
 
 mod lint;
 mod report;
+mod run;
 
 pub use lint::lint_main;
 pub use report::{UnitText, unit_text};
+pub use run::run_checker;

@@ -5,8 +5,8 @@ use Rattle.stk_tree.specs.declared.expression.BinaryOp.{BinaryOp}
 use Rattle.stk_tree.specs.declared.expression.BinaryOp.TheVariants as binary
 use Rattle.stk_tree.specs.Syntax.{ExprTree, ExprFormTree, DeclrTree, DeclrTrees, StmtTree, StmtFormTree, PartTree, PartTrees, FunctionTree}
 use Rattle.stk_tree.specs.Syntax as s
-use Rattle.stk_meaning.specs.declared.condition.Condition.{Condition}
-use Rattle.stk_meaning.specs.declared.candidate.Candidate.{Candidate}
+use Rattle.stk_numbers.specs.declared.conditions.Condition.{Condition}
+use Rattle.stk_numbers.specs.declared.conditions.Candidate.{Candidate}
 use Rattle.stk_meaning.specs.Parts.{operator_conditions, expression_conditions, form_conditions, declarator_conditions, declarators_conditions, statement_conditions, statement_form_conditions, part_conditions, parts_conditions, conditions, statement_candidates, statement_form_candidates, part_candidates, parts_candidates, candidates, arm}
 use Rattle.stk_meaning.specs.Runs.{statement_node, body_of}
 use Rattle.stk_records.specs.Records.{expression_nodes, form_nodes, declarator_nodes, declarators_nodes, statement_nodes, statement_form_nodes, part_nodes, parts_nodes, function_nodes}

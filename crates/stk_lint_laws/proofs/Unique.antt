@@ -15,12 +15,12 @@ use Rattle.stk_tree.specs.Layout.{unit_laid_out}
 use Rattle.stk_tree.specs.Unlaid.{unlaid_unit}
 use Rattle.stk_lexeme.specs.Lexemes.{lexemes_of, spans_of}
 use Rattle.stk_stmt_grammar.proofs.Laws.{one_unit}
-use Rattle.stk_meaning.specs.declared.candidate.Candidate.{Candidate}
-use Rattle.stk_meaning.specs.declared.condition.Condition.{Condition}
+use Rattle.stk_numbers.specs.declared.conditions.Candidate.{Candidate}
+use Rattle.stk_numbers.specs.declared.conditions.Condition.{Condition}
 use Rattle.stk_meaning.specs.declared.finding.Finding.{Finding}
 use Rattle.stk_meaning.specs.declared.finding.Finding.TheVariants.{Clear, Unstable, Undecided}
 use Rattle.stk_meaning.specs.declared.finding.Need.{Need}
-use Rattle.stk_meaning.specs.declared.inputs.Inputs.{Inputs}
+use Rattle.stk_numbers.specs.declared.conditions.Inputs.{Inputs}
 use Rattle.stk_meaning.specs.Keys.{Precedes}
 use Rattle.stk_meaning.specs.Parts.{candidates}
 use Rattle.stk_meaning.specs.Findings.{members, need, IsFirstAnswer, IsMinimal, no_more, member, no_member, NoAnswer, IsLawful}

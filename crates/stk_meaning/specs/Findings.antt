@@ -2,12 +2,12 @@
 -- dead without the assumption isn't reported (Wang, Zeldovich, Kaashoek, Solar-Lezama, SOSP 2013, sections 3 and 4).
 use Rattle.std.specs.Prelude.{◌≡◌, ℕ, List, [], ◌∷◌, ◌++◌, ℤ, Option, Some, None, map}
 use Rattle.stk_tree.specs.Syntax.{FunctionTree}
-use Rattle.stk_meaning.specs.declared.candidate.Candidate.{Candidate}
-use Rattle.stk_meaning.specs.declared.condition.Condition.{Condition}
+use Rattle.stk_numbers.specs.declared.conditions.Candidate.{Candidate}
+use Rattle.stk_numbers.specs.declared.conditions.Condition.{Condition}
 use Rattle.stk_meaning.specs.declared.finding.Finding.{Finding}
 use Rattle.stk_meaning.specs.declared.finding.Finding.TheVariants.{Clear, Unstable, Undecided}
 use Rattle.stk_meaning.specs.declared.finding.Need.{Need}
-use Rattle.stk_meaning.specs.declared.inputs.Inputs.{Inputs}
+use Rattle.stk_numbers.specs.declared.conditions.Inputs.{Inputs}
 use Rattle.stk_meaning.specs.Hits.{HitsFree}
 use Rattle.stk_meaning.specs.Keys.{Covers, Precedes}
 use Rattle.stk_meaning.specs.Parts.{conditions}

@@ -1,12 +1,11 @@
 -- Which entries of a trace hit a candidate, and free of which conditions.
 use Rattle.std.specs.Prelude.{◌≡◌, ℕ, Bool, true, false, not, ◌&&◌, ◌==◌, List, [], ◌∷◌, ◌++◌, ◌||◌, Option, Some, None}
 use Rattle.std.specs.List.{list_any, list_all}
-use Rattle.stk_meaning.specs.declared.candidate.CandKind.{CandKind}
-use Rattle.stk_meaning.specs.declared.candidate.CandKind.TheVariants.{Arm, AlwaysTrue, AlwaysFalse, Algebra}
-use Rattle.stk_meaning.specs.declared.candidate.Candidate.{Candidate}
-use Rattle.stk_meaning.specs.declared.condition.UbKind.{UbKind}
-use Rattle.stk_meaning.specs.declared.condition.UbKind.TheVariants as kinds
-use Rattle.stk_meaning.specs.declared.condition.Condition.{Condition}
+use Rattle.stk_numbers.specs.declared.conditions.CandKind.{CandKind}
+use Rattle.stk_numbers.specs.declared.conditions.CandKind.TheVariants.{Arm, AlwaysTrue, AlwaysFalse, Algebra}
+use Rattle.stk_numbers.specs.declared.conditions.Candidate.{Candidate}
+use Rattle.stk_numbers.specs.declared.conditions.Condition.{Condition}
+use Rattle.stk_numbers.specs.Taken.{number_of}
 use Rattle.stk_meaning.specs.declared.entry.Entry.{Entry}
 use Rattle.stk_meaning.specs.declared.entry.Entry.TheVariants.{Ub, Enter, Seen}
 
@@ -30,18 +29,9 @@ hits_kind kind node entry = false
 abbrev pub hits : Candidate → Entry → Bool
 hits c e = hits_kind c.kind c.node e
 
--- the number of a kind at one node
-abbrev pub kind_number : UbKind → ℕ
-kind_number kinds.Overflow = 1
-kind_number kinds.Zero = 2
-kind_number kinds.Shift = 3
-kind_number kinds.Null = 4
-kind_number kinds.Pointer = 5
-kind_number kinds.Bounds = 6
-
 -- whether two conditions are one
 abbrev pub same_condition : Condition → Condition → Bool
-same_condition a b = a.node == b.node && kind_number a.kind == kind_number b.kind
+same_condition a b = a.node == b.node && number_of a.kind == number_of b.kind
 
 -- whether a condition is in a set
 abbrev pub has : List Condition → Condition → Bool

@@ -4,10 +4,10 @@ use Rattle.stk_tree.specs.declared.expression.BinaryOp.{BinaryOp}
 use Rattle.stk_tree.specs.declared.expression.BinaryOp.TheVariants.{Div}
 use Rattle.stk_tree.specs.Syntax.{ExprTree, ExprFormTree, DeclrTree, DeclrTrees, DeclarationTree, StmtTree, StmtFormTree, PartTree, PartTrees, FunctionTree}
 use Rattle.stk_tree.specs.Syntax.{expression, binary, some_expression, declarator, declaration, then_declarator, no_declarators, plain, some_initialiser, statement, if_statement, no_statement, return_statement, local, run, no_parts, then_part}
-use Rattle.stk_meaning.specs.declared.condition.UbKind.TheVariants as kinds
-use Rattle.stk_meaning.specs.declared.condition.Condition.{Condition}
-use Rattle.stk_meaning.specs.declared.candidate.CandKind.TheVariants.{Arm}
-use Rattle.stk_meaning.specs.declared.candidate.Candidate.{Candidate}
+use Rattle.stk_numbers.specs.declared.conditions.UbKind.TheVariants as kinds
+use Rattle.stk_numbers.specs.declared.conditions.Condition.{Condition}
+use Rattle.stk_numbers.specs.declared.conditions.CandKind.TheVariants.{Arm}
+use Rattle.stk_numbers.specs.declared.conditions.Candidate.{Candidate}
 use Rattle.stk_meaning.specs.Runs.{statement_node, body_of}
 
 -- the kinds that may be violated at an operator: at a division the divisor may be zero (C11 6.5.5p5)

@@ -7,8 +7,8 @@ use Rattle.stk_tree.specs.declared.expression.BinaryOp.{BinaryOp}
 use Rattle.stk_tree.specs.declared.expression.BinaryOp.TheVariants.{Div}
 use Rattle.stk_tree.specs.Syntax.{ExprTree, ExprFormTree, DeclrTree, DeclrTrees, DeclarationTree, StmtTree, StmtFormTree, PartTree, PartTrees, ParamTrees, FunctionTree}
 use Rattle.stk_tree.specs.Syntax.{expression, name, number, binary, some_expression, declarator, declaration, then_declarator, no_declarators, with_parameters, no_parameters, then_parameter, parameter, plain, some_initialiser, statement, block, if_statement, no_statement, return_statement, local, run, no_parts, then_part, function}
-use Rattle.stk_meaning.specs.declared.condition.UbKind.TheVariants as kinds
-use Rattle.stk_meaning.specs.declared.condition.Condition.{Condition}
+use Rattle.stk_numbers.specs.declared.conditions.UbKind.TheVariants as kinds
+use Rattle.stk_numbers.specs.declared.conditions.Condition.{Condition}
 use Rattle.stk_meaning.specs.declared.entry.Entry.{Entry}
 use Rattle.stk_meaning.specs.declared.entry.Entry.TheVariants.{Ub, Enter, Seen}
 use Rattle.stk_meaning.specs.declared.running.Register.{Register}

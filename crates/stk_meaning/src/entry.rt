@@ -1,4 +1,4 @@
-use crate::Condition;
+use stk_numbers::Condition;
 
 /// An entry of a trace: what a run passes, in the order in which it does.
 #[derive(Clone, Copy, Debug, PartialEq, Eq)]

@@ -1,5 +1,5 @@
-use crate::{Condition, Inputs};
 use stk_base::List;
+use stk_numbers::{Condition, Inputs};
 
 /// What is found for a candidate.
 #[derive(Debug, Drop)]

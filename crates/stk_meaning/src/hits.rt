@@ -1,9 +1,10 @@
 //! Hits of a candidate, free of a set of conditions.
 
 ghost use Rattle.std.specs.Prelude.{◌≡◌, ◌↔◌, IsTrue};
-ghost use Rattle.stk_meaning.specs.Hits.{differs, hits, kind_number, same_condition, has, breaks, HitsFree, is_hit_free};
+ghost use Rattle.stk_meaning.specs.Hits.{differs, hits, same_condition, has, breaks, HitsFree, is_hit_free};
 
-use crate::{CandKind, Candidate, Condition, Entry, UbKind};
+use crate::Entry;
+use stk_numbers::{CandKind, Candidate, Condition};
 
 // Whether two truths differ.
 fn differs(truth: bool, other: Option<bool>) -> bool
@@ -32,24 +33,11 @@ pub fn is_hit(candidate: Candidate, entry: Entry) -> bool
     }
 }
 
-// The number of a kind at one node.
-fn kind_number(kind: UbKind) -> u8
-    ensures { result ≡ kind_number kind }
-{
-    match kind {
-        UbKind::Overflow => 1,
-        UbKind::Zero => 2,
-        UbKind::Shift => 3,
-        UbKind::Null => 4,
-        UbKind::Pointer => 5,
-        UbKind::Bounds => 6,
-    }
-}
-
+// Whether two conditions are one.
 fn is_same(a: Condition, b: Condition) -> bool
     ensures { result ≡ same_condition a b }
 {
-    a.node == b.node && kind_number(a.kind) == kind_number(b.kind)
+    a.node == b.node && a.kind.number() == b.kind.number()
 }
 
 // Whether the condition is one of the set.

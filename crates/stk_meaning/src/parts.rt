@@ -5,9 +5,9 @@ ghost use Rattle.stk_tree.specs.View.{view_expression, view_declarator, declarat
 ghost use Rattle.stk_meaning.specs.Parts.{operator_conditions, expression_conditions, declarator_conditions, declarators_conditions, statement_conditions, part_conditions, parts_conditions, conditions, statement_candidates, part_candidates, parts_candidates, candidates};
 
 use crate::function::body_of;
-use crate::{CandKind, Candidate, Condition, UbKind};
 use std::alloc::Global;
 use stk_base::{List, NoMemory};
+use stk_numbers::{CandKind, Candidate, Condition, UbKind};
 use stk_tree::{BinaryOp, Declr, Expr, ExprForm, Function, Init, Part, Stmt, StmtForm};
 
 // Adds the conditions of a binary operator at a node.

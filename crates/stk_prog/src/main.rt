@@ -3,7 +3,7 @@
 #![tactic(auto)]
 
 use std::process::ExitCode;
-use stk_run::run_checker;
+use stk_lint::run_checker;
 
 fn main(rt: HostRuntime) -> ExitCode {
     let status = run_checker(&rt, rt.stdin(), rt.stdout(), rt.stderr());

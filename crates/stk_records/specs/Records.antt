@@ -8,13 +8,13 @@ use Rattle.stk_lex.specs.Placing.{place_of}
 use Rattle.stk_tree.specs.declared.node.Node.{Node}
 use Rattle.stk_tree.specs.Syntax.{ExprTree, ExprFormTree, DeclrTree, DeclrTrees, StmtTree, StmtFormTree, PartTree, PartTrees, ParamTrees, FunctionTree}
 use Rattle.stk_tree.specs.Syntax.{expression, binary, some_expression, declarator, declaration, no_declarators, then_declarator, plain, some_initialiser, statement, if_statement, no_statement, return_statement, local, run, no_parts, then_part, then_parameter, parameter, function}
-use Rattle.stk_meaning.specs.declared.condition.UbKind.{UbKind}
-use Rattle.stk_meaning.specs.declared.condition.UbKind.TheVariants as kinds
-use Rattle.stk_meaning.specs.declared.candidate.Candidate.{Candidate}
+use Rattle.stk_numbers.specs.declared.conditions.UbKind.{UbKind}
+use Rattle.stk_numbers.specs.declared.conditions.UbKind.TheVariants as kinds
+use Rattle.stk_numbers.specs.declared.conditions.Candidate.{Candidate}
 use Rattle.stk_meaning.specs.declared.finding.Finding.{Finding}
 use Rattle.stk_meaning.specs.declared.finding.Finding.TheVariants.{Clear, Unstable, Undecided}
 use Rattle.stk_meaning.specs.declared.finding.Need.{Need}
-use Rattle.stk_meaning.specs.declared.inputs.Inputs.{Inputs}
+use Rattle.stk_numbers.specs.declared.conditions.Inputs.{Inputs}
 use Rattle.stk_meaning.specs.Runs.{body_of, parameters_of}
 use Rattle.stk_records.specs.declared.records.Cause.{Cause}
 use Rattle.stk_records.specs.declared.records.Cause.TheVariants.{NoTree, OtherForm}
@@ -117,6 +117,8 @@ kind_text kinds.Shift = codes "oversized shift"
 kind_text kinds.Null = codes "null dereference"
 kind_text kinds.Pointer = codes "pointer overflow"
 kind_text kinds.Bounds = codes "index out of bounds"
+kind_text kinds.AbsValue = codes "absolute value overflow"
+kind_text kinds.Overlap = codes "overlapping copy"
 
 -- `; without it: START`, or `; open` where no start is shown
 abbrev pub shown_text : List ℕ → FunctionTree → Option Inputs → List ℕ

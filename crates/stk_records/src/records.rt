@@ -10,7 +10,8 @@ ghost use Rattle.stk_records.specs.Counts.{nothing_counted, counts_sum, AreAtMos
 use itoa::Buffer;
 use stk_base::{NoMemory, Place, Span};
 use stk_lex::Places;
-use stk_meaning::{Candidate, Finding, Inputs, Need, UbKind, parameters_of};
+use stk_meaning::{Finding, Need, parameters_of};
+use stk_numbers::{Candidate, Inputs, UbKind};
 use stk_tree::{Declr, Function, Node, Param};
 
 /// The numbers of the summary, each at most 16,777,216 where it counts what stands in one file: a function, a candidate and
@@ -213,6 +214,8 @@ fn kind_text(kind: UbKind) -> &'static [u8]
         UbKind::Null => b"null dereference",
         UbKind::Pointer => b"pointer overflow",
         UbKind::Bounds => b"index out of bounds",
+        UbKind::AbsValue => b"absolute value overflow",
+        UbKind::Overlap => b"overlapping copy",
     }
 }
 

@@ -55,7 +55,6 @@ comparison o k x y = truth (compared o (wrap k x) (wrap k y))
 abbrev pub is_true : ℤ → Bool
 is_true z = not (int_eq z (pos 0))
 
-
 -- `&&` and `||`: the right operand is evaluated where the left one doesn't decide, but it is a constant expression in any case (C11 6.5.13, 6.5.14)
 abbrev pub logical : Bool → Constancy → Constancy → Constancy
 logical stops Varies y = Varies

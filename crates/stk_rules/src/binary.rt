@@ -55,12 +55,7 @@ fn moved_pointer(alloc: Global, names: &Names, ty: &CType) -> Result<NodeFact, B
 }
 
 // `+`
-fn sum_rule(
-    alloc: Global,
-    names: &Names,
-    x: &NodeFact,
-    y: &NodeFact,
-) -> Result<NodeFact, Broken>
+fn sum_rule(alloc: Global, names: &Names, x: &NodeFact, y: &NodeFact) -> Result<NodeFact, Broken>
     requires left { IsSound (structs_of names.now) (type_of x.now.ty) }
     requires right { IsSound (structs_of names.now) (type_of y.now.ty) }
     ensures fact { MakesFact (sum_rule (structs_of names.now) (kind_of (type_of x.now.ty)) (kind_of (type_of y.now.ty)) (fact_of x.now) (fact_of y.now)) result }

@@ -7,7 +7,8 @@ ghost use Rattle.stk_rules.specs.Constants.{truth, converted, unless, both, arit
 
 use stk_facts::Constancy;
 use stk_numbers::{
-    ArithOp, CompareOp, IntKind, ShiftOp, UbKind, arith, breaks, breaks_shift, compared, shifted, wrap,
+    ArithOp, CompareOp, IntKind, ShiftOp, UbKind, arith, breaks, breaks_shift, compared, shifted,
+    wrap,
 };
 
 // 1 for true and 0 for false.

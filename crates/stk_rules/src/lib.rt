@@ -16,6 +16,7 @@ pub use binary::binary_rule;
 pub use choices::choice_rule;
 pub use places::{arrow_rule, dot_rule, index_rule};
 pub use types::{
-    decayed, is_complete, is_scalar, is_struct, is_void, kind_of, pointee, pointer_to, reads_scalar, stride,
+    decayed, is_complete, is_scalar, is_struct, is_void, kind_of, pointee, pointer_to,
+    reads_scalar, stride,
 };
 pub use unary::{cast_rule, paren_rule, size_rule, type_size_rule, unary_rule};

@@ -44,12 +44,7 @@ pub(crate) fn pointed(alloc: Global, names: &Names, ty: &CType) -> Result<NodeFa
 }
 
 // An element of this type.
-fn element(
-    alloc: Global,
-    names: &Names,
-    target: &CType,
-    is_index: bool,
-) -> Result<NodeFact, Broken>
+fn element(alloc: Global, names: &Names, target: &CType, is_index: bool) -> Result<NodeFact, Broken>
     requires { IsSound (structs_of names.now) (type_of target.now) }
     ensures fact { MakesFact (indexed (structs_of names.now) is_index (Some (type_of target.now))) result }
     ensures sound { IfOk result (λ f. IsSound (structs_of names.now) (type_of f.ty)) }
@@ -83,12 +78,7 @@ pub fn index_rule(
 }
 
 // The member of a name in a complete type; rule 6 refuses what is no struct, rule 10 a name that no member has.
-fn member_rule(
-    alloc: Global,
-    names: &Names,
-    ty: &CType,
-    name: &[u8],
-) -> Result<NodeFact, Broken>
+fn member_rule(alloc: Global, names: &Names, ty: &CType, name: &[u8]) -> Result<NodeFact, Broken>
     ensures fact { MakesFact (member_rule (structs_of names.now) (type_of ty.now) name.now) result }
     ensures sound { IfOk result (λ f. IsSound (structs_of names.now) (type_of f.ty)) }
 {
@@ -103,12 +93,7 @@ fn member_rule(
 
 /// `e.name`: a member of a struct (C11 6.5.2.3). Rule 4 refuses an incomplete struct, rule 6 what is no struct, rule 10 a name
 /// that no member has.
-pub fn dot_rule(
-    alloc: Global,
-    names: &Names,
-    x: &NodeFact,
-    name: &[u8],
-) -> Result<NodeFact, Broken>
+pub fn dot_rule(alloc: Global, names: &Names, x: &NodeFact, name: &[u8]) -> Result<NodeFact, Broken>
     requires { IsSound (structs_of names.now) (type_of x.now.ty) }
     ensures fact { MakesFact (dot_rule (structs_of names.now) (fact_of x.now) name.now) result }
     ensures sound { IfOk result (λ f. IsSound (structs_of names.now) (type_of f.ty)) }
@@ -120,12 +105,7 @@ pub fn dot_rule(
 }
 
 // The member of a name in a pointer's target.
-fn arrow_to(
-    alloc: Global,
-    names: &Names,
-    target: &CType,
-    name: &[u8],
-) -> Result<NodeFact, Broken>
+fn arrow_to(alloc: Global, names: &Names, target: &CType, name: &[u8]) -> Result<NodeFact, Broken>
     requires { IsSound (structs_of names.now) (type_of target.now) }
     ensures fact { MakesFact (arrow_to (structs_of names.now) (Some (type_of target.now)) name.now) result }
     ensures sound { IfOk result (λ f. IsSound (structs_of names.now) (type_of f.ty)) }

@@ -77,11 +77,8 @@ pub fn is_struct(ty: &CType) -> bool
 {
     match ty {
         CType::Struct(_) => true,
-        CType::Void
-        | CType::Int(_)
-        | CType::Pointer(_)
-        | CType::Array(_, _)
-        | CType::Function(_) => false,
+        CType::Void | CType::Int(_) | CType::Pointer(_) | CType::Array(_, _) | CType::Function(_) =>
+            false,
     }
 }
 
@@ -124,11 +121,7 @@ pub fn decayed(alloc: Global, ty: &CType) -> Result<CType, NoMemory>
             let pointer = pointer_to(alloc, inner.get())?;
             Ok(pointer)
         }
-        CType::Void
-        | CType::Int(_)
-        | CType::Pointer(_)
-        | CType::Struct(_)
-        | CType::Function(_) => {
+        CType::Void | CType::Int(_) | CType::Pointer(_) | CType::Struct(_) | CType::Function(_) => {
             let same = ty.copy(alloc)?;
             Ok(same)
         }

@@ -11,6 +11,7 @@ use Rattle.stk_ctype.specs.Structs.{Structs, structs_of}
 use Rattle.stk_ctype.specs.Sound.{IsSound}
 use Rattle.stk_ctype.specs.Names.{later_of, find}
 use Rattle.stk_facts.specs.Facts.{Ruled, Breaks, Fits, plain, place, named, literal}
+use Rattle.stk_scope.specs.Bases.{AreSoundTags}
 use Rattle.stk_scope.specs.declared.scope.LocalName.{LocalName}
 use Rattle.stk_scope.specs.declared.scope.Scoped.{Scoped}
 
@@ -40,9 +41,10 @@ AreSoundLocals structs (l ∷ ls) = IsSound structs l.ty × AreSoundLocals struc
 abbrev pub scope_of : Scoped → Scope
 scope_of s = record { bytes = s.bytes.now; entries = s.names.now; locals = map local_of s.locals.now; own = s.own }
 
--- the types of its locals are sound
-abbrev pub IsSoundScope : Scope → Type 0
-IsSoundScope s = AreSoundLocals (structs_of s.entries) s.locals
+-- the types of its locals are sound, and the structs of its tags
+pub record IsSoundScope (s : Scope) : Type 0 where
+  pub locals : AreSoundLocals (structs_of s.entries) s.locals
+  pub tags : AreSoundTags s.entries
 
 -- the same names, in no register's initialiser: where nothing is evaluated
 abbrev pub unevaluated : Scope → Scope

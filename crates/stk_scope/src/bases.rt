@@ -1,14 +1,16 @@
 //! The type that a base names where nothing is declared.
 
-ghost use Rattle.std.specs.Prelude.{◌≡◌, Some};
+ghost use Rattle.std.specs.Prelude.{◌≡◌, IfOk, IfSome, Some};
 ghost use Rattle.std.specs.Option.{option_map, option_copied};
 ghost use Rattle.stk_ctype.specs.Types.{type_of};
 ghost use Rattle.stk_ctype.specs.Names.{find, tag_of};
+ghost use Rattle.stk_ctype.specs.Structs.{Structs, structs_of};
+ghost use Rattle.stk_ctype.specs.Sound.{IsSound, IsSoundSymbol};
 ghost use Rattle.stk_tree.specs.View.{view_base_form};
 ghost use Rattle.stk_facts.specs.Facts.{Fits, names_type};
 ghost use Rattle.stk_facts.specs.Outcome.{MakesFact};
 ghost use Rattle.stk_scope.specs.Specifiers.{basic_type};
-ghost use Rattle.stk_scope.specs.Bases.{words_rule, struct_rule, enum_rule, typedef_rule, base_rule};
+ghost use Rattle.stk_scope.specs.Bases.{AreSoundTags, IsSoundTag, words_rule, struct_rule, enum_rule, typedef_rule, base_rule};
 
 use crate::specifiers::basic_type;
 use std::alloc::Global;
@@ -19,7 +21,8 @@ use stk_tree::{BaseForm, Fixed};
 
 // Basic words.
 fn words_rule(words: &[Fixed]) -> Result<NodeFact, Broken>
-    ensures { MakesFact (words_rule (basic_type words.now)) result }
+    ensures fact { MakesFact (words_rule (basic_type words.now)) result }
+    ensures sound { (structs : Structs) → IfOk result (λ f. IsSound structs (type_of f.ty)) }
 {
     match basic_type(words) {
         None => Err(Broken::Rule(2)),
@@ -29,7 +32,8 @@ fn words_rule(words: &[Fixed]) -> Result<NodeFact, Broken>
 
 // `struct tag`.
 fn struct_rule(tag: Option<Tag>) -> Result<NodeFact, Broken>
-    ensures { MakesFact (struct_rule tag) result }
+    ensures fact { MakesFact (struct_rule tag) result }
+    ensures sound { (structs : Structs) → IfSome tag (IsSoundTag structs) → IfOk result (λ f. IsSound structs (type_of f.ty)) }
 {
     match tag {
         None => Err(Broken::Rule(1)),
@@ -40,7 +44,8 @@ fn struct_rule(tag: Option<Tag>) -> Result<NodeFact, Broken>
 
 // `enum tag`.
 fn enum_rule(tag: Option<Tag>) -> Result<NodeFact, Broken>
-    ensures { MakesFact (enum_rule tag) result }
+    ensures fact { MakesFact (enum_rule tag) result }
+    ensures sound { (structs : Structs) → IfOk result (λ f. IsSound structs (type_of f.ty)) }
 {
     match tag {
         None => Err(Broken::Rule(1)),
@@ -51,7 +56,8 @@ fn enum_rule(tag: Option<Tag>) -> Result<NodeFact, Broken>
 
 // A type, named.
 fn named(alloc: Global, ty: &CType) -> Result<NodeFact, Broken>
-    ensures { MakesFact (Fits (names_type (type_of ty.now))) result }
+    ensures fact { MakesFact (Fits (names_type (type_of ty.now))) result }
+    ensures sound { (structs : Structs) → IsSound structs (type_of ty.now) → IfOk result (λ f. IsSound structs (type_of f.ty)) }
 {
     let ty = ty.copy(alloc)?;
     Ok(NodeFact::names_type(ty))
@@ -59,13 +65,13 @@ fn named(alloc: Global, ty: &CType) -> Result<NodeFact, Broken>
 
 // A typedef name.
 fn typedef_rule(alloc: Global, symbol: Option<&Symbol>) -> Result<NodeFact, Broken>
-    ensures { MakesFact (typedef_rule (option_copied symbol.entry)) result }
+    ensures fact { MakesFact (typedef_rule (option_copied symbol.entry)) result }
+    ensures sound { (structs : Structs) → IfSome (option_copied symbol.entry) (IsSoundSymbol structs) → IfOk result (λ f. IsSound structs (type_of f.ty)) }
 {
     match symbol {
         Some(Symbol::TypeDef(ty)) => named(alloc, ty),
-        Some(Symbol::Object(_)) | Some(Symbol::Function(_)) | Some(Symbol::Enumerator(_)) | None => {
-            Err(Broken::Rule(1))
-        }
+        Some(Symbol::Object(_)) | Some(Symbol::Function(_)) | Some(Symbol::Enumerator(_)) | None =>
+            { Err(Broken::Rule(1)) }
     }
 }
 
@@ -77,7 +83,9 @@ pub fn base_rule(
     names: &Names,
     form: &BaseForm,
 ) -> Result<NodeFact, Broken>
-    ensures { MakesFact (base_rule bytes.now names.now (view_base_form form.now)) result }
+    requires { AreSoundTags names.now }
+    ensures fact { MakesFact (base_rule bytes.now names.now (view_base_form form.now)) result }
+    ensures sound { IfOk result (λ f. IsSound (structs_of names.now) (type_of f.ty)) }
 {
     match form {
         BaseForm::Words(words) => words_rule(words.as_slice()),

@@ -34,11 +34,7 @@ pub struct Scoped<'a> {
 }
 
 // The last local of a name.
-fn last_local<'a>(
-    bytes: &[u8],
-    name: &[u8],
-    locals: &'a [LocalName],
-) -> Option<&'a LocalName>
+fn last_local<'a>(bytes: &[u8], name: &[u8], locals: &'a [LocalName]) -> Option<&'a LocalName>
     ensures { option_map local_of (option_copied result) ≡ find_local bytes.now name.now (map local_of locals.now) }
 {
     let mut found = None;
@@ -52,11 +48,7 @@ fn last_local<'a>(
 
 /// The last local of a name, as the bytes of the input spell it; its type is sound where those of all locals are.
 #[tactic(auto, using(crate::proofs::Locals::found_sound))]
-pub fn find_local<'a>(
-    bytes: &[u8],
-    name: &[u8],
-    locals: &'a [LocalName],
-) -> Option<&'a LocalName>
+pub fn find_local<'a>(bytes: &[u8], name: &[u8], locals: &'a [LocalName]) -> Option<&'a LocalName>
     ensures is { option_map local_of (option_copied result) ≡ find_local bytes.now name.now (map local_of locals.now) }
     ensures sound { (structs : Structs) → AreSoundLocals structs (map local_of locals.now) → IfSome (option_copied result) (λ l. IsSound structs (type_of l.ty)) }
 {

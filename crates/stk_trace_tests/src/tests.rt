@@ -1,10 +1,10 @@
 use crate::traces::trace_of;
-use stk_meaning::{Condition, Entry, UbKind};
 use std::test::Fail;
+use stk_meaning::Entry;
+use stk_numbers::{Condition, UbKind};
 
 // Nodes are numbered from 0, children first: in the function below the division is the node 8, the test 12, the branch 14.
-const TEXT: &[u8] =
-    b"int f(unsigned char x) { int y = 10 / x; if (x == 0) return 1; return y; }";
+const TEXT: &[u8] = b"int f(unsigned char x) { int y = 10 / x; if (x == 0) return 1; return y; }";
 
 #[test]
 fn a_zero_enters_the_branch_behind_the_division(rt: HostRuntime) -> Result<(), Fail> {

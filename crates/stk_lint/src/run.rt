@@ -1,11 +1,9 @@
 //! A run of the checker over given streams: the words of the command line, a reader, two writers, and how the run ends.
-#![tactic(auto)]
-
+use crate::lint::lint_main;
 use std::env;
 use std::io::{BufWriter, ErrorKind, Read, Write};
 use std::rt::Env;
 use stk_base::{Sink, Status, write_all};
-use stk_lint::lint_main;
 use stk_real::{RealSink, RealSource};
 
 // The words after the program's name, or how to end where they can't be gathered.

@@ -1,0 +1,113 @@
+//! What is an operand of `&` in initialisers and array parts.
+
+ghost use Rattle.std.specs.Prelude.{◌≡◌, ◌++◌, OnOk, map};
+ghost use Rattle.std.specs.Option.{option_map};
+ghost use Rattle.stk_tree.specs.View.{view_designator, view_initialiser, view_item, view_tail, designators, items, maybe_initialiser};
+ghost use Rattle.stk_taken.specs.Expressions.{designator_taken, designators_taken, initialiser_taken, item_taken, items_taken, maybe_initialiser_taken, tail_taken};
+
+use crate::Mark;
+use crate::expressions::{dimensions_taken, expression_taken};
+use std::alloc::Global;
+use stk_base::NoMemory;
+use stk_tree::{Desig, Init, Item, Tail};
+
+// Notes what is an operand of `&` in a designator.
+fn designator_taken(
+    bytes: &[u8],
+    marks: &[Mark],
+    d: &Desig,
+    out: &mut Vec<u32>,
+) -> Result<(), NoMemory>
+    ensures { OnOk result (out.new.items ≡ out.old.items ++ designator_taken bytes.now marks.now (view_designator d.now)) }
+{
+    match d {
+        Desig::Dot(_) => Ok(()),
+        Desig::At(e) => expression_taken(bytes, marks, e, out),
+    }
+}
+
+// Notes the same in designators.
+fn designators_taken(
+    bytes: &[u8],
+    marks: &[Mark],
+    list: &[Desig],
+    out: &mut Vec<u32>,
+) -> Result<(), NoMemory>
+    ensures { OnOk result (out.new.items ≡ out.old.items ++ designators_taken bytes.now marks.now (designators (map view_designator list.now))) }
+{
+    for d in list {
+        designator_taken(bytes, marks, d, out)?;
+    }
+    Ok(())
+}
+
+// Notes the same in an initialiser.
+#[cycle(initialiser_taken)]
+fn initialiser_taken(
+    bytes: &[u8],
+    marks: &[Mark],
+    i: &Init,
+    out: &mut Vec<u32>,
+) -> Result<(), NoMemory>
+    ensures { OnOk result (out.new.items ≡ out.old.items ++ initialiser_taken bytes.now marks.now (view_initialiser i.now)) }
+{
+    match i {
+        Init::Plain(e) => expression_taken(bytes, marks, e, out),
+        Init::Braces(list, _) => items_taken(bytes, marks, list.as_slice(), out),
+    }
+}
+
+// Notes the same in an item of braces.
+#[cycle(initialiser_taken)]
+fn item_taken(bytes: &[u8], marks: &[Mark], i: &Item, out: &mut Vec<u32>) -> Result<(), NoMemory>
+    ensures { OnOk result (out.new.items ≡ out.old.items ++ item_taken bytes.now marks.now (view_item i.now)) }
+{
+    designators_taken(bytes, marks, i.path.as_slice(), out)?;
+    initialiser_taken(bytes, marks, &i.init, out)
+}
+
+// Notes the same in items.
+#[cycle(initialiser_taken)]
+fn items_taken(
+    bytes: &[u8],
+    marks: &[Mark],
+    list: &[Item],
+    out: &mut Vec<u32>,
+) -> Result<(), NoMemory>
+    ensures { OnOk result (out.new.items ≡ out.old.items ++ items_taken bytes.now marks.now (items (map view_item list.now))) }
+{
+    for i in list {
+        item_taken(bytes, marks, i, out)?;
+    }
+    Ok(())
+}
+
+/// Notes what is an operand of `&` in an initialiser that may be missing.
+pub(crate) fn maybe_initialiser_taken(
+    bytes: &[u8],
+    marks: &[Mark],
+    i: &Option<Init>,
+    out: &mut Vec<u32>,
+) -> Result<(), NoMemory>
+    ensures { OnOk result (out.new.items ≡ out.old.items ++ maybe_initialiser_taken bytes.now marks.now (maybe_initialiser (option_map view_initialiser i.now))) }
+{
+    match i {
+        None => Ok(()),
+        Some(i) => initialiser_taken(bytes, marks, i, out),
+    }
+}
+
+/// Notes what is an operand of `&` in what follows the name of an object.
+pub(crate) fn tail_taken(
+    bytes: &[u8],
+    marks: &[Mark],
+    t: &Tail,
+    out: &mut Vec<u32>,
+) -> Result<(), NoMemory>
+    ensures { OnOk result (out.new.items ≡ out.old.items ++ tail_taken bytes.now marks.now (view_tail t.now)) }
+{
+    match t {
+        Tail::Arrays(list) => dimensions_taken(bytes, marks, list.as_slice(), out),
+        Tail::Unspecified | Tail::NoParams | Tail::Params(_, _) => Ok(()),
+    }
+}
