@@ -1,0 +1,5 @@
+pub mod Words
+pub mod Residues
+pub mod Arguments
+pub mod Parts
+pub mod InputBits

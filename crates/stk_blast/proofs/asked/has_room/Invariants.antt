@@ -1,0 +1,8 @@
+use Rattle.std.proofs.Common.{◌≡◌, ◌+◌, ◌^◌}
+use Rattle.stk_gates.specs.Tables.{gate_count}
+use Rattle.stk_terms.specs.Parts.{is_part}
+use Rattle.stk_terms.specs.Cost.{weight}
+use Rattle.stk_blast.proofs.asked.has_room.Given as goal
+
+abbrev pub invariant-loop-i : goal.invariant-loop-i
+invariant-loop-i l = gate_count l.gates + (weight l.terms (is_part l.terms l.fn.id.0) l.i + l.left) ≡ 2 ^ 29
