@@ -26,9 +26,6 @@ false_at t l p s lt e k le = (
   (λ h. (p, omega (arith, h, lt, length-take k t), get_or-take k t p (negated l) h ∙ e)),
 )
 
-pub false_never : (t : List Lit) (l : Lit) (p : ℕ) → length t ≤ p → (Contains t (negated l) → ⊥) → IsFalseFrom t l p
-false_never t l p long none k le = ((λ h. absurd (none (in_take t k (negated l) h))), (λ h. absurd (omega (arith, h, le, long))))
-
 -- the first two literals of a clause are different ones
 pub two_watched : (c : List Lit) (d e : Lit) → AreDistinct c → 2 ≤ length c → IsWatched c (Some (get_or c 0 d, get_or c 1 e))
 two_watched [] d e s long = absurd (omega (arith, long))
@@ -64,9 +61,6 @@ pub record Best (t c : List Lit) (i : ℕ) (but : Option Lit) (best : Lit) (when
   pub later : AreNotLater t (take i c) but best
 
 module _ (t c : List Lit) (i : ℕ) (but : Option Lit) (best d : Lit) (when at : ℕ) (lt : i < length c) (old : Best t c i but best when) where
-  pub best_skipped : but ≡ Some (get_or c i d) → Best t c (i + 1) but best when
-  best_skipped e = record { among = old.among; other = old.other; since = old.since; later = later_more t c but best i d lt old.later (λ n. absurd (n e)) }
-
   pub best_kept : IsFalseFrom t (get_or c i d) at → at ≤ when → Best t c (i + 1) but best when
   best_kept f le = record { among = old.among; other = old.other; since = old.since; later = later_more t c but best i d lt old.later (λ n. not_later t (get_or c i d) best at when f old.since le) }
 

@@ -1,8 +1,8 @@
 -- Literals in fronts of a list, and chains of a list of chains.
-use Rattle.std.proofs.Common.{◌≡◌, ◌≢◌, ℕ, ◌<◌, ◌≤◌, List, [], length, get_or, take, set, sym, ◌∙◌, ap, subst, inl, inr, arith}
+use Rattle.std.proofs.Common.{◌≡◌, ◌≢◌, ℕ, ◌<◌, List, [], length, get_or, take, set, sym, ◌∙◌, ap, subst, inl, inr, arith}
 use Rattle.std.specs.List.{Contains}
 use Rattle.std.proofs.lemmas.Bool.{cases_order}
-use Rattle.std.proofs.lemmas.List.{length-take, get_or-take, take-take, get_or_default, get_or-set_same, get_or-set_other}
+use Rattle.std.proofs.lemmas.List.{length-take, get_or-take, get_or_default, get_or-set_same, get_or-set_other}
 use Rattle.stk_clauses.specs.declared.literal.Lit.{Lit}
 use Rattle.stk_clauses.specs.Literals.{negated}
 use Rattle.stk_clauses.specs.Propagation.{IsOpen, HasNoPair}
@@ -14,9 +14,6 @@ in_take t k x (j, lt, e) =
     let a : j < k = omega (arith, lt, length-take k t) in
     let b : j < length t = omega (arith, lt, length-take k t) in
     (j, b, sym (get_or-take k t j x a) ∙ e)
-
-pub in_longer : (t : List Lit) (k m : ℕ) (x : Lit) → k ≤ m → Contains (take k t) x → Contains (take m t) x
-in_longer t k m x le h = in_take (take m t) k x (subst (λ ys. Contains ys x) (sym (take-take k m t le)) h)
 
 in_front : (t : List Lit) (x : Lit) (i k : ℕ) → i < k → i < length t → get_or t i x ≡ x → Contains (take k t) x
 in_front t x i k lt in' e = (i, omega (arith, lt, in', length-take k t), get_or-take k t i x lt ∙ e)

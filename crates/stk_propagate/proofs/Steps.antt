@@ -7,7 +7,7 @@ use Rattle.stk_clauses.specs.Literals.{AreBelow}
 use Rattle.stk_assignment.specs.Assigned.{Assigned}
 use Rattle.stk_chains.specs.Chained.{Chained}
 use Rattle.stk_propagate.specs.declared.inner.Inner.{Inner}
-use Rattle.stk_propagate.specs.Linked.{InSpare, IsSized, AreLinked, IsLinked}
+use Rattle.stk_propagate.specs.Linked.{InSpare, AreLinked, IsLinked}
 use Rattle.stk_propagate.proofs.Lists.{at_else}
 use Rattle.stk_propagate.proofs.Links.{Watches, Spare, Links, linked_cases}
 use Rattle.stk_propagate.proofs.Plain.{Plain, with_front, plain_free, plain_watch, plain_short, plain_taken, exchanged, plain_exchanged}
@@ -22,9 +22,6 @@ linked_vars f a ev s = record {
 
 pub linked_assigned : (f g : Inner) → g ≡ record f { assigned = g.assigned } → g.assigned.vars ≡ f.assigned.vars → IsLinked f → IsLinked g
 linked_assigned f g e ev s = subst IsLinked (sym e) (linked_vars f g.assigned ev s)
-
-pub sized_vars : (f : Inner) (a : Assigned) → a.vars ≡ f.assigned.vars → IsSized f → IsSized (record f { assigned = a })
-sized_vars f a ev s = record { many = omega (arith, s.many, ev); numbered = s.numbered; few = s.few }
 
 pub are_linked_vars : (f : Inner) (a : Assigned) (w : Lit) → a.vars ≡ f.assigned.vars → AreLinked f w (InSpare f) → AreLinked (record f { assigned = a }) w (InSpare (record f { assigned = a }))
 are_linked_vars f a w ev s l x lt =

@@ -25,7 +25,7 @@ use stk_scope::{Scoped, Size, signature_of_name};
 use stk_tree::{Base, Dimension, Expr, ExprForm, TypeName};
 
 /// The same names, where nothing is evaluated.
-fn unevaluated<'a>(s: &Scoped<'a>) -> Scoped<'a>
+pub fn unevaluated<'a>(s: &Scoped<'a>) -> Scoped<'a>
     ensures is { scope_of result ≡ unevaluated (scope_of s.now) }
     ensures names { result.names.now ≡ s.now.names.now }
 {

@@ -1,0 +1,6 @@
+//! Tests of the types of expressions, over texts.
+#![tactic(auto)]
+
+#[cfg(test)]
+mod tests;
+mod typed;

@@ -1,0 +1,202 @@
+//! The type of an expression in a text, with some locals in force.
+
+ghost use Rattle.std.specs.Prelude.{◌≡◌, ◌<◌, [], IfOk, OnOk, map};
+ghost use Rattle.stk_ctype.specs.Types.{type_of};
+ghost use Rattle.stk_ctype.specs.Structs.{Structs};
+ghost use Rattle.stk_ctype.specs.Sound.{IsSound};
+ghost use Rattle.stk_scope.specs.Scope.{AreSoundLocals, local_of};
+
+use std::alloc::Global;
+use stk_base::{Boxed, NoMemory, Span};
+use stk_ctype::{CType, IntKind, Names};
+use stk_expr::expr;
+use stk_facts::{Constancy, NodeFact, Untyped};
+use stk_lex::lex;
+use stk_scope::{LocalName, Scoped};
+use stk_tree::Expr;
+use stk_typing::expression;
+
+// The names of the locals, which stand before each text.
+const NAMES: &[u8] = b"x u c l p v a ";
+
+// An array of three integers.
+#[tactic(auto, using(crate::proofs::Locals::three_sound))]
+fn three_integers(alloc: Global) -> Result<CType, NoMemory>
+    ensures { (structs : Structs) → IfOk result (λ t. IsSound structs (type_of t)) }
+{
+    let element = Boxed::new(alloc, CType::Int(IntKind::Int))?;
+    Ok(CType::Array(element, Some(3)))
+}
+
+// The types of the locals, in this order: `int`, `unsigned`, `unsigned char`, `long`, `int *`, `void *`, `int [3]`.
+fn type_at(alloc: Global, i: u32) -> Result<CType, NoMemory>
+    ensures { (structs : Structs) → IfOk result (λ t. IsSound structs (type_of t)) }
+{
+    match i {
+        0 => Ok(CType::Int(IntKind::Int)),
+        1 => Ok(CType::Int(IntKind::UInt)),
+        2 => Ok(CType::Int(IntKind::UChar)),
+        3 => Ok(CType::Int(IntKind::Long)),
+        4 => Ok(CType::Pointer(Boxed::new(alloc, CType::Int(IntKind::Int))?)),
+        5 => Ok(CType::Pointer(Boxed::new(alloc, CType::Void)?)),
+        _ => three_integers(alloc),
+    }
+}
+
+// Adds the local of a number.
+fn add_local(locals: &mut Vec<LocalName>, i: u32, ty: CType) -> Result<(), NoMemory>
+    requires { i < 7 }
+    ensures { (structs : Structs) → IsSound structs (type_of ty) → AreSoundLocals structs (map local_of locals.old.items) → OnOk result (AreSoundLocals structs (map local_of locals.new.items)) }
+{
+    let name = Span {
+        from: 2 * i,
+        to: 2 * i + 1,
+    };
+    locals.push(LocalName { name, node: i, ty })?;
+    Ok(())
+}
+
+// The locals.
+fn locals(alloc: Global) -> Result<Vec<LocalName>, NoMemory>
+    ensures { (structs : Structs) → IfOk result (λ ls. AreSoundLocals structs (map local_of ls.items)) }
+{
+    let mut locals = Vec::new(alloc);
+    for i in 0..7u32 {
+        let ty = type_at(alloc, i)?;
+        add_local(&mut locals, i, ty)?;
+    }
+    Ok(locals)
+}
+
+// Puts a text behind another. Where there is no memory for it, it is left out, and then the test that wants it fails.
+fn add(out: &mut Vec<u8>, text: &[u8]) {
+    let _ = out.extend_from_slice(text);
+}
+
+// The name of an integer kind.
+fn kind_text(kind: IntKind) -> &'static [u8] {
+    match kind {
+        IntKind::Bool => b"_Bool",
+        IntKind::Char => b"char",
+        IntKind::SChar => b"signed char",
+        IntKind::UChar => b"unsigned char",
+        IntKind::Short => b"short",
+        IntKind::UShort => b"unsigned short",
+        IntKind::Int => b"int",
+        IntKind::UInt => b"unsigned int",
+        IntKind::Long => b"long",
+        IntKind::ULong => b"unsigned long",
+        IntKind::LLong => b"long long",
+        IntKind::ULLong => b"unsigned long long",
+    }
+}
+
+// A type in words; of an array only that it is one, since the tests ask for its size by `sizeof`.
+fn add_type(out: &mut Vec<u8>, ty: &CType) {
+    match ty {
+        CType::Void => add(out, b"void"),
+        CType::Int(kind) => add(out, kind_text(*kind)),
+        CType::Pointer(inner) => {
+            add(out, b"pointer to ");
+            add_type(out, inner.get());
+        }
+        CType::Array(inner, _) => {
+            add(out, b"array of ");
+            add_type(out, inner.get());
+        }
+        CType::Struct(_) => add(out, b"struct"),
+        CType::Function(_) => add(out, b"function"),
+    }
+}
+
+// A rule by its number.
+fn add_rule(out: &mut Vec<u8>, rule: u8) {
+    add(out, b"rule ");
+    let digits = [b'0' + rule / 10 % 10, b'0' + rule % 10];
+    if rule < 10 {
+        add(out, &digits[1..]);
+    } else {
+        add(out, &digits);
+    }
+}
+
+/// What typing says of an expression: its type in words, ` lvalue` behind it where it is one, and its constancy; or the rule
+/// that refuses a node of it.
+#[derive(Drop)]
+pub(crate) struct Said {
+    pub text: Vec<u8>,
+    pub constancy: Constancy,
+}
+
+// What a fact says.
+fn said_of(alloc: Global, fact: &NodeFact) -> Said {
+    let mut text = Vec::new(alloc);
+    add_type(&mut text, &fact.ty);
+    if fact.lvalue {
+        add(&mut text, b" lvalue");
+    }
+    Said {
+        text,
+        constancy: fact.constancy,
+    }
+}
+
+// Types a tree over no names of file scope.
+#[tactic(auto, using(crate::proofs::Locals::nothing))]
+fn typed_tree(alloc: Global, bytes: &[u8], names: &Names, e: &Expr) -> Result<Said, NoMemory>
+    requires { names.now ≡ [] }
+{
+    let locals = locals(alloc)?;
+    let scope = Scoped {
+        alloc,
+        bytes,
+        names,
+        locals: locals.as_slice(),
+        own: None,
+    };
+    let mut facts = Vec::new(alloc);
+    let mut text = Vec::new(alloc);
+    match expression(&scope, &mut facts, e) {
+        Ok(at) => {
+            if let Some(fact) = facts.get(at) {
+                return Ok(said_of(alloc, fact));
+            }
+        }
+        Err(Untyped::Rule { rule, .. }) => add_rule(&mut text, rule),
+        Err(Untyped::NoMemory) => return Err(NoMemory),
+    }
+    Ok(Said {
+        text,
+        constancy: Constancy::Varies,
+    })
+}
+
+/// What typing says of the expression that a text is; `no tree` where it is none.
+pub(crate) fn typed(alloc: Global, text: &str) -> Result<Said, NoMemory> {
+    let mut bytes = Vec::new(alloc);
+    add(&mut bytes, NAMES);
+    add(&mut bytes, text.as_bytes());
+    let mut no_tree = Vec::new(alloc);
+    add(&mut no_tree, b"no tree");
+    let none = Said {
+        text: no_tree,
+        constancy: Constancy::Varies,
+    };
+    if bytes.len() > 16_777_216 {
+        return Ok(none);
+    }
+    let tokens = lex(alloc, bytes.as_slice())?;
+    let names = Names::new(alloc);
+    if tokens.len() < 7 {
+        return Ok(none);
+    }
+    match expr(alloc, bytes.as_slice(), tokens.as_slice(), &names, 7, 1) {
+        Ok((tree, end)) => {
+            if end < tokens.len() {
+                return Ok(none);
+            }
+            typed_tree(alloc, bytes.as_slice(), &names, &tree)
+        }
+        Err(_) => Ok(none),
+    }
+}
