@@ -6,12 +6,12 @@ use Rattle.stk_blast.proofs.Residues.{length-row_from, edges_from, residue_at}
 use Rattle.stk_blast.proofs.inputs.input_row.Goals as goal
 
 pub returns-clause-length : goal.returns-clause-length
-returns-clause-length c = ap length c.in_ok-row.ensures ∙ length-row_from (1 + c.bits_before-first.result) (get_or c.args.widths.now c.args.key 0)
+returns-clause-length c = ap length c.in_ok-row.ensures ∙ length-row_from _ _
 
 pub returns-clause-edges : goal.returns-clause-edges
 returns-clause-edges c t e =
     let within = sum_by_more_le (λ x. x) c.args.widths.now c.args.key 0 c.requires.key in
-    subst (AreEdges t) (sym c.in_ok-row.ensures) (edges_from t (1 + c.bits_before-first.result) (get_or c.args.widths.now c.args.key 0) (omega (arith, within, c.bits_before-first.ensures, e)))
+    subst (AreEdges t) (sym c.in_ok-row.ensures) (edges_from t _ _ (omega (arith, within, c.bits_before-first.ensures, e)))
 
 pub returns-clause-value : goal.returns-clause-value
 returns-clause-value c values =
