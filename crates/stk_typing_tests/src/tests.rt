@@ -1,3 +1,4 @@
+use crate::initialised::{CHARACTERS, initialised};
 use crate::typed::typed;
 use std::test::Fail;
 use stk_facts::Constancy;
@@ -123,6 +124,41 @@ fn each_expression_has_its_type(rt: HostRuntime) -> Result<(), Fail> {
         let said = typed(rt.alloc(), text)?;
         assert!(rt; said.text.as_slice() == wanted.as_bytes(), "{text:?}");
         assert!(rt; said.constancy == constancy, "{text:?}");
+    }
+    Ok(())
+}
+
+// The numbers of types of objects: `int`, `int *`, `int [3]`.
+const INT: u32 = 0;
+
+const POINTER: u32 = 4;
+
+const INTEGERS: u32 = 6;
+
+// Types of objects with initialisers, and the rule that is broken; nothing where none is.
+static INITIALISERS: [(u32, &str, &str); 15] = [
+    (INT, "x", ""),
+    (INT, "y", "rule 1"),
+    (INT, "{x}", "rule 16"),
+    (INT, "(void) x", "rule 6"),
+    (POINTER, "a", ""),
+    (POINTER, "\"ab\"", ""),
+    (INTEGERS, "{x, 2}", ""),
+    (INTEGERS, "{{x}}", ""),
+    (INTEGERS, "{[1] = x}", ""),
+    (INTEGERS, "{[y] = x}", "rule 1"),
+    (INTEGERS, "x", "rule 16"),
+    (INTEGERS, "\"ab\"", "rule 16"),
+    (CHARACTERS, "\"ab\"", ""),
+    (CHARACTERS, "(\"ab\")", "rule 16"),
+    (CHARACTERS, "{'a', 0}", ""),
+];
+
+#[test]
+fn each_initialiser_fits_or_breaks_its_rule(rt: HostRuntime) -> Result<(), Fail> {
+    for &(object, text, wanted) in &INITIALISERS {
+        let said = initialised(rt.alloc(), object, text)?;
+        assert!(rt; said.as_slice() == wanted.as_bytes(), "{text:?}");
     }
     Ok(())
 }

@@ -17,7 +17,7 @@ use stk_tree::Expr;
 use stk_typing::expression;
 
 // The names of the locals, which stand before each text.
-const NAMES: &[u8] = b"x u c l p v a ";
+pub(crate) const NAMES: &[u8] = b"x u c l p v a ";
 
 // An array of three integers.
 #[tactic(auto, using(crate::proofs::Locals::three_sound))]
@@ -29,7 +29,7 @@ fn three_integers(alloc: Global) -> Result<CType, NoMemory>
 }
 
 // The types of the locals, in this order: `int`, `unsigned`, `unsigned char`, `long`, `int *`, `void *`, `int [3]`.
-fn type_at(alloc: Global, i: u32) -> Result<CType, NoMemory>
+pub(crate) fn type_at(alloc: Global, i: u32) -> Result<CType, NoMemory>
     ensures { (structs : Structs) → IfOk result (λ t. IsSound structs (type_of t)) }
 {
     match i {
@@ -57,7 +57,7 @@ fn add_local(locals: &mut Vec<LocalName>, i: u32, ty: CType) -> Result<(), NoMem
 }
 
 // The locals.
-fn locals(alloc: Global) -> Result<Vec<LocalName>, NoMemory>
+pub(crate) fn locals(alloc: Global) -> Result<Vec<LocalName>, NoMemory>
     ensures { (structs : Structs) → IfOk result (λ ls. AreSoundLocals structs (map local_of ls.items)) }
 {
     let mut locals = Vec::new(alloc);
@@ -69,7 +69,7 @@ fn locals(alloc: Global) -> Result<Vec<LocalName>, NoMemory>
 }
 
 // Puts a text behind another. Where there is no memory for it, it is left out, and then the test that wants it fails.
-fn add(out: &mut Vec<u8>, text: &[u8]) {
+pub(crate) fn add(out: &mut Vec<u8>, text: &[u8]) {
     let _ = out.extend_from_slice(text);
 }
 
@@ -110,7 +110,7 @@ fn add_type(out: &mut Vec<u8>, ty: &CType) {
 }
 
 // A rule by its number.
-fn add_rule(out: &mut Vec<u8>, rule: u8) {
+pub(crate) fn add_rule(out: &mut Vec<u8>, rule: u8) {
     add(out, b"rule ");
     let digits = [b'0' + rule / 10 % 10, b'0' + rule % 10];
     if rule < 10 {

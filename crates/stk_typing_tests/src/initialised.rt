@@ -1,0 +1,102 @@
+//! What typing says of an initialiser in a text.
+
+ghost use Rattle.std.specs.Prelude.{◌≡◌, []};
+
+use crate::typed::{NAMES, add, add_rule, locals, type_at};
+use std::alloc::Global;
+use stk_base::{Boxed, NoMemory};
+use stk_ctype::{CType, IntKind, Names};
+use stk_decl::decl;
+use stk_facts::Untyped;
+use stk_initialisers::{initial_refused, initialiser};
+use stk_lex::lex;
+use stk_scope::Scoped;
+use stk_tree::{Declaration, Init};
+
+/// The number of the type of an array of three characters; those below are the types of the locals.
+pub(crate) const CHARACTERS: u32 = 7;
+
+// The type of an object, by its number.
+fn object_at(alloc: Global, i: u32) -> Result<CType, NoMemory> {
+    if i < CHARACTERS {
+        return type_at(alloc, i);
+    }
+    let element = Boxed::new(alloc, CType::Int(IntKind::Char))?;
+    Ok(CType::Array(element, Some(3)))
+}
+
+// Types an initialiser over no names of file scope, and asks whether it fits.
+#[tactic(auto, using(crate::proofs::Locals::nothing))]
+fn refused(
+    alloc: Global,
+    bytes: &[u8],
+    names: &Names,
+    object: u32,
+    i: &Init,
+) -> Result<Option<u8>, NoMemory>
+    requires { names.now ≡ [] }
+{
+    let locals = locals(alloc)?;
+    let scope = Scoped {
+        alloc,
+        bytes,
+        names,
+        locals: locals.as_slice(),
+        own: None,
+    };
+    let mut facts = Vec::new(alloc);
+    match initialiser(&scope, &mut facts, i) {
+        Ok(leaves) => {
+            let ty = object_at(alloc, object)?;
+            Ok(initial_refused(&ty, i, leaves))
+        }
+        Err(Untyped::Rule { rule, .. }) => Ok(Some(rule)),
+        Err(Untyped::NoMemory) => Err(NoMemory),
+    }
+}
+
+// The same of a declaration's first declarator; nothing where it has no initialiser.
+fn first_refused(
+    alloc: Global,
+    bytes: &[u8],
+    names: &Names,
+    object: u32,
+    declaration: &Declaration,
+) -> Result<Option<u8>, NoMemory>
+    requires { names.now ≡ [] }
+{
+    if let Some(declr) = declaration.list.as_slice().first() {
+        if let Some(init) = &declr.init {
+            return refused(alloc, bytes, names, object, init);
+        }
+    }
+    Ok(None)
+}
+
+/// The rule that the initialiser that a text is breaks, for an object of the type with this number; nothing where it breaks
+/// none, and `no tree` where the text is no initialiser.
+pub(crate) fn initialised(alloc: Global, object: u32, text: &str) -> Result<Vec<u8>, NoMemory> {
+    let mut bytes = Vec::new(alloc);
+    add(&mut bytes, NAMES);
+    add(&mut bytes, b"int z = ");
+    add(&mut bytes, text.as_bytes());
+    add(&mut bytes, b";");
+    let mut said = Vec::new(alloc);
+    if bytes.len() > 16_777_216 {
+        return Ok(said);
+    }
+    let tokens = lex(alloc, bytes.as_slice())?;
+    let names = Names::new(alloc);
+    if tokens.len() < 7 {
+        return Ok(said);
+    }
+    match decl(alloc, bytes.as_slice(), tokens.as_slice(), &names, 7, false) {
+        Ok((tree, _)) => {
+            if let Some(rule) = first_refused(alloc, bytes.as_slice(), &names, object, &tree)? {
+                add_rule(&mut said, rule);
+            }
+        }
+        Err(_) => add(&mut said, b"no tree"),
+    }
+    Ok(said)
+}
