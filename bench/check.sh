@@ -7,7 +7,7 @@
 # Debian's packages have no checker of derivations by hints to set beside it (drat-trim, lrat-check and cake_lpr aren't among them).
 set -eu
 . "$(dirname "$0")/program.sh"
-build_program checkbench stk_base stk_clauses stk_check <<'END2'
+build_program checkbench stk_base stk_clauses stk_check <<'END'
 //! Checks a derivation with many hints.
 #![tactic(auto)]
 
@@ -72,12 +72,6 @@ fn main(rt: HostRuntime) -> io::Result<()> {
     };
     println!(rt; "{said}")
 }
-END2
-run() { # the name $1, and the program's words
-    local name=$1 TIMEFORMAT=%U took
-    shift
-    took=$( { time "$program" "$@" > result; } 2>&1 )
-    echo "$name: $took s, $(cat result)"
-}
-run 'making 1,000,001 clauses and hints'
-run 'making and checking them' check
+END
+timed 'making 1,000,001 clauses and hints'
+timed 'making and checking them' check

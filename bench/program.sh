@@ -2,6 +2,7 @@
 # these crates of the repository, which it takes in a folder of its own, and leaves the shell there, with the path in `program`. Where
 # `ending` is set, its text is added at the program's end: `said` is a `main` that prints what `answer(alloc, bytes)` says of the input.
 # `many TEXT SIZE` writes a text, given with Python's escapes, again and again, up to so many bytes.
+# `timed NAME WORD..` runs the program with these words, and prints the name, its processor seconds and what it wrote.
 top=$(cd "$(dirname "${BASH_SOURCE[0]}")/.." && pwd)
 work=$(mktemp -d)
 trap 'rm -rf "$work"' EXIT
@@ -33,4 +34,10 @@ build_program() {
 }
 many() {
     python3 -c "import sys; t = sys.argv[1].encode('latin-1').decode('unicode_escape').encode('latin-1'); n = int(sys.argv[2]); sys.stdout.buffer.write((t * (n // len(t) + 1))[:n])" "$1" "$2"
+}
+timed() {
+    local name=$1 TIMEFORMAT=%U took
+    shift
+    took=$( { time "$program" "$@" > result; } 2>&1 )
+    echo "$name: $took s, $(cat result)"
 }

@@ -9,18 +9,18 @@ set -eu
 . "$(dirname "$0")/program.sh"
 invariant() { # the function $1, its loop $2, and what the loop keeps
     mkdir -p "$work/crates/propagatebench/proofs/$1"
-    cat > "$work/crates/propagatebench/proofs/$1/Invariants.antt" <<END2
+    cat > "$work/crates/propagatebench/proofs/$1/Invariants.antt" <<END
 use Rattle.std.proofs.Common.{◌≡◌, ℕ}
 use Rattle.stk_propagate.specs.Fitting.{Fits}
 use Rattle.propagatebench.proofs.$1.Given as goal
 
 abbrev pub invariant-loop-$2 : goal.invariant-loop-$2
 invariant-loop-$2 l = record { fits : $3; vars : l.trail.assigned.vars ≡ $4 }
-END2
+END
 }
 invariant round variable 'Fits l.trail l.store' l.vars
 invariant rounds turn 'Fits l.trail l.store' l.vars
-build_program propagatebench stk_base stk_clauses stk_assignment stk_chains stk_propagate <<'END2'
+build_program propagatebench stk_base stk_clauses stk_assignment stk_chains stk_propagate <<'END'
 //! Propagates.
 #![tactic(auto)]
 ghost use Rattle.std.specs.Prelude.{◌≡◌, ◌*◌, ◌<◌, List};
@@ -154,14 +154,8 @@ fn main(rt: HostRuntime) -> io::Result<()> {
         Err(NoMemory) => println!(rt; "no memory"),
     }
 }
-END2
-run() { # the name $1, and the program's words
-    local name=$1 TIMEFORMAT=%U took
-    shift
-    took=$( { time "$program" "$@" > result; } 2>&1 )
-    echo "$name: $took s, $(cat result)"
-}
-run 'making a chain of 1,000,000 clauses'
-run 'making it and propagating' chain
-run 'making 80,000 random clauses' random made
-run 'making them and propagating, 200 times' random made propagated
+END
+timed 'making a chain of 1,000,000 clauses'
+timed 'making it and propagating' chain
+timed 'making 80,000 random clauses' random made
+timed 'making them and propagating, 200 times' random made propagated
