@@ -1,10 +1,11 @@
 -- Types that are sound stay sound as entries are added.
-use Rattle.std.proofs.Common.{◌≡◌, ◌≤◌, ◌<◌, ◌⊎◌, ℕ, suc, zero, Bool, true, false, cond, List, [], ◌∷◌, Option, Some, None, IsSome, length, refl, sym, ap, subst, ◌∙◌, inl, inr, arith, length-append}
+use Rattle.std.proofs.Common.{◌≡◌, ◌≤◌, ◌<◌, ◌+◌, ◌⊎◌, ℕ, suc, zero, Bool, true, false, cond, List, [], ◌∷◌, ◌++◌, Option, Some, None, IsSome, length, refl, sym, ap, subst, ◌∙◌, inl, inr, arith, length-append}
 use mathlib.Core.Logic.{⊎_elim}
 use Rattle.std.specs.Prelude.{IfSome, slice_index_or}
 use Rattle.std.specs.Option.{option_map}
 use Rattle.std.proofs.lemmas.Bool.{cases_eq}
 use Rattle.std.proofs.lemmas.List.{get_or-set_other, length-set, get_or_default}
+use Rattle.std.proofs.lemmas.List.Sums.{sum_by-cons}
 use Rattle.stk_base.specs.Text.{same_text}
 use Rattle.stk_ctype.specs.declared.ctype.CType.{CType}
 use Rattle.stk_ctype.specs.declared.symbol.MemberInfo.{MemberInfo}
@@ -12,15 +13,17 @@ use Rattle.stk_ctype.specs.declared.symbol.Symbol.{Symbol}
 use Rattle.stk_ctype.specs.declared.symbol.Symbol.TheVariants as symbol
 use Rattle.stk_ctype.specs.declared.symbol.NameEntry.{NameEntry}
 use Rattle.stk_ctype.specs.declared.symbol.NameEntry.TheVariants as entry
+use Rattle.stk_ctype.specs.declared.symbol.Tag.{Tag}
+use Rattle.stk_ctype.specs.declared.symbol.Tag.TheVariants as tag
 use Rattle.stk_ctype.specs.declared.facts.Layout.{Layout}
 use Rattle.stk_ctype.specs.declared.facts.Facts.{Facts}
 use Rattle.stk_ctype.specs.Types.{TypeTree, void_type, integer_type, pointer_type, array_type, struct_type, function_type, SignatureTree, signature, TypeTrees, no_types, then_type, type_of, signature_of}
 use Rattle.stk_ctype.specs.Structs.{Structs, StructLayout, struct_at, array_size, size_of, after, structs_behind, structs_of, laid_out, member_named}
-use Rattle.stk_ctype.specs.Sound.{IsWithinLimit, IsSound, IsSoundSignature, AreSound, AreMembers, IsSoundSymbol, RestsOn}
-use Rattle.stk_ctype.specs.Names.{later_of, symbol_named, find}
+use Rattle.stk_ctype.specs.Sound.{IsWithinLimit, IsSound, IsSoundSignature, AreSound, AreMembers, IsSoundSymbol, IsSoundTag, RestsOn, Keeps}
+use Rattle.stk_ctype.specs.Names.{later_of, symbol_named, find, structs_in, struct_count, tag_named, tag_behind, tag_of}
 use Rattle.stk_ctype.specs.Facts.{AreLawful, AreFactsOf, IsKept}
-use Rattle.stk_ctype.proofs.Noting.{default-append}
-use Rattle.stk_ctype.proofs.SizesOfTypes.{struct_within}
+use Rattle.stk_ctype.proofs.Noting.{default-append, structs_behind-append, facts_of_front}
+use Rattle.stk_ctype.proofs.SizesOfTypes.{struct_within, declared_sound}
 
 -- ---- structs only become complete
 -- a struct is incomplete at first, or the same
@@ -107,11 +110,11 @@ symbol_stays S T grows within (symbol.Function f) so = signature_stays S T grows
 symbol_stays S T grows within (symbol.Enumerator v) so = tt
 
 -- ---- what a name means is sound
-either_sound : (P : Symbol → Type 0) (earlier later : Option Symbol) → IfSome earlier P → IfSome later P → IfSome (later_of earlier later) P
+either_sound : {X : Type 0} (P : X → Type 0) (earlier later : Option X) → IfSome earlier P → IfSome later P → IfSome (later_of earlier later) P
 either_sound P earlier None first second = first
 either_sound P earlier (Some x) first second = second
 
-own_sound : (P : Symbol → Type 0) (b : Bool) (x : Symbol) → P x → IfSome (cond b (Some x) None) P
+own_sound : {X : Type 0} (P : X → Type 0) (b : Bool) (x : X) → P x → IfSome (cond b (Some x) None) P
 own_sound P true x so = so
 own_sound P false x so = tt
 
@@ -186,3 +189,41 @@ shown_sound f T (Some x) m is so = subst (λ n. IfSome n (λ p. IsSound T (type_
 pub kept_at : (es : List NameEntry) (id : ℕ) (k : Layout) (s : Option StructLayout) → IsKept es id (Some k) s → k.at < length es
 kept_at es id k None so = absurd so
 kept_at es id k (Some s) so = so.at
+
+-- ---- the struct of a tag is declared
+-- the struct of a tag is one of the first
+abbrev IsAmong : ℕ → Tag → Type 0
+IsAmong n (tag.Struct id) = id < n
+IsAmong n tag.Enumeration = Unit {0}
+
+named_among : (count n : ℕ) (name : List ℕ) (e : NameEntry) → count + structs_in e ≤ n → IfSome (tag_named count name e) (IsAmong n)
+named_among count n name (entry.Symbol m x) few = tt
+named_among count n name (entry.Struct None) few = tt
+named_among count n name (entry.Struct (Some t)) few = own_sound (IsAmong n) (same_text t name) (tag.Struct count) (omega (arith, few))
+named_among count n name (entry.Members id ms) few = tt
+named_among count n name (entry.Enumeration t) few = own_sound (IsAmong n) (same_text t name) tag.Enumeration tt
+
+behind_among : (count n : ℕ) (name : List ℕ) (es : List NameEntry) → count + struct_count es ≤ n → IfSome (tag_behind count name es) (IsAmong n)
+behind_among count n name [] few = tt
+behind_among count n name (e ∷ es) few =
+    let step = sum_by-cons structs_in e es in
+    either_sound (IsAmong n) (tag_named count name e) (tag_behind (count + structs_in e) name es)
+    (named_among count n name e (omega (arith, few, step)))
+    (behind_among (count + structs_in e) n name es (omega (arith, few, step)))
+
+among_sound : (facts : Facts) (es : List NameEntry) → AreFactsOf facts es → (o : Option Tag) → IfSome o (IsAmong (struct_count es)) → IfSome o (IsSoundTag (structs_of es))
+among_sound facts es so None among = tt
+among_sound facts es so (Some (tag.Struct id)) among = declared_sound facts es id so among
+among_sound facts es so (Some tag.Enumeration) among = tt
+
+pub tag_sound : (facts : Facts) (es : List NameEntry) → AreFactsOf facts es → (name : List ℕ) → IfSome (tag_of name es) (IsSoundTag (structs_of es))
+tag_sound facts es so name = among_sound facts es so (tag_of name es) (behind_among 0 (struct_count es) name es (omega arith))
+
+-- ---- one entry more
+pub added_keeps : (facts : Facts) (es : List NameEntry) (e : NameEntry) → AreFactsOf facts (es ++ e ∷ []) → Keeps (structs_of es) (structs_of (es ++ e ∷ []))
+added_keeps facts es e so =
+    let grows = subst (Grows (structs_of es)) (sym (structs_behind-append [] es e)) (grows_once (structs_of es) e (facts_of_front facts es e so).rests) in
+    record {
+      sound = λ t. sound_stays (structs_of es) (structs_of (es ++ e ∷ [])) grows (struct_within facts (es ++ e ∷ []) so) t;
+      sizes = λ t. size_stays (structs_of es) (structs_of (es ++ e ∷ [])) grows t;
+    }

@@ -47,7 +47,7 @@ pub less_popped : (at next : CType) (row rest : List CType) (outer : CType) (o :
 less_popped at next row rest outer o is so last some split =
     let here = subst (IsOpened at) is so in
     let whole = subst (λ l. MatchOption l ((row ≡ []) × (rest ≡ [])) (λ x. row ≡ rest ++ x ∷ [])) some split in
-    omega (arith, here.0, ap turns_of_types whole ∙ turns_append rest next)
+    omega (arith, here, ap turns_of_types whole ∙ turns_append rest next)
 
 -- out to what waits outside
 pub less_taken : (at inner : CType) (row rest : List CType) (outer : CType) (o p : Opened) → o ≡ opened.Nothing → IsOpened at o → p ≡ opened.Inner inner → IsOpened outer p → rest ≡ []
@@ -55,7 +55,7 @@ pub less_taken : (at inner : CType) (row rest : List CType) (outer : CType) (o p
 less_taken at inner row rest outer o p is so at_outer outside none =
     let here = subst (IsOpened at) is so in
     let there = subst (IsOpened outer) at_outer outside in
-    omega (arith, here.0, there.1, ap turns_of_types none, outside_void)
+    omega (arith, here, there.1, ap turns_of_types none, outside_void)
 
 -- out of a function
 pub less_back : (at r : CType) (ps row : List CType) (more no_return : Bool) (outer : CType) (o : Opened) → o ≡ opened.Nothing → IsOpened at o
@@ -63,7 +63,7 @@ pub less_back : (at r : CType) (ps row : List CType) (more no_return : Bool) (ou
     → turns (type_of ctype.Void) + turns_of_types ps + turns_outside (type_of r) < turns (type_of at) + turns_of_types row + turns_outside (type_of outer)
 less_back at r ps row more no_return outer o is so called =
     let here = subst (IsOpened at) is so in
-    omega (arith, here.0, turns_void, ap turns_outside (ap type_of called ∙ view_called r ps more no_return))
+    omega (arith, here, turns_void, ap turns_outside (ap type_of called ∙ view_called r ps more no_return))
 
 -- into a function
 pub less_into : (at r : CType) (ps row : List CType) (more no_return : Bool) (outer next : CType)

@@ -3,12 +3,12 @@ use Rattle.std.specs.Prelude.{◌≡◌, List, [], ◌∷◌, ◌++◌}
 use Rattle.stk_ctype.specs.declared.ctype.CType.{CType, CType-F, out-CType}
 use Rattle.stk_ctype.specs.declared.ctype.Signature.{Signature, out-Signature}
 
--- the parts that a type is made of: what is pointed to, the element, the result and the parameters of a function
+-- the parts of its own that a type is made of: the result and the parameters of a function
 abbrev pub parts_in : CType-F CType Signature → List CType
 parts_in CType-F.Void = []
 parts_in (CType-F.Int kind) = []
-parts_in (CType-F.Pointer t) = t ∷ []
-parts_in (CType-F.Array t n) = t ∷ []
+parts_in (CType-F.Pointer t) = []
+parts_in (CType-F.Array t n) = []
 parts_in (CType-F.Struct id) = []
 parts_in (CType-F.Function f) = (out-Signature f).result ∷ (out-Signature f).params
 

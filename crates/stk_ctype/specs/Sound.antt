@@ -5,6 +5,8 @@ use Rattle.stk_ctype.specs.declared.symbol.Symbol.{Symbol}
 use Rattle.stk_ctype.specs.declared.symbol.Symbol.TheVariants as symbol
 use Rattle.stk_ctype.specs.declared.symbol.NameEntry.{NameEntry}
 use Rattle.stk_ctype.specs.declared.symbol.NameEntry.TheVariants as entry
+use Rattle.stk_ctype.specs.declared.symbol.Tag.{Tag}
+use Rattle.stk_ctype.specs.declared.symbol.Tag.TheVariants as tag
 use Rattle.stk_ctype.specs.Types.{TypeTree, void_type, integer_type, pointer_type, array_type, struct_type, function_type, SignatureTree, signature, TypeTrees, no_types, then_type, type_of, signature_of}
 use Rattle.stk_ctype.specs.Structs.{Structs, size_limit, size_of, struct_at, struct_size}
 
@@ -58,6 +60,11 @@ AreMembers structs [] = Unit {0}
 AreMembers structs (m ∷ []) = IsLastMember structs m
 AreMembers structs (m ∷ next ∷ ms) = IsMember structs m × AreMembers structs (next ∷ ms)
 
+-- the struct of a tag is as sound as a type
+abbrev pub IsSoundTag : Structs → Tag → Type 0
+IsSoundTag structs (tag.Struct id) = IsSound structs (struct_type id)
+IsSoundTag structs tag.Enumeration = Unit {0}
+
 -- the types that a symbol mentions are sound
 abbrev pub IsSoundSymbol : Structs → Symbol → Type 0
 IsSoundSymbol structs (symbol.TypeDef t) = IsSound structs (type_of t)
@@ -71,3 +78,8 @@ RestsOn structs (entry.Symbol name symbol) = IsSoundSymbol structs symbol
 RestsOn structs (entry.Struct tag) = Unit {0}
 RestsOn structs (entry.Members id members) = (id < length structs) × (struct_at structs id ≡ None) × AreMembers structs members × (1 ≤ struct_size structs members) × (struct_size structs members ≤ size_limit)
 RestsOn structs (entry.Enumeration tag) = Unit {0}
+
+-- types that are sound stay so, and sizes that are known stay the same
+pub record Keeps (before now : Structs) : Type 0 where
+  pub sound : (t : TypeTree) → IsSound before t → IsSound now t
+  pub sizes : (t : TypeTree) → IsSome (size_of before t) → size_of now t ≡ size_of before t

@@ -1,5 +1,5 @@
 -- How many turns the loop that drops a type takes, from which it follows that it ends.
-use Rattle.std.specs.Prelude.{◌≡◌, ℕ, ◌+◌, List, map}
+use Rattle.std.specs.Prelude.{◌≡◌, ◌≤◌, ◌<◌, ℕ, ◌+◌, List, map}
 use Rattle.stk_ctype.specs.declared.ctype.CType.{CType}
 use Rattle.stk_ctype.specs.declared.ctype.CType.TheVariants as ctype
 use Rattle.stk_ctype.specs.declared.ctype.Opened.{Opened}
@@ -40,8 +40,8 @@ abbrev mutual
   pub turns_outside_signature : SignatureTree → ℕ
   turns_outside_signature (signature r ps more no_return) = turns_outside r + turns_of_row ps + 1
 
--- what is in a type, as far as the turns go
+-- what is in a type, as far as the turns go: less than it is
 abbrev pub IsOpened : CType → Opened → Type 0
-IsOpened t opened.Nothing = (turns (type_of t) ≡ 1) × (turns_outside (type_of t) ≡ 0)
-IsOpened t (opened.Inner inner) = (turns (type_of t) ≡ turns (type_of inner) + 1) × (turns_outside (type_of t) ≡ turns (type_of inner) + 1)
+IsOpened t opened.Nothing = 1 ≤ turns (type_of t)
+IsOpened t (opened.Inner inner) = (turns (type_of inner) < turns (type_of t)) × (turns (type_of inner) < turns_outside (type_of t))
 IsOpened t (opened.Function f) = t ≡ ctype.Function f

@@ -1,5 +1,5 @@
-// Copies of types. A type is listed part by part, and then built from its last part to its first, so that no nesting of types
-// takes stack.
+// Copies of types. What a pointer points to and the element of an array are shared. A function is listed part by part, and then
+// built from its last part to its first, so that no nesting of types takes stack.
 ghost use Rattle.std.specs.Prelude.{◌≡◌, ◌≤◌, [], ◌∷◌, ◌++◌, length, map, reverse, IfOk, OnOk, List};
 ghost use Rattle.stk_ctype.specs.declared.ctype.CType.{CType};
 ghost use Rattle.stk_ctype.specs.Parts.{parts, Builds};
@@ -9,7 +9,7 @@ use std::alloc::Global;
 use stk_base::{Boxed, List, NoMemory};
 
 impl CType {
-    /// An equal type.
+    /// An equal type. It takes memory for the parts of a function alone.
     pub fn copy(&self, alloc: Global) -> Result<CType, NoMemory>
         ensures { IfOk result (λ new. new ≡ self.now) }
     {
@@ -45,7 +45,6 @@ fn push_parts<'a>(waiting: &mut Vec<&'a CType>, at: &'a CType) -> Result<(), NoM
     ensures { OnOk result (map (λ t. t.now) waiting.new.items ≡ map (λ t. t.now) waiting.old.items ++ parts at.now) }
 {
     match at {
-        CType::Pointer(inner) | CType::Array(inner, _) => waiting.push(inner.get())?,
         CType::Function(inner) => {
             let signature = inner.get();
             waiting.push(&signature.result)?;
@@ -53,7 +52,8 @@ fn push_parts<'a>(waiting: &mut Vec<&'a CType>, at: &'a CType) -> Result<(), NoM
                 waiting.push(param)?;
             }
         }
-        CType::Void | CType::Int(_) | CType::Struct(_) => {}
+        CType::Void | CType::Int(_) | CType::Pointer(_) | CType::Array(_, _) | CType::Struct(_) =>
+            {}
     }
     Ok(())
 }
@@ -67,8 +67,8 @@ fn build_one(alloc: Global, built: &mut Vec<CType>, at: &CType) -> Result<CType,
         CType::Void => Ok(CType::Void),
         CType::Int(kind) => Ok(CType::Int(*kind)),
         CType::Struct(id) => Ok(CType::Struct(*id)),
-        CType::Pointer(_) => Ok(CType::Pointer(Boxed::new(alloc, take_last(built))?)),
-        CType::Array(_, count) => Ok(CType::Array(Boxed::new(alloc, take_last(built))?, *count)),
+        CType::Pointer(target) => Ok(CType::Pointer(target.share()?)),
+        CType::Array(element, count) => Ok(CType::Array(element.share()?, *count)),
         CType::Function(inner) => {
             let old = inner.get();
             let params = built.split_off(built.len() - old.params.len())?;

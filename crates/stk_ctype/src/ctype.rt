@@ -1,20 +1,21 @@
 ghost use Rattle.std.specs.Prelude.{◌≡◌, [], ◌∷◌, ◌++◌, MatchOption};
 ghost use Rattle.stk_ctype.specs.Turns.{IsOpened};
 
-use crate::IntKind;
+use crate::{IntKind, Shared};
 use std::mem;
 use stk_base::{Boxed, List};
 
 /// A type of C (C11 6.2.5): `void`, an integer type, a pointer to a type, an array of a type with its number of elements
 /// where that is known, a struct by its number, a function.
 ///
-/// Structs are numbered from 0 in the order in which names declare them.
+/// Structs are numbered from 0 in the order in which names declare them. What a pointer points to, and the element of an array,
+/// are shared by all types that are made of them.
 #[cycle(ctype)]
 pub enum CType {
     Void,
     Int(IntKind),
-    Pointer(Boxed<CType>),
-    Array(Boxed<CType>, Option<u64>),
+    Pointer(Shared<CType>),
+    Array(Shared<CType>, Option<u64>),
     Struct(u32),
     Function(Boxed<Signature>),
 }
@@ -30,7 +31,7 @@ pub struct Signature {
     pub no_return: bool,
 }
 
-/// A type taken apart by one step: nothing is in it, one type is in it, or it is a function.
+/// A type taken apart by one step: nothing is in it that nothing else owns, one type is in it, or it is a function.
 enum Opened {
     Nothing,
     Inner(CType),
@@ -43,8 +44,10 @@ impl CType {
         ensures { IsOpened self result }
     {
         match self {
-            CType::Pointer(inner) => Opened::Inner(inner.into_inner()),
-            CType::Array(inner, _) => Opened::Inner(inner.into_inner()),
+            CType::Pointer(inner) | CType::Array(inner, _) => match inner.into_inner() {
+                Some(inner) => Opened::Inner(inner),
+                None => Opened::Nothing,
+            },
             CType::Function(inner) => Opened::Function(inner),
             CType::Void | CType::Int(_) | CType::Struct(_) => Opened::Nothing,
         }
@@ -66,8 +69,10 @@ impl Drop for CType {
     fn drop(mut self) {
         loop {
             match self {
-                CType::Pointer(inner) => self = inner.into_inner(),
-                CType::Array(inner, _) => self = inner.into_inner(),
+                CType::Pointer(inner) | CType::Array(inner, _) => match inner.into_inner() {
+                    Some(inner) => self = inner,
+                    None => return,
+                },
                 CType::Function(inner) => {
                     let Signature {
                         result,

@@ -9,8 +9,8 @@ use stk_base::NoMemory;
 /// For each word its last meaning, and for each word that was pushed the meaning that it had before, so that a push can be undone.
 #[derive(Drop)]
 pub struct Index<M> {
-    last: BTreeMap<Vec<u8>, M>,
-    earlier: Vec<Option<M>>,
+    pub last: BTreeMap<Vec<u8>, M>,
+    pub earlier: Vec<Option<M>>,
 }
 
 impl<M: Copy> Index<M> {

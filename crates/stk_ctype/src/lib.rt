@@ -10,12 +10,15 @@ mod facts;
 mod index;
 mod kind;
 mod names;
+mod shared;
 mod sizes;
 mod symbol;
 #[cfg(test)]
 mod tests;
 
 pub use ctype::{CType, Signature};
+pub use index::Index;
 pub use kind::IntKind;
 pub use names::Names;
+pub use shared::Shared;
 pub use symbol::{MemberInfo, NameEntry, Symbol, Tag};

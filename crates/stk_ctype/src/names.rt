@@ -3,7 +3,7 @@ ghost use Rattle.std.specs.Option.{option_copied, option_map};
 ghost use Rattle.stk_ctype.specs.Facts.{symbol_in, IsNewLayout};
 ghost use Rattle.stk_ctype.specs.Names.{find, is_type, struct_count, tag_of};
 ghost use Rattle.stk_ctype.specs.Structs.{structs_of};
-ghost use Rattle.stk_ctype.specs.Sound.{IsSoundSymbol, RestsOn};
+ghost use Rattle.stk_ctype.specs.Sound.{IsSoundSymbol, IsSoundTag, RestsOn, Keeps};
 
 use crate::facts::{Facts, Layout};
 use crate::{NameEntry, Symbol, Tag};
@@ -65,11 +65,13 @@ impl Names {
     /// Appends an entry.
     ///
     /// The types in it are sound under the names so far, and the struct of a `Members` entry has no members yet, and then has
-    /// a size from 1 to 2,147,483,647 bytes. After `NoMemory` the names are as before.
+    /// a size from 1 to 2,147,483,647 bytes. Types that were sound before stay so, and keep their sizes. After `NoMemory` the names
+    /// are as before.
     pub fn add(&mut self, entry: NameEntry) -> Result<(), NoMemory>
         requires room { length self.old < 2 ^ 32 - 1 }
         requires rests { RestsOn (structs_of self.old) entry }
         ensures added { OnOk result (self.new ≡ self.old ++ entry ∷ []) }
+        ensures keeps { OnOk result (Keeps (structs_of self.old) (structs_of self.new)) }
         ensures kept { OnErr result (self.new ≡ self.old) }
     {
         let layout = self.new_layout(&entry)?;
@@ -135,9 +137,10 @@ impl Names {
     }
 
     /// What a tag means: the struct or the enumeration of the last entry with this tag, and `None` exactly where no entry
-    /// has it. The tag is given as bytes.
+    /// has it. The tag is given as bytes, and the struct that it means is declared.
     pub fn tag(&self, tag: &[u8]) -> Option<Tag>
-        ensures { result ≡ tag_of tag.now self.now }
+        ensures value { result ≡ tag_of tag.now self.now }
+        ensures sound { IfSome result (IsSoundTag (structs_of self.now)) }
     {
         self.facts.tags.get(tag)
     }

@@ -1,6 +1,6 @@
 // Sizes, offsets, shadowing and cuts. Sizes and offsets are those that gcc gives on x86-64.
 use crate::checking::{are_members, is_sound, rests_on};
-use crate::{CType, IntKind, MemberInfo, NameEntry, Names, Signature, Symbol, Tag};
+use crate::{CType, IntKind, MemberInfo, NameEntry, Names, Shared, Signature, Symbol, Tag};
 use std::alloc::Global;
 use std::process::Abort;
 use std::test::Fail;
@@ -35,9 +35,9 @@ fn layer(alloc: Global, part: Part, ty: CType) -> Result<CType, NoMemory> {
     Ok(match part {
         Part::Kind(kind) => CType::Int(kind),
         Part::Struct(id) => CType::Struct(id),
-        Part::Pointer => CType::Pointer(Boxed::new(alloc, ty)?),
-        Part::Array(count) => CType::Array(Boxed::new(alloc, ty)?, Some(count)),
-        Part::Open => CType::Array(Boxed::new(alloc, ty)?, None),
+        Part::Pointer => CType::Pointer(Shared::new(alloc, ty)?),
+        Part::Array(count) => CType::Array(Shared::new(alloc, ty)?, Some(count)),
+        Part::Open => CType::Array(Shared::new(alloc, ty)?, None),
     })
 }
 

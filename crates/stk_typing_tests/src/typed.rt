@@ -7,8 +7,8 @@ ghost use Rattle.stk_ctype.specs.Sound.{IsSound};
 ghost use Rattle.stk_scope.specs.Scope.{AreSoundLocals, local_of};
 
 use std::alloc::Global;
-use stk_base::{Boxed, NoMemory, Span};
-use stk_ctype::{CType, IntKind, Names};
+use stk_base::{NoMemory, Span};
+use stk_ctype::{CType, IntKind, Names, Shared};
 use stk_expr::expr;
 use stk_facts::{Constancy, NodeFact, Untyped};
 use stk_lex::lex;
@@ -24,7 +24,7 @@ pub(crate) const NAMES: &[u8] = b"x u c l p v a ";
 fn three_integers(alloc: Global) -> Result<CType, NoMemory>
     ensures { (structs : Structs) → IfOk result (λ t. IsSound structs (type_of t)) }
 {
-    let element = Boxed::new(alloc, CType::Int(IntKind::Int))?;
+    let element = Shared::new(alloc, CType::Int(IntKind::Int))?;
     Ok(CType::Array(element, Some(3)))
 }
 
@@ -37,8 +37,8 @@ pub(crate) fn type_at(alloc: Global, i: u32) -> Result<CType, NoMemory>
         1 => Ok(CType::Int(IntKind::UInt)),
         2 => Ok(CType::Int(IntKind::UChar)),
         3 => Ok(CType::Int(IntKind::Long)),
-        4 => Ok(CType::Pointer(Boxed::new(alloc, CType::Int(IntKind::Int))?)),
-        5 => Ok(CType::Pointer(Boxed::new(alloc, CType::Void)?)),
+        4 => Ok(CType::Pointer(Shared::new(alloc, CType::Int(IntKind::Int))?)),
+        5 => Ok(CType::Pointer(Shared::new(alloc, CType::Void)?)),
         _ => three_integers(alloc),
     }
 }
