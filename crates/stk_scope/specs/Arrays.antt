@@ -4,7 +4,7 @@ use Rattle.stk_ctype.specs.Types.{TypeTree, pointer_type, array_type}
 use Rattle.stk_ctype.specs.Structs.{Structs, size_of, size_limit}
 use Rattle.stk_facts.specs.declared.facts.Constancy.{Constancy}
 use Rattle.stk_facts.specs.declared.facts.Constancy.TheVariants.{Varies, Violates, Number}
-use Rattle.stk_facts.specs.Facts.{Ruled, Breaks, Fits, names_type}
+use Rattle.stk_facts.specs.Facts.{Ruled, Breaks, Fits, names_type, declares}
 use Rattle.stk_rules.specs.Types.{is_complete}
 use Rattle.stk_scope.specs.declared.arrays.Size.{Size}
 use Rattle.stk_scope.specs.declared.arrays.Size.TheVariants.{Open, Sized}
@@ -67,3 +67,16 @@ sized_as (Some t) = Fits (names_type t)
 -- the type of array parts that all need a size
 abbrev pub sized_type : Structs → List Size → TypeTree → Ruled
 sized_type structs sizes t = if lacks_type structs sizes t then Breaks 4 else sized_as (nested structs sizes t)
+
+-- the first array part of a declarator may lack a size
+abbrev pub lacks_element : Structs → List Size → TypeTree → Bool
+lacks_element structs [] t = false
+lacks_element structs (size ∷ sizes) t = has_open sizes || not (is_complete structs t)
+
+abbrev pub declared_as : Option TypeTree → Ruled
+declared_as None = Breaks 5
+declared_as (Some t) = Fits (declares t)
+
+-- the type that a declarator's array parts make
+abbrev pub declared_type : Structs → List Size → TypeTree → Ruled
+declared_type structs sizes t = if lacks_element structs sizes t then Breaks 4 else declared_as (nested structs sizes t)

@@ -1,5 +1,5 @@
 -- The type that a base names where nothing is declared: basic words, tags and typedef names that are there (C11 6.7.2).
-use Rattle.std.specs.Prelude.{ℕ, List, Option, Some, None, IfSome}
+use Rattle.std.specs.Prelude.{ℕ, List, Option, Some, None}
 use Rattle.stk_base.specs.Text.{text_of}
 use Rattle.stk_ctype.specs.declared.kind.IntKind.TheVariants.{Int}
 use Rattle.stk_ctype.specs.declared.symbol.NameEntry.{NameEntry}
@@ -8,22 +8,11 @@ use Rattle.stk_ctype.specs.declared.symbol.Symbol.TheVariants as symbol
 use Rattle.stk_ctype.specs.declared.symbol.Tag.{Tag}
 use Rattle.stk_ctype.specs.declared.symbol.Tag.TheVariants as tag
 use Rattle.stk_ctype.specs.Types.{TypeTree, integer_type, struct_type, type_of}
-use Rattle.stk_ctype.specs.Structs.{Structs, structs_of}
-use Rattle.stk_ctype.specs.Sound.{IsSound}
 use Rattle.stk_ctype.specs.Names.{find, tag_of}
 use Rattle.stk_tree.specs.Syntax.{BaseFormTree}
 use Rattle.stk_tree.specs.Syntax as s
 use Rattle.stk_facts.specs.Facts.{Ruled, Breaks, Fits, names_type}
 use Rattle.stk_scope.specs.Specifiers.{basic_type}
-
--- the struct of a tag is as sound as a type
-abbrev pub IsSoundTag : Structs → Tag → Type 0
-IsSoundTag structs (tag.Struct id) = IsSound structs (struct_type id)
-IsSoundTag structs tag.Enumeration = Unit {0}
-
--- so is each that names have
-abbrev pub AreSoundTags : List NameEntry → Type 0
-AreSoundTags entries = (name : List ℕ) → IfSome (tag_of name entries) (IsSoundTag (structs_of entries))
 
 -- what basic words name
 abbrev pub words_rule : Option TypeTree → Ruled

@@ -1,3 +1,5 @@
+pub mod Locals
+pub mod Places
 pub mod Scope
 pub mod Literals
 pub mod Specifiers

@@ -1,29 +1,15 @@
 -- The names in force at a place of a function, and what a name means there (C11 6.2.1).
-use Rattle.std.specs.Prelude.{ℕ, Bool, false, ◌==◌, if◌then◌else◌, List, [], ◌∷◌, Option, Some, None, map}
-use Rattle.stk_base.specs.declared.span.Span.{Span}
-use Rattle.stk_base.specs.Text.{text_of, same_text}
+use Rattle.std.specs.Prelude.{ℕ, Bool, false, ◌==◌, if◌then◌else◌, List, Option, Some, None, map}
 use Rattle.stk_ctype.specs.declared.kind.IntKind.TheVariants.{Int}
 use Rattle.stk_ctype.specs.declared.symbol.NameEntry.{NameEntry}
 use Rattle.stk_ctype.specs.declared.symbol.Symbol.{Symbol}
 use Rattle.stk_ctype.specs.declared.symbol.Symbol.TheVariants as symbol
-use Rattle.stk_ctype.specs.Types.{TypeTree, SignatureTree, integer_type, type_of, signature_of}
-use Rattle.stk_ctype.specs.Structs.{Structs, structs_of}
-use Rattle.stk_ctype.specs.Sound.{IsSound}
-use Rattle.stk_ctype.specs.Names.{later_of, find}
+use Rattle.stk_ctype.specs.Types.{SignatureTree, integer_type, type_of, signature_of}
+use Rattle.stk_ctype.specs.Structs.{structs_of}
+use Rattle.stk_ctype.specs.Names.{find}
 use Rattle.stk_facts.specs.Facts.{Ruled, Breaks, Fits, plain, place, named, literal}
-use Rattle.stk_scope.specs.Bases.{AreSoundTags}
-use Rattle.stk_scope.specs.declared.scope.LocalName.{LocalName}
+use Rattle.stk_scope.specs.Locals.{Local, local_of, AreSoundLocals, find_local}
 use Rattle.stk_scope.specs.declared.scope.Scoped.{Scoped}
-
--- a parameter or a local object: its name, its declarator, its type
-pub record Local : Type 0 where
-  pub name : Span
-  pub node : ℕ
-  pub ty : TypeTree
-
--- what the code knows of a local
-abbrev pub local_of : LocalName → Local
-local_of l = record { name = l.name; node = l.node; ty = type_of l.ty }
 
 -- the input, the entries of file scope, the locals in force with the last one last, and the register whose initialiser this is
 pub record Scope : Type 0 where
@@ -32,32 +18,17 @@ pub record Scope : Type 0 where
   pub locals : List Local
   pub own : Option ℕ
 
--- the types of locals are sound
-abbrev pub AreSoundLocals : Structs → List Local → Type 0
-AreSoundLocals structs [] = Unit {0}
-AreSoundLocals structs (l ∷ ls) = IsSound structs l.ty × AreSoundLocals structs ls
-
 -- what the code holds of the names in force
 abbrev pub scope_of : Scoped → Scope
 scope_of s = record { bytes = s.bytes.now; entries = s.names.now; locals = map local_of s.locals.now; own = s.own }
 
--- the types of its locals are sound, and the structs of its tags
-pub record IsSoundScope (s : Scope) : Type 0 where
-  pub locals : AreSoundLocals (structs_of s.entries) s.locals
-  pub tags : AreSoundTags s.entries
+-- the types of its locals are sound
+abbrev pub IsSoundScope : Scope → Type 0
+IsSoundScope s = AreSoundLocals (structs_of s.entries) s.locals
 
 -- the same names, in no register's initialiser: where nothing is evaluated
 abbrev pub unevaluated : Scope → Scope
 unevaluated s = record { bytes = s.bytes; entries = s.entries; locals = s.locals; own = None }
-
--- a local has this name
-abbrev pub is_named : List ℕ → List ℕ → Span → Bool
-is_named bytes name at = same_text (text_of bytes at) name
-
--- the last local of a name
-abbrev pub find_local : List ℕ → List ℕ → List Local → Option Local
-find_local bytes name [] = None
-find_local bytes name (l ∷ ls) = later_of (if is_named bytes name l.name then Some l else None) (find_local bytes name ls)
 
 -- it is the one
 abbrev pub is_one : Option ℕ → ℕ → Bool
@@ -83,7 +54,7 @@ named_as own None outer = symbol_rule outer
 
 -- a name that isn't called
 abbrev pub name_rule : Scope → List ℕ → Ruled
-name_rule s name = named_as s.own (find_local s.bytes name s.locals) (find name s.entries)
+name_rule s name = named_as s.own (find_local name s.locals) (find name s.entries)
 
 -- what file scope knows of a name that is called: a function has no type of a value there
 abbrev pub called_symbol : Option Symbol → Ruled
@@ -99,7 +70,7 @@ called_as own None outer = called_symbol outer
 
 -- a name that is called
 abbrev pub callee_rule : Scope → List ℕ → Ruled
-callee_rule s name = called_as s.own (find_local s.bytes name s.locals) (find name s.entries)
+callee_rule s name = called_as s.own (find_local name s.locals) (find name s.entries)
 
 -- the signature of a function
 abbrev pub signature_in : Option Symbol → Option SignatureTree
@@ -115,4 +86,4 @@ signature_as None outer = signature_in outer
 
 -- the signature of the function that a name means, where it means one
 abbrev pub signature_named : Scope → List ℕ → Option SignatureTree
-signature_named s name = signature_as (find_local s.bytes name s.locals) (find name s.entries)
+signature_named s name = signature_as (find_local name s.locals) (find name s.entries)

@@ -6,7 +6,7 @@ ghost use Rattle.stk_ctype.specs.Types.{type_of};
 ghost use Rattle.stk_ctype.specs.Structs.{Structs, structs_of, size_of};
 ghost use Rattle.stk_ctype.specs.Sound.{IsSound};
 ghost use Rattle.stk_facts.specs.Outcome.{MakesFact};
-ghost use Rattle.stk_scope.specs.Arrays.{starred, count_of, array_within, around, is_open, nested, has_open, sized_as, sized_type};
+ghost use Rattle.stk_scope.specs.Arrays.{starred, count_of, array_within, around, is_open, nested, has_open, sized_as, sized_type, declared_as, declared_type};
 
 use std::alloc::Global;
 use stk_base::NoMemory;
@@ -168,4 +168,40 @@ pub fn sized_type(
     }
     let array = nested(alloc, names, sizes, element)?;
     sized_as(array)
+}
+
+// The type declared, where there is one.
+fn declared_as(ty: Option<CType>) -> Result<NodeFact, Broken>
+    ensures { MakesFact (declared_as (option_map type_of ty)) result }
+{
+    match ty {
+        None => Err(Broken::Rule(5)),
+        Some(ty) => Ok(NodeFact::declares(ty)),
+    }
+}
+
+/// The type that a declarator's array parts make of another, the first outermost, which may lack a size (C11 6.7.6.2). Rule 4
+/// refuses an incomplete element and a further array part without a size; rule 5 a size that isn't a constant of at least 1, and
+/// a type of more than 2,147,483,647 bytes.
+pub fn declared_type(
+    alloc: Global,
+    names: &Names,
+    sizes: &[Size],
+    element: CType,
+) -> Result<NodeFact, Broken>
+    requires { IsSound (structs_of names.now) (type_of element) }
+    ensures fact { MakesFact (declared_type (structs_of names.now) sizes.now (type_of element)) result }
+    ensures sound { IfOk result (λ f. IsSound (structs_of names.now) (type_of f.ty)) }
+{
+    let Some((first, rest)) = sizes.split_first() else {
+        return Ok(NodeFact::declares(element));
+    };
+    if has_open(rest) || !is_complete(names, &element) {
+        return Err(Broken::Rule(4));
+    }
+    let Some(inner) = nested(alloc, names, rest, element)? else {
+        return Err(Broken::Rule(5));
+    };
+    let array = around(alloc, names, *first, inner)?;
+    declared_as(array)
 }

@@ -5,12 +5,12 @@ ghost use Rattle.std.specs.Option.{option_map, option_copied};
 ghost use Rattle.stk_ctype.specs.Types.{type_of};
 ghost use Rattle.stk_ctype.specs.Names.{find, tag_of};
 ghost use Rattle.stk_ctype.specs.Structs.{Structs, structs_of};
-ghost use Rattle.stk_ctype.specs.Sound.{IsSound, IsSoundSymbol};
+ghost use Rattle.stk_ctype.specs.Sound.{IsSound, IsSoundSymbol, IsSoundTag};
 ghost use Rattle.stk_tree.specs.View.{view_base_form};
 ghost use Rattle.stk_facts.specs.Facts.{Fits, names_type};
 ghost use Rattle.stk_facts.specs.Outcome.{MakesFact};
 ghost use Rattle.stk_scope.specs.Specifiers.{basic_type};
-ghost use Rattle.stk_scope.specs.Bases.{AreSoundTags, IsSoundTag, words_rule, struct_rule, enum_rule, typedef_rule, base_rule};
+ghost use Rattle.stk_scope.specs.Bases.{words_rule, struct_rule, enum_rule, typedef_rule, base_rule};
 
 use crate::specifiers::basic_type;
 use std::alloc::Global;
@@ -83,7 +83,6 @@ pub fn base_rule(
     names: &Names,
     form: &BaseForm,
 ) -> Result<NodeFact, Broken>
-    requires { AreSoundTags names.now }
     ensures fact { MakesFact (base_rule bytes.now names.now (view_base_form form.now)) result }
     ensures sound { IfOk result (λ f. IsSound (structs_of names.now) (type_of f.ty)) }
 {

@@ -7,11 +7,13 @@
 mod arrays;
 mod bases;
 mod literals;
+mod locals;
 mod scope;
 mod specifiers;
 
-pub use arrays::{Size, sized_type, starred};
+pub use arrays::{Size, declared_type, sized_type, starred};
 pub use bases::base_rule;
 pub use literals::{character_rule, number_rule, text_rule};
-pub use scope::{LocalName, Scoped, callee_rule, find_local, name_rule, signature_of_name};
+pub use locals::{LocalName, Locals};
+pub use scope::{Scoped, callee_rule, name_rule, signature_of_name};
 pub use specifiers::{Sign, Specifiers, Width, basic_type, specified};

@@ -1,26 +1,20 @@
 //! The names in force at a place of a function.
 
-ghost use Rattle.std.specs.Prelude.{◌≡◌, IfOk, IfSome, List, ℕ, Some, None, Option, map};
+ghost use Rattle.std.specs.Prelude.{◌≡◌, IfOk, IfSome};
 ghost use Rattle.std.specs.Option.{option_map, option_copied};
 ghost use Rattle.stk_ctype.specs.Types.{type_of, signature_of};
 ghost use Rattle.stk_ctype.specs.Structs.{Structs, structs_of};
 ghost use Rattle.stk_ctype.specs.Sound.{IsSound, IsSoundSymbol, IsSoundSignature};
 ghost use Rattle.stk_facts.specs.Facts.{Fits, place};
 ghost use Rattle.stk_facts.specs.Outcome.{MakesFact};
-ghost use Rattle.stk_scope.specs.Scope.{Scope, AreSoundLocals, IsSoundScope, local_of, find_local, is_one, scope_of, local_rule, symbol_rule, named_as, name_rule, called_symbol, callee_rule, signature_in, signature_named};
+ghost use Rattle.stk_scope.specs.Scope.{IsSoundScope, is_one, scope_of, local_rule, symbol_rule, name_rule, called_symbol, callee_rule, signature_named};
+ghost use Rattle.stk_scope.specs.Locals.{local_of};
 
+use crate::{LocalName, Locals};
 use std::alloc::Global;
-use stk_base::{NoMemory, Span};
+use stk_base::NoMemory;
 use stk_ctype::{CType, IntKind, Names, Signature, Symbol};
 use stk_facts::{Broken, NodeFact};
-
-/// A parameter or a local object: its name, the number of its declarator's node, its type.
-#[derive(Drop)]
-pub struct LocalName {
-    pub name: Span,
-    pub node: u32,
-    pub ty: CType,
-}
 
 /// The names in force at a place: the input, the names of file scope, the locals with the last one last, and the declarator of
 /// the register whose initialiser this is, if it is one.
@@ -29,30 +23,8 @@ pub struct Scoped<'a> {
     pub alloc: Global,
     pub bytes: &'a [u8],
     pub names: &'a Names,
-    pub locals: &'a [LocalName],
+    pub locals: &'a Locals,
     pub own: Option<u32>,
-}
-
-// The last local of a name.
-fn last_local<'a>(bytes: &[u8], name: &[u8], locals: &'a [LocalName]) -> Option<&'a LocalName>
-    ensures { option_map local_of (option_copied result) ≡ find_local bytes.now name.now (map local_of locals.now) }
-{
-    let mut found = None;
-    for local in locals {
-        if local.name.text(bytes) == name {
-            found = Some(local);
-        }
-    }
-    found
-}
-
-/// The last local of a name, as the bytes of the input spell it; its type is sound where those of all locals are.
-#[tactic(auto, using(crate::proofs::Locals::found_sound))]
-pub fn find_local<'a>(bytes: &[u8], name: &[u8], locals: &'a [LocalName]) -> Option<&'a LocalName>
-    ensures is { option_map local_of (option_copied result) ≡ find_local bytes.now name.now (map local_of locals.now) }
-    ensures sound { (structs : Structs) → AreSoundLocals structs (map local_of locals.now) → IfSome (option_copied result) (λ l. IsSound structs (type_of l.ty)) }
-{
-    last_local(bytes, name, locals)
 }
 
 // Whether it is the one.
@@ -110,7 +82,7 @@ pub fn name_rule(s: &Scoped, name: &[u8]) -> Result<NodeFact, Broken>
     ensures fact { MakesFact (name_rule (scope_of s.now) name.now) result }
     ensures sound { IfOk result (λ f. IsSound (structs_of s.now.names.now) (type_of f.ty)) }
 {
-    match find_local(s.bytes, name, s.locals) {
+    match s.locals.find(name) {
         Some(local) => local_rule(s.alloc, s.own, local),
         None => symbol_rule(s.alloc, s.names.find(name)),
     }
@@ -137,7 +109,7 @@ pub fn callee_rule(s: &Scoped, name: &[u8]) -> Result<NodeFact, Broken>
     ensures fact { MakesFact (callee_rule (scope_of s.now) name.now) result }
     ensures sound { IfOk result (λ f. IsSound (structs_of s.now.names.now) (type_of f.ty)) }
 {
-    match find_local(s.bytes, name, s.locals) {
+    match s.locals.find(name) {
         Some(local) => local_rule(s.alloc, s.own, local),
         None => called_symbol(s.alloc, s.names.find(name)),
     }
@@ -148,7 +120,7 @@ pub fn signature_of_name<'a>(s: &Scoped<'a>, name: &[u8]) -> Option<&'a Signatur
     ensures is { option_map signature_of (option_copied result) ≡ signature_named (scope_of s.now) name.now }
     ensures sound { IfSome (option_copied result) (λ f. IsSoundSignature (structs_of s.now.names.now) (signature_of f)) }
 {
-    if find_local(s.bytes, name, s.locals).is_some() {
+    if s.locals.find(name).is_some() {
         return None;
     }
     match s.names.find(name) {

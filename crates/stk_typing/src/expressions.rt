@@ -166,8 +166,9 @@ pub fn type_name(s: &Scoped, facts: &mut Vec<NodeFact>, t: &TypeName) -> Result<
     by_type_name(s, facts, t.node.number, t.stars, sizes.as_slice(), i)
 }
 
-// Types a base without braces.
-fn base(s: &Scoped, facts: &mut Vec<NodeFact>, b: &Base) -> Result<usize, Untyped>
+/// Types a base without braces (C11 6.7.2). The answer is the place of its fact, whose type is the one that it names; or that a
+/// rule refuses it.
+pub fn base(s: &Scoped, facts: &mut Vec<NodeFact>, b: &Base) -> Result<usize, Untyped>
     requires scope { IsSoundScope (scope_of s.now) }
     requires sound { AreSoundFacts (structs_of s.now.names.now) (map fact_of facts.old.items) }
     ensures gives { Gives (IsAt (map fact_of facts.new.items)) (base_typed (scope_of s.now) (view_base b.now)) result (map fact_of facts.old.items) (map fact_of facts.new.items) }
@@ -193,9 +194,10 @@ fn dimension(s: &Scoped, facts: &mut Vec<NodeFact>, d: &Dimension) -> Result<Siz
     }
 }
 
-// Types array parts, one after the other.
+/// Types array parts, one after the other (C11 6.7.6.2). The answer says of each what its size is; or it is the first node that a
+/// rule refuses.
 #[cycle(expression)]
-fn dimensions(
+pub fn dimensions(
     s: &Scoped,
     facts: &mut Vec<NodeFact>,
     list: &[Dimension],

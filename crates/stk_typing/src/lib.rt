@@ -7,4 +7,4 @@ mod expressions;
 mod leaves;
 
 pub use calls::Arguments;
-pub use expressions::{expression, type_name, unevaluated};
+pub use expressions::{base, dimensions, expression, type_name, unevaluated};

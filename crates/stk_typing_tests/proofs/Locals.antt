@@ -6,13 +6,11 @@ use Rattle.stk_ctype.specs.declared.ctype.CType.TheVariants as ctype
 use Rattle.stk_ctype.specs.declared.kind.IntKind.TheVariants as kind
 use Rattle.stk_ctype.specs.Types.{TypeTree, integer_type, array_type, type_of}
 use Rattle.stk_ctype.proofs.Views.{view_array, view_integer}
-use Rattle.stk_ctype.specs.Structs.{Structs, structs_of}
+use Rattle.stk_ctype.specs.Structs.{Structs}
 use Rattle.stk_ctype.specs.Sound.{IsSound}
-use Rattle.stk_ctype.specs.declared.symbol.NameEntry.{NameEntry}
 use Rattle.stk_facts.specs.Facts.{AreSoundFacts}
-use Rattle.stk_scope.specs.declared.scope.LocalName.{LocalName}
-use Rattle.stk_scope.specs.Bases.{AreSoundTags}
-use Rattle.stk_scope.specs.Scope.{Local, Scope, AreSoundLocals, IsSoundScope, local_of}
+use Rattle.stk_scope.specs.declared.locals.LocalName.{LocalName}
+use Rattle.stk_scope.specs.Locals.{Local, AreSoundLocals, local_of}
 
 behind : (structs : Structs) (ls : List Local) (l : Local) → IsSound structs l.ty → AreSoundLocals structs ls → AreSoundLocals structs (ls ++ l ∷ [])
 behind structs [] l h k = (h, tt)
@@ -22,16 +20,10 @@ pub one_more_local : (structs : Structs) (old new : List LocalName) (l : LocalNa
 one_more_local structs old new l e h k =
     subst (λ (ls : List Local). AreSoundLocals structs ls) (sym (ap (map local_of) e ∙ map-append local_of old (l ∷ []))) (behind structs (map local_of old) (local_of l) h k)
 
-pub no_tags : (entries : List NameEntry) → entries ≡ [] → AreSoundTags entries
-no_tags entries e = subst (λ (es : List NameEntry). AreSoundTags es) (sym e) (λ name. tt)
-
 pub no_facts : (structs : Structs) → AreSoundFacts structs []
 no_facts structs i = tt
 
-pub scope_sound : (s : Scope) → AreSoundLocals (structs_of s.entries) s.locals → s.entries ≡ [] → IsSoundScope s
-scope_sound s h e = record { locals = h; tags = no_tags s.entries e }
-
-pub ruleset nothing = (scope_sound, no_facts)
+pub ruleset nothing = no_facts
 
 -- an array of three integers
 pub three_sound : (structs : Structs) (t : CType) → t ≡ ctype.Array (ctype.Int kind.Int) (Some 3) → IsSound structs (type_of t)

@@ -2,7 +2,7 @@
 
 ghost use Rattle.std.specs.Prelude.{◌≡◌, []};
 
-use crate::typed::{NAMES, add, add_rule, locals, type_at};
+use crate::typed::{add, add_rule, locals, type_at};
 use std::alloc::Global;
 use stk_base::NoMemory;
 use stk_ctype::{CType, IntKind, Names, Shared};
@@ -41,7 +41,7 @@ fn refused(
         alloc,
         bytes,
         names,
-        locals: locals.as_slice(),
+        locals: &locals,
         own: None,
     };
     let mut facts = Vec::new(alloc);
@@ -77,7 +77,6 @@ fn first_refused(
 /// none, and `no tree` where the text is no initialiser.
 pub(crate) fn initialised(alloc: Global, object: u32, text: &str) -> Result<Vec<u8>, NoMemory> {
     let mut bytes = Vec::new(alloc);
-    add(&mut bytes, NAMES);
     add(&mut bytes, b"int z = ");
     add(&mut bytes, text.as_bytes());
     add(&mut bytes, b";");
@@ -87,10 +86,7 @@ pub(crate) fn initialised(alloc: Global, object: u32, text: &str) -> Result<Vec<
     }
     let tokens = lex(alloc, bytes.as_slice())?;
     let names = Names::new(alloc);
-    if tokens.len() < 7 {
-        return Ok(said);
-    }
-    match decl(alloc, bytes.as_slice(), tokens.as_slice(), &names, 7, false) {
+    match decl(alloc, bytes.as_slice(), tokens.as_slice(), &names, 0, false) {
         Ok((tree, _)) => {
             if let Some(rule) = first_refused(alloc, bytes.as_slice(), &names, object, &tree)? {
                 add_rule(&mut said, rule);

@@ -1,23 +1,20 @@
 //! The type of an expression in a text, with some locals in force.
 
-ghost use Rattle.std.specs.Prelude.{◌≡◌, ◌<◌, [], IfOk, OnOk, map};
+ghost use Rattle.std.specs.Prelude.{◌≡◌, [], IfOk, OnOk, map};
 ghost use Rattle.stk_ctype.specs.Types.{type_of};
 ghost use Rattle.stk_ctype.specs.Structs.{Structs};
 ghost use Rattle.stk_ctype.specs.Sound.{IsSound};
-ghost use Rattle.stk_scope.specs.Scope.{AreSoundLocals, local_of};
+ghost use Rattle.stk_scope.specs.Locals.{AreSoundLocals, local_of};
 
 use std::alloc::Global;
-use stk_base::{NoMemory, Span};
+use stk_base::{List, NoMemory};
 use stk_ctype::{CType, IntKind, Names, Shared};
 use stk_expr::expr;
 use stk_facts::{Constancy, NodeFact, Untyped};
 use stk_lex::lex;
-use stk_scope::{LocalName, Scoped};
+use stk_scope::{LocalName, Locals, Scoped};
 use stk_tree::Expr;
 use stk_typing::expression;
-
-// The names of the locals, which stand before each text.
-pub(crate) const NAMES: &[u8] = b"x u c l p v a ";
 
 // An array of three integers.
 #[tactic(auto, using(crate::proofs::Locals::three_sound))]
@@ -43,27 +40,35 @@ pub(crate) fn type_at(alloc: Global, i: u32) -> Result<CType, NoMemory>
     }
 }
 
+// The names of the locals, in this order.
+fn name_at(i: u32) -> &'static [u8] {
+    match i {
+        0 => b"x",
+        1 => b"u",
+        2 => b"c",
+        3 => b"l",
+        4 => b"p",
+        5 => b"v",
+        _ => b"a",
+    }
+}
+
 // Adds the local of a number.
-fn add_local(locals: &mut Vec<LocalName>, i: u32, ty: CType) -> Result<(), NoMemory>
-    requires { i < 7 }
-    ensures { (structs : Structs) → IsSound structs (type_of ty) → AreSoundLocals structs (map local_of locals.old.items) → OnOk result (AreSoundLocals structs (map local_of locals.new.items)) }
+fn add_local(alloc: Global, locals: &mut Locals, i: u32) -> Result<(), NoMemory>
+    ensures { (structs : Structs) → AreSoundLocals structs (map local_of locals.old) → OnOk result (AreSoundLocals structs (map local_of locals.new)) }
 {
-    let name = Span {
-        from: 2 * i,
-        to: 2 * i + 1,
-    };
-    locals.push(LocalName { name, node: i, ty })?;
-    Ok(())
+    let ty = type_at(alloc, i)?;
+    let name = List::from_vec(Vec::from_slice(alloc, name_at(i))?);
+    locals.push(LocalName { name, node: i, ty })
 }
 
 // The locals.
-pub(crate) fn locals(alloc: Global) -> Result<Vec<LocalName>, NoMemory>
-    ensures { (structs : Structs) → IfOk result (λ ls. AreSoundLocals structs (map local_of ls.items)) }
+pub(crate) fn locals(alloc: Global) -> Result<Locals, NoMemory>
+    ensures { (structs : Structs) → IfOk result (λ ls. AreSoundLocals structs (map local_of ls)) }
 {
-    let mut locals = Vec::new(alloc);
+    let mut locals = Locals::new(alloc);
     for i in 0..7u32 {
-        let ty = type_at(alloc, i)?;
-        add_local(&mut locals, i, ty)?;
+        add_local(alloc, &mut locals, i)?;
     }
     Ok(locals)
 }
@@ -151,7 +156,7 @@ fn typed_tree(alloc: Global, bytes: &[u8], names: &Names, e: &Expr) -> Result<Sa
         alloc,
         bytes,
         names,
-        locals: locals.as_slice(),
+        locals: &locals,
         own: None,
     };
     let mut facts = Vec::new(alloc);
@@ -174,7 +179,6 @@ fn typed_tree(alloc: Global, bytes: &[u8], names: &Names, e: &Expr) -> Result<Sa
 /// What typing says of the expression that a text is; `no tree` where it is none.
 pub(crate) fn typed(alloc: Global, text: &str) -> Result<Said, NoMemory> {
     let mut bytes = Vec::new(alloc);
-    add(&mut bytes, NAMES);
     add(&mut bytes, text.as_bytes());
     let mut no_tree = Vec::new(alloc);
     add(&mut no_tree, b"no tree");
@@ -187,10 +191,7 @@ pub(crate) fn typed(alloc: Global, text: &str) -> Result<Said, NoMemory> {
     }
     let tokens = lex(alloc, bytes.as_slice())?;
     let names = Names::new(alloc);
-    if tokens.len() < 7 {
-        return Ok(none);
-    }
-    match expr(alloc, bytes.as_slice(), tokens.as_slice(), &names, 7, 1) {
+    match expr(alloc, bytes.as_slice(), tokens.as_slice(), &names, 0, 1) {
         Ok((tree, end)) => {
             if end < tokens.len() {
                 return Ok(none);
