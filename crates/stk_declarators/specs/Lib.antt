@@ -1,0 +1,5 @@
+pub mod Counting
+pub mod Parameters
+pub mod Functions
+pub mod Tails
+pub mod Rows
