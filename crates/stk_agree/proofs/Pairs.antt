@@ -40,7 +40,7 @@ pub turns_more : (ps qs : List (Bor CType × Bor CType)) (l r : Bor CType) → q
 turns_more ps qs l r is = ap (λ xs. pair_turns (pairs_of xs)) is ∙ turns_behind ps l r
 
 -- ---- signatures
-view_signature : (f : Signature) → let s = out-Signature f in signature_of f ≡ signature (type_of s.result) (row_of (map type_of s.params)) s.more s.no_return
+pub view_signature : (f : Signature) → let s = out-Signature f in signature_of f ≡ signature (type_of s.result) (row_of (map type_of s.params)) s.more s.no_return
 view_signature f = fold_out-Signature TypeTree SignatureTree type_step signature_step f
 
 pub signatures_same : (f g : Signature) → let s = out-Signature f in let t = out-Signature g in same_truth s.more t.more ≡ true
@@ -78,3 +78,8 @@ after_turns (Err e) now mid old first rest whole so is all = tt
 
 pub whole_same : {E : Type 0} (r : Result Bool E) (now old : Bool) (s t : Bool) → s ≡ t → IfOk r (λ b. (b && now) ≡ (s && old)) → IfOk r (λ b. (b && now) ≡ (t && old))
 whole_same r now old s t is so = subst (λ (u : Bool). IfOk r (λ b. (b && now) ≡ (u && old))) is so
+
+-- a pair alone
+pub pair_alone : {E : Type 0} (result : Result Bool E) (ps qs : List (Bor CType × Bor CType)) (l r : Bor CType) → ps ≡ [] → qs ≡ ps ++ (l, r) ∷ [] → IfOk result (λ b. b ≡ are_same (pairs_of qs)) → IfOk result (λ b. b ≡ same (type_of l.now) (type_of r.now))
+pair_alone (Ok b) ps qs l r none is so = so ∙ pairs_more ps qs l r is ∙ ap (λ xs. same (type_of l.now) (type_of r.now) && are_same (pairs_of xs)) none ∙ and_true (same (type_of l.now) (type_of r.now))
+pair_alone (Err e) ps qs l r none is so = tt

@@ -1,3 +1,4 @@
 pub mod Same
 pub mod Making
 pub mod Pairs
+pub mod Agreeing

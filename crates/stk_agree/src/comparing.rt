@@ -45,7 +45,7 @@ fn same_count(left: Option<u64>, right: Option<u64>) -> bool
 }
 
 // Whether both hold, or neither does.
-fn same_truth(left: bool, right: bool) -> bool
+pub(crate) fn same_truth(left: bool, right: bool) -> bool
     ensures { result ≡ same_truth left right }
 {
     match left {
@@ -131,6 +131,18 @@ fn add_parts<'a>(
     }
 }
 
+// Whether each pair that waits is of the same type.
+fn are_same<'a>(waiting: &mut Vec<(&'a CType, &'a CType)>) -> Result<bool, NoMemory>
+    ensures { IfOk result (λ r. r ≡ are_same (pairs_of waiting.old.items)) }
+{
+    while let Some((first, second)) = waiting.pop() {
+        if !add_parts(waiting, first, second)? {
+            return Ok(false);
+        }
+    }
+    Ok(true)
+}
+
 /// Whether two types are the same, by a list of pairs that are left to compare, so that no nesting of types takes stack
 /// (C11 6.2.7). Whether a function is marked as not returning is no part of its type.
 pub fn is_same<'a>(alloc: Global, left: &'a CType, right: &'a CType) -> Result<bool, NoMemory>
@@ -138,10 +150,20 @@ pub fn is_same<'a>(alloc: Global, left: &'a CType, right: &'a CType) -> Result<b
 {
     let mut waiting = Vec::new(alloc);
     waiting.push((left, right))?;
-    while let Some((first, second)) = waiting.pop() {
-        if !add_parts(&mut waiting, first, second)? {
-            return Ok(false);
-        }
+    are_same(&mut waiting)
+}
+
+/// Whether types in two rows are the same, one after the other, and equally many.
+pub fn is_same_row<'a>(
+    alloc: Global,
+    left: &'a [CType],
+    right: &'a [CType],
+) -> Result<bool, NoMemory>
+    ensures { IfOk result (λ r. r ≡ same_row (row_of (map type_of left.now)) (row_of (map type_of right.now))) }
+{
+    let mut waiting = Vec::new(alloc);
+    if !add_rows(&mut waiting, left, right)? {
+        return Ok(false);
     }
-    Ok(true)
+    are_same(&mut waiting)
 }

@@ -4,5 +4,5 @@
 mod agreement;
 mod comparing;
 
-pub use agreement::Agreement;
-pub use comparing::is_same;
+pub use agreement::{Agreement, agree, agree_signature};
+pub use comparing::{is_same, is_same_row};
