@@ -12,14 +12,6 @@ use Rattle.stk_facts.specs.Facts.{AreSoundFacts}
 use Rattle.stk_scope.specs.declared.locals.LocalName.{LocalName}
 use Rattle.stk_scope.specs.Locals.{Local, AreSoundLocals, local_of}
 
-behind : (structs : Structs) (ls : List Local) (l : Local) → IsSound structs l.ty → AreSoundLocals structs ls → AreSoundLocals structs (ls ++ l ∷ [])
-behind structs [] l h k = (h, tt)
-behind structs (x ∷ xs) l h k = (k.0, behind structs xs l h k.1)
-
-pub one_more_local : (structs : Structs) (old new : List LocalName) (l : LocalName) → new ≡ old ++ l ∷ [] → IsSound structs (type_of l.ty) → AreSoundLocals structs (map local_of old) → AreSoundLocals structs (map local_of new)
-one_more_local structs old new l e h k =
-    subst (λ (ls : List Local). AreSoundLocals structs ls) (sym (ap (map local_of) e ∙ map-append local_of old (l ∷ []))) (behind structs (map local_of old) (local_of l) h k)
-
 pub no_facts : (structs : Structs) → AreSoundFacts structs []
 no_facts structs i = tt
 

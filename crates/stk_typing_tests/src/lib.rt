@@ -1,6 +1,7 @@
-//! Tests of the types of expressions and initialisers, over texts.
+//! Tests of the types of expressions, initialisers and declarators, over texts.
 #![tactic(auto)]
 
+mod declared;
 mod initialised;
 #[cfg(test)]
 mod tests;

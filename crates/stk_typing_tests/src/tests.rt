@@ -1,6 +1,8 @@
+use crate::declared::{agreement, declared};
 use crate::initialised::{CHARACTERS, initialised};
 use crate::typed::typed;
 use std::test::Fail;
+use stk_agree::Agreement;
 use stk_facts::Constancy;
 use stk_facts::Constancy::{Number, Varies, Violates};
 
@@ -46,7 +48,7 @@ static TABLE: [(&str, &str, Constancy); 109] = [
     ("a[1]", "int lvalue", Varies),
     ("*a", "int lvalue", Varies),
     ("a + 1", "pointer to int", Varies),
-    ("&a", "pointer to array of int", Varies),
+    ("&a", "pointer to array of 3 int", Varies),
     ("&x", "pointer to int", Varies),
     ("&*v", "rule 4", Varies),
     ("&5", "rule 7", Varies),
@@ -114,7 +116,7 @@ static TABLE: [(&str, &str, Constancy); 109] = [
     ("-8 >> 1", "int", Number(-4)),
     ("(1, 2)", "int", Varies),
     ("08", "rule 11", Varies),
-    ("\"ab\" \"c\"", "array of char lvalue", Varies),
+    ("\"ab\" \"c\"", "array of 4 char lvalue", Varies),
     ("L'a'", "rule 11", Varies),
 ];
 
@@ -159,6 +161,81 @@ fn each_initialiser_fits_or_breaks_its_rule(rt: HostRuntime) -> Result<(), Fail>
     for &(object, text, wanted) in &INITIALISERS {
         let said = initialised(rt.alloc(), object, text)?;
         assert!(rt; said.as_slice() == wanted.as_bytes(), "{text:?}");
+    }
+    Ok(())
+}
+
+// Declarations, and what their first declarators declare.
+static DECLARED: [(&str, &str); 33] = [
+    ("int x;", "int"),
+    ("long *x[2];", "array of 2 pointer to long"),
+    ("int x[2][3];", "array of 2 array of 3 int"),
+    ("int x[];", "array of int"),
+    ("int x[][3];", "array of array of 3 int"),
+    ("int x[2][];", "rule 4"),
+    ("void x[2];", "rule 4"),
+    ("int x[0];", "rule 5"),
+    ("int x[1 / 0];", "rule 5"),
+    ("int x[2147483647];", "rule 5"),
+    ("int x[y];", "rule 1"),
+    ("unsigned signed x;", "rule 2"),
+    ("char x[] = \"abc\";", "array of 4 char"),
+    ("char x[] = \"a\\0b\" \"c\";", "array of 5 char"),
+    ("char x[] = {\"abc\"};", "array of 1 char"),
+    ("char x[] = \"\\q\";", "array of char"),
+    ("int x[] = {1, 2, 3};", "array of 3 int"),
+    ("int x[] = {1, {2}};", "array of int"),
+    ("int x[] = {[2] = 1};", "array of int"),
+    ("int x[] = {};", "rule 5"),
+    ("int x[][2] = {{1, 2}, {3}};", "array of 2 array of 2 int"),
+    ("int x[][2] = {1, 2};", "array of array of 2 int"),
+    ("int x[3] = {1};", "array of 3 int"),
+    ("int f(void);", "function of 0 "),
+    ("int f();", "function of 0 and more "),
+    ("int f(int a[3], char *, ...);", "function of 2 and more "),
+    ("int f(void x);", "rule 4"),
+    ("int f(int a, int a);", "rule 3"),
+    ("int f(int n, int a[n]);", "rule 5"),
+    ("int f(int n, char a[sizeof(int)], int n);", "rule 3"),
+    ("int f(struct s x);", "rule 1"),
+    ("int f(int a[0]);", "rule 5"),
+    ("int *f(int a[], int b[][2]);", "function of 2 "),
+];
+
+#[test]
+fn each_declarator_declares_its_type(rt: HostRuntime) -> Result<(), Fail> {
+    for &(text, wanted) in &DECLARED {
+        let said = declared(rt.alloc(), text)?;
+        assert!(rt; said.as_slice() == wanted.as_bytes(), "{text:?}");
+    }
+    Ok(())
+}
+
+// Two declarations, and how the types of their first declarators agree.
+static AGREEMENTS: [(&str, &str, Agreement); 16] = [
+    ("int x;", "int x;", Agreement::Old),
+    ("int x;", "long x;", Agreement::Differ),
+    ("long x;", "long long x;", Agreement::Differ),
+    ("int *x;", "int x[3];", Agreement::Differ),
+    ("int x[];", "int x[3];", Agreement::New),
+    ("int x[3];", "int x[];", Agreement::Old),
+    ("int x[3];", "int x[4];", Agreement::Differ),
+    ("int x[];", "long x[3];", Agreement::Differ),
+    ("int *x[3];", "int *x[3];", Agreement::Old),
+    ("int f(int);", "int f(int a);", Agreement::Old),
+    ("int f();", "int f(long);", Agreement::New),
+    ("int f(long);", "int f();", Agreement::Old),
+    ("int f(int);", "int f(int, ...);", Agreement::Differ),
+    ("int f(int a[3], int);", "int f(int *, int b);", Agreement::Old),
+    ("int f(int, int);", "int f(int);", Agreement::Differ),
+    ("int f(void);", "long f(void);", Agreement::Differ),
+];
+
+#[test]
+fn declarations_agree_as_they_should(rt: HostRuntime) -> Result<(), Fail> {
+    for &(old, new, wanted) in &AGREEMENTS {
+        let said = agreement(rt.alloc(), old, new)?;
+        assert!(rt; said == wanted, "{old:?} {new:?}");
     }
     Ok(())
 }

@@ -8,7 +8,7 @@ ghost use Rattle.stk_scope.specs.Locals.{AreSoundLocals, local_of};
 
 use std::alloc::Global;
 use stk_base::{List, NoMemory};
-use stk_ctype::{CType, IntKind, Names, Shared};
+use stk_ctype::{CType, IntKind, Names, Shared, Signature};
 use stk_expr::expr;
 use stk_facts::{Constancy, NodeFact, Untyped};
 use stk_lex::lex;
@@ -96,8 +96,28 @@ fn kind_text(kind: IntKind) -> &'static [u8] {
     }
 }
 
-// A type in words; of an array only that it is one, since the tests ask for its size by `sizeof`.
-fn add_type(out: &mut Vec<u8>, ty: &CType) {
+// A number below 100.
+fn add_number(out: &mut Vec<u8>, number: u8) {
+    let digits = [b'0' + number / 10 % 10, b'0' + number % 10];
+    if number < 10 {
+        add(out, &digits[1..]);
+    } else {
+        add(out, &digits);
+    }
+}
+
+// The number of elements of an array, where it is known and below 100.
+fn add_count(out: &mut Vec<u8>, count: Option<u64>) {
+    if let Some(count) = count {
+        if count < 100 {
+            add_number(out, count as u8);
+            add(out, b" ");
+        }
+    }
+}
+
+// A type in words; of the parameters of a function only how many they are, and whether it takes more.
+pub(crate) fn add_type(out: &mut Vec<u8>, ty: &CType) {
     match ty {
         CType::Void => add(out, b"void"),
         CType::Int(kind) => add(out, kind_text(*kind)),
@@ -105,24 +125,29 @@ fn add_type(out: &mut Vec<u8>, ty: &CType) {
             add(out, b"pointer to ");
             add_type(out, inner.get());
         }
-        CType::Array(inner, _) => {
+        CType::Array(inner, count) => {
             add(out, b"array of ");
+            add_count(out, *count);
             add_type(out, inner.get());
         }
         CType::Struct(_) => add(out, b"struct"),
-        CType::Function(_) => add(out, b"function"),
+        CType::Function(f) => add_signature(out, f.get()),
+    }
+}
+
+// A function's type in words.
+fn add_signature(out: &mut Vec<u8>, f: &Signature) {
+    add(out, b"function of ");
+    add_count(out, Some(f.params.len() as u64));
+    if f.more {
+        add(out, b"and more ");
     }
 }
 
 // A rule by its number.
 pub(crate) fn add_rule(out: &mut Vec<u8>, rule: u8) {
     add(out, b"rule ");
-    let digits = [b'0' + rule / 10 % 10, b'0' + rule % 10];
-    if rule < 10 {
-        add(out, &digits[1..]);
-    } else {
-        add(out, &digits);
-    }
+    add_number(out, rule);
 }
 
 /// What typing says of an expression: its type in words, ` lvalue` behind it where it is one, and its constancy; or the rule

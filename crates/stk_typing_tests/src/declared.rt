@@ -1,0 +1,114 @@
+//! What a declarator in a text declares.
+
+ghost use Rattle.std.specs.Prelude.{◌≡◌, [], map};
+ghost use Rattle.stk_ctype.specs.Structs.{structs_of};
+ghost use Rattle.stk_facts.specs.Facts.{AreSoundFacts, fact_of};
+ghost use Rattle.stk_scope.specs.Locals.{AreSoundLocals, local_of};
+
+use crate::typed::{add, add_rule, add_type};
+use std::alloc::Global;
+use stk_agree::{Agreement, agree};
+use stk_base::NoMemory;
+use stk_ctype::{CType, Names};
+use stk_decl::decl;
+use stk_declarators::{File, Tailed, are_scalars, given_count, scope, tail, tail_type};
+use stk_facts::{NodeFact, Untyped, fact, own};
+use stk_lex::lex;
+use stk_scope::{Locals, starred};
+use stk_tree::{Base, Declr, Init};
+use stk_typing::base;
+
+// How many elements an initialiser counts for what follows the name.
+fn count_for(f: &File, t: &Tailed, ty: &CType, i: &Option<Init>) -> Result<Option<u64>, NoMemory> {
+    match t {
+        Tailed::Arrays(sizes) => {
+            given_count(f.alloc, f.bytes, are_scalars(sizes.as_slice(), ty), i)
+        }
+        Tailed::Function(_, _) => Ok(None),
+    }
+}
+
+// Types a base and a declarator: the place of the declarator's fact.
+fn declarator(
+    f: &File,
+    locals: &mut Locals,
+    facts: &mut Vec<NodeFact>,
+    b: &Base,
+    d: &Declr,
+) -> Result<usize, Untyped>
+    requires locals { AreSoundLocals (structs_of f.now.names.now) (map local_of locals.old) }
+    requires sound { AreSoundFacts (structs_of f.now.names.now) (map fact_of facts.old.items) }
+{
+    let i = base(&scope(f.alloc, f.bytes, f.names, locals), facts, b)?;
+    let named = fact(facts, i).ty.copy(f.alloc)?;
+    let ty = starred(f.alloc, d.stars, named)?;
+    let t = tail(f, locals, facts, false, &d.tail)?;
+    let count = count_for(f, &t, &ty, &d.init)?;
+    let made = tail_type(f.alloc, f.names, false, count, ty, t);
+    own(facts, d.node.number, made)
+}
+
+// The type that a declarator declares over no names of file scope, or the rule that refuses one of its nodes.
+#[tactic(auto, using(crate::proofs::Locals::nothing))]
+fn declared_by(
+    alloc: Global,
+    bytes: &[u8],
+    names: &Names,
+    b: &Base,
+    d: &Declr,
+) -> Result<Result<CType, u8>, NoMemory>
+    requires { names.now ≡ [] }
+{
+    let mut locals = Locals::new(alloc);
+    let mut facts = Vec::new(alloc);
+    let f = File {
+        alloc,
+        bytes,
+        names,
+    };
+    match declarator(&f, &mut locals, &mut facts, b, d) {
+        Ok(at) => match facts.get(at) {
+            Some(fact) => Ok(Ok(fact.ty.copy(alloc)?)),
+            None => Ok(Err(0)),
+        },
+        Err(Untyped::Rule { rule, .. }) => Ok(Err(rule)),
+        Err(Untyped::NoMemory) => Err(NoMemory),
+    }
+}
+
+// The same of the first declarator of the declaration that a text is; rule 0 where it is none.
+fn declared_type(alloc: Global, text: &str) -> Result<Result<CType, u8>, NoMemory> {
+    let bytes = text.as_bytes();
+    if bytes.len() > 16_777_216 {
+        return Ok(Err(0));
+    }
+    let tokens = lex(alloc, bytes)?;
+    let names = Names::new(alloc);
+    match decl(alloc, bytes, tokens.as_slice(), &names, 0, true) {
+        Ok((tree, _)) => match tree.list.as_slice().first() {
+            Some(d) => declared_by(alloc, bytes, &names, &tree.base, d),
+            None => Ok(Err(0)),
+        },
+        Err(_) => Ok(Err(0)),
+    }
+}
+
+/// In words, the type that the first declarator of a text declares, or the rule that refuses one of its nodes.
+pub(crate) fn declared(alloc: Global, text: &str) -> Result<Vec<u8>, NoMemory> {
+    let mut out = Vec::new(alloc);
+    match declared_type(alloc, text)? {
+        Ok(ty) => add_type(&mut out, &ty),
+        Err(rule) => add_rule(&mut out, rule),
+    }
+    Ok(out)
+}
+
+/// How the types agree that the first declarators of two texts declare; they differ where one declares none.
+pub(crate) fn agreement(alloc: Global, old: &str, new: &str) -> Result<Agreement, NoMemory> {
+    let old = declared_type(alloc, old)?;
+    let new = declared_type(alloc, new)?;
+    match (&old, &new) {
+        (Ok(old), Ok(new)) => agree(alloc, old, new),
+        _ => Ok(Agreement::Differ),
+    }
+}
