@@ -1,7 +1,7 @@
 #!/bin/bash
 # Times rewriting. It builds a small program over stk_terms and stk_rewrite in a folder of its own, outside the repository:
 #   bash bench/rewrite.sh
-# The program makes random terms over three inputs, each over some of the terms just before, sums them up so that all are parts of one, and
+# The program makes random terms over three inputs, each over inputs and some of the terms just before, sums them up so that all are parts of one, and
 # rewrites that one. For each count it prints the processor seconds, the parts with their cost before and after, and the seconds of the same with the terms alone and no rewriting.
 set -eu
 . "$(dirname "$0")/program.sh"
@@ -55,9 +55,13 @@ fn made(terms: &mut Terms, op: TermOp, args: &[TermId]) -> Result<TermId, NoMemo
     }
 }
 
-// A random one of the last terms.
+// An input, or a random one of the last terms.
 fn recent(seed: u64, count: usize) -> TermId {
-    TermId(count.saturating_sub((seed >> 33) as usize % 12 + 1))
+    if (seed >> 50) % 4 == 0 {
+        TermId((seed >> 20) as usize % 3)
+    } else {
+        TermId(count.saturating_sub((seed >> 33) as usize % 12 + 1))
+    }
 }
 
 // A term of a random operator.
@@ -112,7 +116,7 @@ fn answer(alloc: Global, count: usize, rewrites: bool) -> Result<((usize, u64), 
     for _ in 0..count {
         seed = next(seed);
         let id = random(&mut terms, seed)?;
-        all = made(&mut terms, TermOp::Xor, &[all, id])?;
+        all = made(&mut terms, TermOp::Add, &[all, id])?;
     }
     let before = measured(&terms, all)?;
     if rewrites && all.0 < terms.count() {
