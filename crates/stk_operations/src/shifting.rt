@@ -1,0 +1,48 @@
+// Shifts, whose counts may have any kind.
+ghost use Rattle.std.specs.Prelude.{◌≡◌, ◌*◌, ℕ, IfOk};
+ghost use Rattle.stk_numbers.specs.Kinds.{width_of};
+ghost use Rattle.stk_numbers.specs.Values.{is_oversized};
+ghost use Rattle.stk_terms.specs.Values.{bit};
+ghost use Rattle.stk_values.specs.Charges.{wider};
+ghost use Rattle.stk_operations.specs.Standing.{stands};
+ghost use Rattle.stk_operations.specs.Valued.{IsTerm, Obeys, Grown};
+
+use crate::making::{constant, two};
+use crate::sizing::widened;
+use crate::tests::{fails, number};
+use stk_base::NoMemory;
+use stk_numbers::{IntKind, signed, width};
+use stk_terms::{TermId, TermOp, Terms};
+
+// The greater width of two kinds.
+fn wider(a: IntKind, b: IntKind) -> u8
+    ensures { result ≡ wider a b }
+{
+    if width(a) < width(b) {
+        width(b)
+    } else {
+        width(a)
+    }
+}
+
+/// Whether a count is below 0 or at least the width of the kind that is shifted, as an Int.
+#[tactic(auto, using(crate::proofs::Made::kept))]
+pub fn breaks_shift(
+    terms: &mut Terms,
+    kind: IntKind,
+    count_kind: IntKind,
+    count: TermId,
+) -> Result<TermId, NoMemory>
+    requires { IsTerm terms.old (width_of count_kind) count.0 }
+    ensures made { IfOk result (λ v. IsTerm terms.new 32 v.0) }
+    ensures value { IfOk result (λ v. (numbers : ℕ → ℕ) → Obeys terms.new numbers → numbers v.0 ≡ bit (is_oversized kind (stands count_kind (numbers count.0)))) }
+    ensures grown { Grown terms.old terms.new (10 * wider kind count_kind) }
+{
+    let w = wider(kind, count_kind);
+    let c = widened(terms, signed(count_kind), width(count_kind), w, count)?;
+    let most = constant(terms, w, u128::from(width(kind)))?;
+    let t = two(terms, TermOp::ULt, (w, w), c, most)?;
+    let f = fails(terms, t)?;
+    let v = number(terms, f)?;
+    Ok(v)
+}
