@@ -51,7 +51,7 @@ below_power (suc n) =
 large : (W : ℕ) → 1 ≤ W → W ≤ 2 ^ (W - 1)
 large W o = omega (arith, below_power (W - 1))
 
-below_zero : (m M : ℕ) → m < M → pos m -ℤ pos M ≡ negsuc (M - 1 - m)
+pub below_zero : (m M : ℕ) → m < M → pos m -ℤ pos M ≡ negsuc (M - 1 - m)
 below_zero m M h = omega (arith, ints)
 
 counted : (s : Bool) (w W m : ℕ) → 1 ≤ w → w ≤ W → m < 2 ^ w → IsCount W (decoded s w m) (residue W (decoded s w m))
@@ -83,7 +83,7 @@ count_is k ck m h = counted (is_signed ck) (width_of ck) (wider k ck) m (wide_ki
 not_less : (C w : ℕ) → not (nat_lt C w) ≡ (int_lt (pos C) (pos 0) || int_le (pos w) (pos C))
 not_less C w = grind (arith, ints)
 
-oversized_of : (k : IntKind) (W : ℕ) (y : ℤ) (C : ℕ) → width_of k ≤ W → IsCount W y C → not (nat_lt C (width_of k)) ≡ is_oversized k y
+pub oversized_of : (k : IntKind) (W : ℕ) (y : ℤ) (C : ℕ) → width_of k ≤ W → IsCount W y C → not (nat_lt C (width_of k)) ≡ is_oversized k y
 oversized_of k W y C l (Plain e b) = not_less C (width_of k) ∙ ap (is_oversized k) (sym e)
 oversized_of k W y C l (Negative n e g) =
     let f : nat_lt C (width_of k) ≡ false = (let h : width_of k ≤ C = omega (arith, l, g) in grind arith) in

@@ -5,6 +5,7 @@ pub mod Made
 pub mod Magnitudes
 pub mod Overflows
 pub mod Results
+pub mod Shifted
 pub mod Signing
 pub mod Signs
 pub mod Sizes

@@ -16,5 +16,5 @@ pub use arithmetic::arith;
 pub use comparing::{choose, compare};
 pub use conditions::breaks;
 pub use converting::{constant, converted};
-pub use shifting::breaks_shift;
+pub use shifting::{breaks_shift, shift};
 pub use tests::{both, opposite};

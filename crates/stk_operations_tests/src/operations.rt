@@ -3,9 +3,9 @@ use std::alloc::Global;
 use std::process::Abort;
 use std::test::Fail;
 use stk_base::{List, NoMemory};
-use stk_numbers::{ArithOp, CompareOp, IntKind, UbKind};
+use stk_numbers::{ArithOp, CompareOp, IntKind, ShiftOp, UbKind};
 use stk_operations::{
-    arith, both, breaks, breaks_shift, choose, compare, constant, converted, opposite,
+    arith, both, breaks, breaks_shift, choose, compare, constant, converted, opposite, shift,
 };
 use stk_terms::{Residues, TermId, Terms};
 
@@ -208,6 +208,81 @@ static COUNTS: [(IntKind, IntKind, i128, u128); 10] = [
     (IntKind::Int, IntKind::Int, -1, 1),
 ];
 
+// Shifts by counts of a kind, with the bits of their values.
+static SHIFTS: [(ShiftOp, IntKind, i128, IntKind, i128, u128); 15] = [
+    (
+        ShiftOp::Left,
+        IntKind::UInt,
+        1,
+        IntKind::Int,
+        31,
+        2_147_483_648,
+    ),
+    (
+        ShiftOp::Left,
+        IntKind::Int,
+        1,
+        IntKind::Int,
+        31,
+        2_147_483_648,
+    ),
+    (ShiftOp::Left, IntKind::Int, 1, IntKind::UChar, 32, 0),
+    (ShiftOp::Left, IntKind::ULong, 1, IntKind::SChar, -1, 0),
+    (
+        ShiftOp::Left,
+        IntKind::UInt,
+        1,
+        IntKind::ULong,
+        4_294_967_296,
+        0,
+    ),
+    (
+        ShiftOp::Right,
+        IntKind::Int,
+        -8,
+        IntKind::Int,
+        1,
+        4_294_967_292,
+    ),
+    (
+        ShiftOp::Right,
+        IntKind::Int,
+        -8,
+        IntKind::Long,
+        4_294_967_296,
+        4_294_967_295,
+    ),
+    (
+        ShiftOp::Right,
+        IntKind::UInt,
+        4_294_967_288,
+        IntKind::Int,
+        1,
+        2_147_483_644,
+    ),
+    (ShiftOp::Right, IntKind::Long, 7, IntKind::Bool, 1, 3),
+    (
+        ShiftOp::Right,
+        IntKind::Int,
+        -1,
+        IntKind::Int,
+        -1,
+        4_294_967_295,
+    ),
+    (ShiftOp::Right, IntKind::SChar, -128, IntKind::UChar, 7, 255),
+    (ShiftOp::Right, IntKind::UChar, 128, IntKind::Long, 7, 1),
+    (ShiftOp::Left, IntKind::Bool, 1, IntKind::Int, 0, 1),
+    (ShiftOp::Right, IntKind::Bool, 1, IntKind::Bool, 1, 0),
+    (
+        ShiftOp::Right,
+        IntKind::LLong,
+        -9_223_372_036_854_775_808,
+        IntKind::ULong,
+        63,
+        18_446_744_073_709_551_615,
+    ),
+];
+
 // The number of a term without inputs.
 fn number(rt: &impl Abort, alloc: Global, terms: &Terms, id: TermId) -> Result<u128, NoMemory> {
     let residues = Residues {
@@ -230,6 +305,22 @@ fn operated(
     let x = constant(terms, kind, left)?;
     let y = constant(terms, kind, right)?;
     let v = arith(terms, op, kind, x, y)?;
+    Ok(v)
+}
+
+// A constant shifted by another.
+#[tactic(auto, using(stk_operations::proofs::Made::kept))]
+fn shifted(
+    terms: &mut Terms,
+    op: ShiftOp,
+    kind: IntKind,
+    left: i128,
+    count_kind: IntKind,
+    count: i128,
+) -> Result<TermId, NoMemory> {
+    let x = constant(terms, kind, left)?;
+    let y = constant(terms, count_kind, count)?;
+    let v = shift(terms, op, kind, x, count_kind, y)?;
     Ok(v)
 }
 
@@ -324,6 +415,16 @@ fn counts_are_oversized_or_not(rt: HostRuntime) -> Result<(), Fail> {
     for (kind, count_kind, count, wanted) in &COUNTS {
         let x = constant(&mut terms, *count_kind, *count)?;
         let v = breaks_shift(&mut terms, *kind, *count_kind, x)?;
+        assert_eq!(rt; number(&rt, rt.alloc(), &terms, v)?, *wanted);
+    }
+    Ok(())
+}
+
+#[test]
+fn shifts_have_their_values(rt: HostRuntime) -> Result<(), Fail> {
+    let mut terms = Terms::new(rt.alloc(), List::empty(rt.alloc()));
+    for (op, kind, left, count_kind, count, wanted) in &SHIFTS {
+        let v = shifted(&mut terms, *op, *kind, *left, *count_kind, *count)?;
         assert_eq!(rt; number(&rt, rt.alloc(), &terms, v)?, *wanted);
     }
     Ok(())
