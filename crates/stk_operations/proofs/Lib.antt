@@ -1,0 +1,12 @@
+pub mod Booleans
+pub mod Conversions
+pub mod Counts
+pub mod Made
+pub mod Magnitudes
+pub mod Overflows
+pub mod Results
+pub mod Shifted
+pub mod Signing
+pub mod Signs
+pub mod Sizes
+pub mod Truths

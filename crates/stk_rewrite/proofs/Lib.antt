@@ -1,0 +1,10 @@
+pub mod Built
+pub mod Carrying
+pub mod Folds
+pub mod Leaves
+pub mod Normals
+pub mod Parted
+pub mod Shifting
+pub mod Standing
+pub mod Tests
+pub mod Values

@@ -1,0 +1,5 @@
+use Rattle.stk_terms.proofs.Reading.{there}
+use Rattle.stk_rewrite.proofs.reading.op_of.Goals as goal
+
+pub returns : goal.returns
+returns c = c.op.ensures _ (there c.args.terms.now c.requires.sound c.args.a.0 c.requires.exists)
