@@ -31,6 +31,7 @@ fn put(store: &mut Store, clause: &[Lit]) -> Result<(), NoMemory> {
 }
 
 /// What was read of a number: its digits so far, and its sign.
+#[derive(Clone, Copy)]
 struct Reading {
     number: u32,
     negative: bool,
