@@ -1,5 +1,5 @@
 // The trail.
-ghost use Rattle.std.specs.Prelude.{◌≡◌, ◌↔◌, ◌+◌, ◌*◌, ◌<◌, ◌++◌, ◌∷◌, ℕ, List, [], length, take, slice_index_or, IfOk, OnOk, OnErr, MatchOption, MatchBool, None, Some};
+ghost use Rattle.std.specs.Prelude.{◌≡◌, ◌↔◌, ◌+◌, ◌*◌, ◌<◌, ◌≤◌, ◌++◌, ◌∷◌, ℕ, List, [], length, take, slice_index_or, IfOk, OnOk, OnErr, MatchOption, MatchBool, None, Some};
 ghost use Rattle.std.specs.List.{Contains, All};
 ghost use Rattle.stk_clauses.specs.declared.literal.Lit.{Lit};
 ghost use Rattle.stk_clauses.specs.Literals.{negated, AreBelow};
@@ -59,8 +59,17 @@ impl Trail {
     pub fn assigned(&self) -> &[Lit]
         ensures literals { result.now ≡ self.now.assigned.literals }
         ensures facts { IsAssigned self.now.assigned }
+        ensures few { length self.now.assigned.literals ≤ 2 * self.now.assigned.vars }
     {
         self.inner.assigned.literals()
+    }
+
+    /// Where the literal stands among the true ones, counted from 0, or `None` if it isn't true.
+    pub fn place(&self, lit: Lit) -> Option<usize>
+        requires { lit.0 < 2 * self.now.assigned.vars }
+        ensures { MatchOption result (Contains self.now.assigned.literals lit → ⊥) (λ k. (k < length self.now.assigned.literals) × (slice_index_or self.now.assigned.literals k lit ≡ lit)) }
+    {
+        self.inner.assigned.place(lit)
     }
 
     /// The clause whose other literals were all false when propagation made the literal true; `None` where it was assumed or

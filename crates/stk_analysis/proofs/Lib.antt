@@ -1,0 +1,4 @@
+pub mod Marking
+pub mod Leading
+pub mod Learning
+pub mod Collecting

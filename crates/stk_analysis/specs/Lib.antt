@@ -1,0 +1,4 @@
+pub mod Marking
+pub mod Guides
+pub mod Learnt
+pub mod Inside

@@ -1,0 +1,71 @@
+// How a search ends.
+ghost use Rattle.std.specs.Prelude.{◌≡◌, ◌+◌, ◌<◌, ◌↔◌, [], length, slice_index_or, true, false, IsTrue, Some, IfOk};
+ghost use Rattle.std.specs.List.{All};
+ghost use Rattle.stk_clauses.specs.Literals.{Satisfies};
+ghost use Rattle.stk_clauses.specs.Propagation.{AllFalse, AreQuiet};
+ghost use Rattle.stk_clauses.specs.Derivations.{IsRefutation, IsSpentLog};
+ghost use Rattle.stk_solver.specs.Searching.{IsSearch, AreAllAssigned};
+
+use crate::search::Search;
+use std::alloc::Global;
+use stk_base::NoMemory;
+use stk_clauses::{Derived, Lit, Store};
+
+fn is_true(value: Option<bool>) -> bool
+    ensures { IsTrue result ↔ (value ≡ Some true) }
+{
+    match value {
+        None => false,
+        Some(value) => value,
+    }
+}
+
+impl Search {
+    /// The variables' values, where each has one and every clause is quiet.
+    pub(crate) fn values(&self, alloc: Global, _given: &Store) -> Result<Vec<bool>, NoMemory>
+        requires search { IsSearch self.now _given.now }
+        requires quiet { AreQuiet self.now.trail.assigned.literals self.now.store }
+        requires all { AreAllAssigned self.now.trail.assigned.literals self.now.vars }
+        ensures satisfies { IfOk result (λ v. Satisfies (λ k. slice_index_or v.items k false) _given.now) }
+        ensures each { IfOk result (λ v. length v.items ≡ self.now.vars) }
+    {
+        let _ = self.trail.assigned();
+        let mut values = Vec::with_capacity(alloc, self.vars as usize)?;
+        for variable in 0..self.vars {
+            values.push(is_true(self.trail.value(Lit::new(variable, false))))?;
+        }
+        Ok(values)
+    }
+
+    /// The log with the empty clause as its last step, after a conflict where nothing is assumed.
+    pub(crate) fn refute(
+        mut self,
+        alloc: Global,
+        _given: &Store,
+        conflict: u32,
+    ) -> Result<Vec<Derived>, NoMemory>
+        requires search { IsSearch self _given.now }
+        requires none { length self.levels.items ≡ 0 }
+        requires exists { conflict < length self.store }
+        requires falsified { AllFalse self.trail.assigned.literals (slice_index_or self.store conflict []) }
+        ensures refutes { IfOk result (λ d. IsRefutation self.vars _given.now d.items) }
+        ensures longer { IfOk result (λ d. length d.items ≡ length self.log.items + 1) }
+    {
+        let last = self
+            .analysis
+            .refute(alloc, &self.trail, &self.store, conflict)?;
+        self.log.push(last)?;
+        Ok(self.log)
+    }
+
+    /// The log, where a conflict stands above level 0.
+    pub(crate) fn spent(self, _given: &Store, _conflict: u32) -> Vec<Derived>
+        requires search { IsSearch self _given.now }
+        requires some { 0 < length self.levels.items }
+        requires exists { _conflict < length self.store }
+        requires falsified { AllFalse self.trail.assigned.literals (slice_index_or self.store _conflict []) }
+        ensures { IsSpentLog self.vars _given.now (length self.log.items) result.items }
+    {
+        self.log
+    }
+}

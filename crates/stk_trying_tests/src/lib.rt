@@ -1,0 +1,5 @@
+//! Tests of trying all inputs of a term.
+#![tactic(auto)]
+
+#[cfg(test)]
+mod tests;
