@@ -1,6 +1,7 @@
 pub mod Booleans
 pub mod Conversions
 pub mod Counts
+pub mod Distances
 pub mod Made
 pub mod Magnitudes
 pub mod Overflows

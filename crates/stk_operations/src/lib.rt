@@ -2,6 +2,7 @@
 //! residues of the inputs, at no more than the charge of the call.
 #![tactic(auto)]
 
+mod addresses;
 mod arithmetic;
 mod comparing;
 mod conditions;
@@ -12,6 +13,7 @@ mod shifting;
 mod sizing;
 mod tests;
 
+pub use addresses::{breaks_bounds, distance};
 pub use arithmetic::arith;
 pub use comparing::{choose, compare};
 pub use conditions::breaks;
