@@ -17,7 +17,8 @@ use Rattle.stk_facts.specs.Facts.{Breaks, Fits, declares}
 use Rattle.stk_facts.specs.Outcome.{Outcome, Good, Refused}
 use Rattle.stk_agree.specs.Making.{made, made_signature}
 use Rattle.stk_agree.specs.Agreeing.{agree}
-use Rattle.stk_declare.specs.Symbols.{object, agreed_rule}
+use Rattle.stk_declare.specs.declared.symbols.Sort.TheVariants.{Object}
+use Rattle.stk_declare.specs.Symbols.{agreed_rule}
 use Rattle.stk_declare.specs.Declaring.{unit_declared}
 
 -- the text, in which names and numbers stand: `abst13`
@@ -70,10 +71,10 @@ int_declared : in_force (unit_declared text false [] (one None (int_base 0) (nam
 int_declared = refl
 
 -- the same once more, and `long a;` behind it
-int_agrees : agreed_rule [] None object s.no_initialiser int_type (agree int_type int_type) ≡ Fits (declares int_type)
+int_agrees : agreed_rule [] None Object s.no_initialiser int_type (agree int_type int_type) ≡ Fits (declares int_type)
 int_agrees = refl
 
-long_differs : agreed_rule [] None object s.no_initialiser (integer_type kind.Long) (agree int_type (integer_type kind.Long)) ≡ Breaks 3
+long_differs : agreed_rule [] None Object s.no_initialiser (integer_type kind.Long) (agree int_type (integer_type kind.Long)) ≡ Breaks 3
 long_differs = refl
 
 -- `int a[];`, `extern int a[];`, `int a[] = {1, 3};`

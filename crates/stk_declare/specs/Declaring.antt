@@ -19,7 +19,7 @@ use Rattle.stk_tags.specs.Uses.{base_uses, declarator_uses, tail_uses}
 use Rattle.stk_declarators.specs.Counting.{given_count}
 use Rattle.stk_declarators.specs.Tails.{TailShape, of_arrays, of_function, tail_typed, tail_type, are_scalars}
 use Rattle.stk_declare.specs.Tags.{at_file, behind_uses}
-use Rattle.stk_declare.specs.Symbols.{Sort, sort_of, declarator_rule, added}
+use Rattle.stk_declare.specs.Symbols.{sort_of, declarator_rule, added}
 use Rattle.stk_declare.specs.Structs.{Based, base_declared}
 
 -- the name of a declarator

@@ -14,49 +14,45 @@ use Rattle.stk_facts.specs.Facts.{Ruled, Breaks, Fits, declares}
 use Rattle.stk_rules.specs.Types.{is_complete, is_void}
 use Rattle.stk_initialisers.specs.Fitting.{fits}
 use Rattle.stk_declarators.specs.Tails.{TailShape, of_arrays, of_function}
+use Rattle.stk_declare.specs.declared.symbols.Sort.{Sort}
+use Rattle.stk_declare.specs.declared.symbols.Sort.TheVariants as sort
 use Rattle.stk_agree.specs.declared.agreement.Agreement.{Agreement}
 use Rattle.stk_agree.specs.declared.agreement.Agreement.TheVariants.{Differ, Old, New}
 use Rattle.stk_agree.specs.Agreeing.{agree}
 use Rattle.stk_agree.specs.Making.{made, made_signature}
 
--- what a declarator declares: a typedef name, an object or a function
-pub data Sort : Type 0 where
-  type_name : Sort
-  object : Sort
-  function : Sort
-
 -- an object, or a function where a typedef names the type of one
 abbrev pub sort_by_type : TypeTree → Sort
-sort_by_type void_type = object
-sort_by_type (integer_type k) = object
-sort_by_type (pointer_type t) = object
-sort_by_type (array_type t count) = object
-sort_by_type (struct_type id) = object
-sort_by_type (function_type f) = function
+sort_by_type void_type = sort.Object
+sort_by_type (integer_type k) = sort.Object
+sort_by_type (pointer_type t) = sort.Object
+sort_by_type (array_type t count) = sort.Object
+sort_by_type (struct_type id) = sort.Object
+sort_by_type (function_type f) = sort.Function
 
 -- what follows the name decides, or the type alone where nothing does
 abbrev pub sort_by_tail : TailShape → TypeTree → Sort
-sort_by_tail (of_function ps more) t = function
-sort_by_tail (of_arrays (size ∷ sizes)) t = object
+sort_by_tail (of_function ps more) t = sort.Function
+sort_by_tail (of_arrays (size ∷ sizes)) t = sort.Object
 sort_by_tail (of_arrays []) t = sort_by_type t
 
 abbrev pub sort_of : Option Storage → TailShape → TypeTree → Sort
 sort_of None tail t = sort_by_tail tail t
-sort_of (Some storage.Typedef) tail t = type_name
+sort_of (Some storage.Typedef) tail t = sort.TypeName
 sort_of (Some storage.Extern) tail t = sort_by_tail tail t
 sort_of (Some storage.Static) tail t = sort_by_tail tail t
 
 -- whether a name stands for something of another sort, or for what can't be declared twice
 abbrev pub clashes : Option Symbol → Sort → Bool
-clashes None sort = false
-clashes (Some (symbol.TypeDef t)) sort = true
-clashes (Some (symbol.Enumerator v)) sort = true
-clashes (Some (symbol.Object t)) type_name = true
-clashes (Some (symbol.Object t)) object = false
-clashes (Some (symbol.Object t)) function = true
-clashes (Some (symbol.Function f)) type_name = true
-clashes (Some (symbol.Function f)) object = true
-clashes (Some (symbol.Function f)) function = false
+clashes None what = false
+clashes (Some (symbol.TypeDef t)) what = true
+clashes (Some (symbol.Enumerator v)) what = true
+clashes (Some (symbol.Object t)) sort.TypeName = true
+clashes (Some (symbol.Object t)) sort.Object = false
+clashes (Some (symbol.Object t)) sort.Function = true
+clashes (Some (symbol.Function f)) sort.TypeName = true
+clashes (Some (symbol.Function f)) sort.Object = true
+clashes (Some (symbol.Function f)) sort.Function = false
 
 -- how a type agrees with what an earlier declaration says
 abbrev pub agreement : Option Symbol → TypeTree → Agreement
@@ -80,31 +76,31 @@ may_be_object structs (Some storage.Static) t = is_complete structs t
 
 -- a typedef name stands for no array of unknown size
 abbrev pub may_be : Structs → Option Storage → Sort → TypeTree → Bool
-may_be structs word type_name t = not (is_open_array t)
-may_be structs word object t = may_be_object structs word t
-may_be structs word function t = true
+may_be structs word sort.TypeName t = not (is_open_array t)
+may_be structs word sort.Object t = may_be_object structs word t
+may_be structs word sort.Function t = true
 
 -- an object may have an initialiser that fits its type
 abbrev pub may_begin : Sort → TypeTree → MaybeInitTree → Bool
-may_begin sort t s.no_initialiser = true
-may_begin type_name t (s.some_initialiser i) = false
-may_begin object t (s.some_initialiser i) = fits t i
-may_begin function t (s.some_initialiser i) = false
+may_begin what t s.no_initialiser = true
+may_begin sort.TypeName t (s.some_initialiser i) = false
+may_begin sort.Object t (s.some_initialiser i) = fits t i
+may_begin sort.Function t (s.some_initialiser i) = false
 
 -- a declarator that declares this type, by how it agrees with earlier declarations
 abbrev pub agreed_rule : Structs → Option Storage → Sort → MaybeInitTree → TypeTree → Agreement → Ruled
-agreed_rule structs word sort i t Differ = Breaks 3
-agreed_rule structs word sort i t Old = if may_be structs word sort t then (if may_begin sort t i then Fits (declares t) else Breaks 16) else Breaks 4
-agreed_rule structs word sort i t New = if may_be structs word sort t then (if may_begin sort t i then Fits (declares t) else Breaks 16) else Breaks 4
+agreed_rule structs word what i t Differ = Breaks 3
+agreed_rule structs word what i t Old = if may_be structs word what t then (if may_begin what t i then Fits (declares t) else Breaks 16) else Breaks 4
+agreed_rule structs word what i t New = if may_be structs word what t then (if may_begin what t i then Fits (declares t) else Breaks 16) else Breaks 4
 
 -- the same of what its parts make
 abbrev pub made_rule : Structs → Option Storage → Sort → Option Symbol → MaybeInitTree → Ruled → Ruled
-made_rule structs word sort earlier i (Breaks r) = Breaks r
-made_rule structs word sort earlier i (Fits x) = agreed_rule structs word sort i x.ty (agreement earlier x.ty)
+made_rule structs word what earlier i (Breaks r) = Breaks r
+made_rule structs word what earlier i (Fits x) = agreed_rule structs word what i x.ty (agreement earlier x.ty)
 
 -- a declarator, whose name means this before it
 abbrev pub declarator_rule : Structs → Option Storage → Sort → Option Symbol → MaybeInitTree → Ruled → Ruled
-declarator_rule structs word sort earlier i made = if clashes earlier sort then Breaks 3 else made_rule structs word sort earlier i made
+declarator_rule structs word what earlier i made = if clashes earlier what then Breaks 3 else made_rule structs word what earlier i made
 
 -- ---- the entry that it adds
 -- whether a function was marked as not returning
@@ -121,10 +117,10 @@ marked mark (signature r ps more x) = signature r ps more mark
 
 -- the meaning of a name of this sort and type
 abbrev pub meaning : Sort → Bool → TypeTree → Symbol
-meaning type_name mark t = symbol.TypeDef (made t)
-meaning object mark t = symbol.Object (made t)
-meaning function mark (function_type f) = symbol.Function (made_signature (marked mark f))
-meaning function mark t = symbol.Object (made t)
+meaning sort.TypeName mark t = symbol.TypeDef (made t)
+meaning sort.Object mark t = symbol.Object (made t)
+meaning sort.Function mark (function_type f) = symbol.Function (made_signature (marked mark f))
+meaning sort.Function mark t = symbol.Object (made t)
 
 -- the type that holds: the earlier one, or this one
 abbrev pub holding : Option Symbol → TypeTree → Agreement → TypeTree
@@ -144,6 +140,6 @@ says_more was now Old = now && not was
 
 -- the entries that a declarator adds: its name with the type that holds, where it says something new
 abbrev pub added : List ℕ → Sort → Bool → Option Symbol → TypeTree → List NameEntry
-added name sort mark earlier t =
+added name what mark earlier t =
     if says_more (was_marked earlier) mark (agreement earlier t)
-    then entry.Symbol name (meaning sort (mark || was_marked earlier) (holding earlier t (agreement earlier t))) ∷ [] else []
+    then entry.Symbol name (meaning what (mark || was_marked earlier) (holding earlier t (agreement earlier t))) ∷ [] else []

@@ -95,8 +95,9 @@ fn takes_braces(ty: &CType) -> bool
     }
 }
 
-// Whether an initialiser fits a type, so far as its form tells.
-fn fits(ty: &CType, i: &Init) -> bool
+/// Whether an initialiser fits a type, so far as its form tells (C11 6.7.9): an expression a scalar, a string literal an array of
+/// characters, braces an array or a struct.
+pub fn fits(ty: &CType, i: &Init) -> bool
     ensures { result ≡ fits (type_of ty.now) (view_initialiser i.now) }
 {
     match i {

@@ -5,6 +5,6 @@ mod fitting;
 mod initialisers;
 mod leaves;
 
-pub use fitting::initial_refused;
+pub use fitting::{fits, initial_refused};
 pub use initialisers::initialiser;
 pub use leaves::Leaves;

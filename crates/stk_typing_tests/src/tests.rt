@@ -226,7 +226,11 @@ static AGREEMENTS: [(&str, &str, Agreement); 16] = [
     ("int f();", "int f(long);", Agreement::New),
     ("int f(long);", "int f();", Agreement::Old),
     ("int f(int);", "int f(int, ...);", Agreement::Differ),
-    ("int f(int a[3], int);", "int f(int *, int b);", Agreement::Old),
+    (
+        "int f(int a[3], int);",
+        "int f(int *, int b);",
+        Agreement::Old,
+    ),
     ("int f(int, int);", "int f(int);", Agreement::Differ),
     ("int f(void);", "long f(void);", Agreement::Differ),
 ];

@@ -1,0 +1,5 @@
+pub mod Bodies
+pub mod Locals
+pub mod Sections
+pub mod Statements
+pub mod Functions

@@ -1,0 +1,239 @@
+//! What a declarator of file scope declares, and how it agrees with earlier declarations of its name.
+
+ghost use Rattle.std.specs.Prelude.{◌≡◌, IfOk};
+ghost use Rattle.std.specs.Option.{option_map, option_copied};
+ghost use Rattle.stk_ctype.specs.Types.{function_type, type_of, signature_of};
+ghost use Rattle.stk_ctype.specs.Structs.{Structs, structs_of};
+ghost use Rattle.stk_ctype.specs.Sound.{IsSound};
+ghost use Rattle.stk_tree.specs.View.{view_initialiser, maybe_initialiser};
+ghost use Rattle.stk_facts.specs.Facts.{Ruled, declares, fact_of};
+ghost use Rattle.stk_facts.specs.Outcome.{MakesFact};
+ghost use Rattle.stk_declarators.specs.Tails.{TailShape};
+ghost use Rattle.stk_declarators.specs.Rows.{IsShape};
+ghost use Rattle.stk_agree.specs.Agreeing.{agree};
+ghost use Rattle.stk_declare.specs.Symbols.{sort_by_type, sort_by_tail, sort_of, clashes, agreement, is_open_array, may_be_object, may_be, may_begin, agreed_rule, made_rule, declarator_rule};
+
+use std::alloc::Global;
+use stk_agree::{Agreement, agree, agree_signature};
+use stk_base::NoMemory;
+use stk_ctype::{CType, Names, Signature, Symbol};
+use stk_declarators::Tailed;
+use stk_facts::{Broken, NodeFact};
+use stk_initialisers::fits;
+use stk_rules::{is_complete, is_void};
+use stk_tree::{Init, Storage};
+
+/// What a declarator declares: a typedef name, an object or a function.
+#[derive(Clone, Copy, Debug, PartialEq, Eq)]
+pub enum Sort {
+    TypeName,
+    Object,
+    Function,
+}
+
+// An object, or a function where a typedef names the type of one.
+fn sort_by_type(ty: &CType) -> Sort
+    ensures { result ≡ sort_by_type (type_of ty.now) }
+{
+    match ty {
+        CType::Void | CType::Int(_) | CType::Pointer(_) | CType::Array(_, _) | CType::Struct(_) => {
+            Sort::Object
+        }
+        CType::Function(_) => Sort::Function,
+    }
+}
+
+// What follows the name decides, or the type alone where nothing does.
+fn sort_by_tail(t: &Tailed, ty: &CType) -> Sort
+    ensures { (s : TailShape) → IsShape s t.now → result ≡ sort_by_tail s (type_of ty.now) }
+{
+    match t {
+        Tailed::Function(_, _) => Sort::Function,
+        Tailed::Arrays(sizes) => match sizes.as_slice() {
+            [] => sort_by_type(ty),
+            [_, _rest @ ..] => Sort::Object,
+        },
+    }
+}
+
+/// What a declarator declares, behind a storage word, with what follows its name and the type that its base and stars name.
+pub fn sort_of(word: Option<Storage>, t: &Tailed, ty: &CType) -> Sort
+    ensures { (s : TailShape) → IsShape s t.now → result ≡ sort_of word s (type_of ty.now) }
+{
+    match word {
+        Some(Storage::Typedef) => Sort::TypeName,
+        None | Some(Storage::Extern) | Some(Storage::Static) => sort_by_tail(t, ty),
+    }
+}
+
+// Whether a name stands for something of another sort, or for what can't be declared twice.
+fn clashes(earlier: Option<&Symbol>, what: Sort) -> bool
+    ensures { result ≡ clashes (option_copied earlier.entry) what }
+{
+    match earlier {
+        None => false,
+        Some(Symbol::TypeDef(_)) | Some(Symbol::Enumerator(_)) => true,
+        Some(Symbol::Object(_)) => match what {
+            Sort::Object => false,
+            Sort::TypeName | Sort::Function => true,
+        },
+        Some(Symbol::Function(_)) => match what {
+            Sort::Function => false,
+            Sort::TypeName | Sort::Object => true,
+        },
+    }
+}
+
+// Whether a type is an array of unknown size.
+fn is_open_array(ty: &CType) -> bool
+    ensures { result ≡ is_open_array (type_of ty.now) }
+{
+    match ty {
+        CType::Array(_, count) => count.is_none(),
+        CType::Void | CType::Int(_) | CType::Pointer(_) | CType::Struct(_) | CType::Function(_) => {
+            false
+        }
+    }
+}
+
+// Whether an object may have this type.
+fn may_be_object(names: &Names, word: Option<Storage>, ty: &CType) -> bool
+    requires { IsSound (structs_of names.now) (type_of ty.now) }
+    ensures { result ≡ may_be_object (structs_of names.now) word (type_of ty.now) }
+{
+    match word {
+        Some(Storage::Extern) => !is_void(ty),
+        None | Some(Storage::Typedef) | Some(Storage::Static) => is_complete(names, ty),
+    }
+}
+
+// Whether what is declared may have this type.
+fn may_be(names: &Names, word: Option<Storage>, what: Sort, ty: &CType) -> bool
+    requires { IsSound (structs_of names.now) (type_of ty.now) }
+    ensures { result ≡ may_be (structs_of names.now) word what (type_of ty.now) }
+{
+    match what {
+        Sort::TypeName => !is_open_array(ty),
+        Sort::Object => may_be_object(names, word, ty),
+        Sort::Function => true,
+    }
+}
+
+// Whether what is declared with this type may have this initialiser or none.
+fn may_begin(what: Sort, ty: &CType, i: &Option<Init>) -> bool
+    ensures { result ≡ may_begin what (type_of ty.now) (maybe_initialiser (option_map view_initialiser i.now)) }
+{
+    match i {
+        None => true,
+        Some(i) => match what {
+            Sort::Object => fits(ty, i),
+            Sort::TypeName | Sort::Function => false,
+        },
+    }
+}
+
+// How a type agrees with a function that was declared before.
+fn agree_function<'a>(
+    alloc: Global,
+    old: &'a Signature,
+    ty: &'a CType,
+) -> Result<Agreement, NoMemory>
+    ensures { IfOk result (λ a. a ≡ agree (function_type (signature_of old.now)) (type_of ty.now)) }
+{
+    match ty {
+        CType::Function(new) => agree_signature(alloc, old, new.get()),
+        CType::Void | CType::Int(_) | CType::Pointer(_) | CType::Array(_, _) | CType::Struct(_) => {
+            Ok(Agreement::Differ)
+        }
+    }
+}
+
+// How a type agrees with what an earlier declaration says.
+fn agreement<'a>(
+    alloc: Global,
+    earlier: Option<&'a Symbol>,
+    ty: &'a CType,
+) -> Result<Agreement, NoMemory>
+    ensures { IfOk result (λ a. a ≡ agreement (option_copied earlier.entry) (type_of ty.now)) }
+{
+    match earlier {
+        None => Ok(Agreement::New),
+        Some(Symbol::TypeDef(_)) | Some(Symbol::Enumerator(_)) => Ok(Agreement::Differ),
+        Some(Symbol::Object(old)) => agree(alloc, old, ty),
+        Some(Symbol::Function(old)) => agree_function(alloc, old, ty),
+    }
+}
+
+// What is declared with this type, by how it agrees with earlier declarations.
+fn agreed_rule(
+    names: &Names,
+    word: Option<Storage>,
+    what: Sort,
+    i: &Option<Init>,
+    fact: NodeFact,
+    agreement: Agreement,
+) -> Result<NodeFact, Broken>
+    requires { IsSound (structs_of names.now) (type_of fact.ty) }
+    ensures fact { fact_of fact ≡ declares (type_of fact.ty) → MakesFact (agreed_rule (structs_of names.now) word what (maybe_initialiser (option_map view_initialiser i.now)) (type_of fact.ty) agreement) result }
+    ensures sound { IfOk result (λ f. IsSound (structs_of names.now) (type_of f.ty)) }
+{
+    match agreement {
+        Agreement::Differ => return Err(Broken::Rule(3)),
+        Agreement::Old | Agreement::New => {}
+    }
+    if !may_be(names, word, what, &fact.ty) {
+        return Err(Broken::Rule(4));
+    }
+    if !may_begin(what, &fact.ty, i) {
+        return Err(Broken::Rule(16));
+    }
+    Ok(fact)
+}
+
+// The same of what its parts make.
+fn made_rule<'a>(
+    alloc: Global,
+    names: &Names,
+    word: Option<Storage>,
+    what: Sort,
+    earlier: Option<&'a Symbol>,
+    i: &Option<Init>,
+    made: Result<NodeFact, Broken>,
+) -> Result<NodeFact, Broken>
+    requires sound { IfOk made (λ f. IsSound (structs_of names.now) (type_of f.ty)) }
+    requires declares { IfOk made (λ f. fact_of f ≡ declares (type_of f.ty)) }
+    ensures fact { (r : Ruled) → MakesFact r made → MakesFact (made_rule (structs_of names.now) word what (option_copied earlier.entry) (maybe_initialiser (option_map view_initialiser i.now)) r) result }
+    ensures sound { IfOk result (λ f. IsSound (structs_of names.now) (type_of f.ty)) }
+{
+    match made {
+        Err(broken) => Err(broken),
+        Ok(fact) => {
+            let agreement = agreement(alloc, earlier, &fact.ty)?;
+            agreed_rule(names, word, what, i, fact, agreement)
+        }
+    }
+}
+
+/// What the rules make of a declarator of file scope: behind a storage word, of what is declared, what its name meant before, its
+/// initialiser, and what its parts make (C11 6.7, 6.2.7, 6.7.9, 6.9.2). Rule 3 refuses a name that stood for something else or has
+/// another type, 4 a type that is incomplete where it must not be, 16 an initialiser that doesn't fit, of a typedef name or of a
+/// function; else what refused the parts.
+pub fn declarator_rule<'a>(
+    alloc: Global,
+    names: &Names,
+    word: Option<Storage>,
+    what: Sort,
+    earlier: Option<&'a Symbol>,
+    i: &Option<Init>,
+    made: Result<NodeFact, Broken>,
+) -> Result<NodeFact, Broken>
+    requires sound { IfOk made (λ f. IsSound (structs_of names.now) (type_of f.ty)) }
+    requires declares { IfOk made (λ f. fact_of f ≡ declares (type_of f.ty)) }
+    ensures fact { (r : Ruled) → MakesFact r made → MakesFact (declarator_rule (structs_of names.now) word what (option_copied earlier.entry) (maybe_initialiser (option_map view_initialiser i.now)) r) result }
+    ensures sound { IfOk result (λ f. IsSound (structs_of names.now) (type_of f.ty)) }
+{
+    if clashes(earlier, what) {
+        return Err(Broken::Rule(3));
+    }
+    made_rule(alloc, names, word, what, earlier, i, made)
+}
