@@ -1,0 +1,6 @@
+//! The clauses that stand for a goal, a term of width 1: what satisfies them are the inputs that make it 1.
+#![tactic(auto)]
+
+mod clauses;
+
+pub use clauses::clauses_for;
