@@ -44,6 +44,6 @@ body_of scope taken h = record { scope = with_locals scope h.locals; taken = tak
 abbrev pub function_typed : List ℕ → List NameEntry → List ℕ → ℕ → Ruled → FunctionTree → Outcome Fact
 function_typed bytes entries taken n storage (s.function word b d x) =
     let scope : Scope = record { bytes = bytes; entries = entries; locals = []; own = None } in
-    and_then (base_typed scope b) (λ base.
-    and_then (head_typed scope base.ty d) (λ h.
+    and_then (base_typed scope b) (λ named.
+    and_then (head_typed scope named.ty d) (λ h.
     and_then (body_typed (body_of scope taken h) x) (λ u. finish n storage)))

@@ -102,4 +102,4 @@ locals_declared b static t (s.then_declarator d ds) =
     and_then (local_declared b static t d) (λ l. and_then (locals_declared (with_more b l) static t ds) (λ ls. Good (l ++ ls) []))
 
 abbrev pub declaration_typed : Body → DeclarationTree → Outcome (List Local)
-declaration_typed b (s.declaration word base ds) = and_then (base_typed b.scope base) (λ x. locals_declared b (is_static word) x.ty ds)
+declaration_typed b (s.declaration word specifiers ds) = and_then (base_typed b.scope specifiers) (λ x. locals_declared b (is_static word) x.ty ds)
