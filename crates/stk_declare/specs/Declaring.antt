@@ -9,18 +9,18 @@ use Rattle.stk_ctype.specs.Structs.{structs_of}
 use Rattle.stk_ctype.specs.Names.{find}
 use Rattle.stk_tree.specs.declared.declaration.Storage.{Storage}
 use Rattle.stk_tree.specs.declared.declaration.Storage.TheVariants as storage
-use Rattle.stk_tree.specs.Syntax.{DeclrTree, DeclrTrees, DeclarationTree, FunctionTree, UnitTree, MaybeInitTree}
+use Rattle.stk_tree.specs.Syntax.{BaseTree, DeclrTree, DeclrTrees, DeclarationTree, FunctionTree, UnitTree, MaybeInitTree}
 use Rattle.stk_tree.specs.Syntax as s
 use Rattle.stk_facts.specs.Facts.{Ruled, Breaks, Fits, plain}
 use Rattle.stk_facts.specs.Outcome.{Outcome, Good, and_then, finish}
 use Rattle.stk_scope.specs.Arrays.{starred}
 use Rattle.stk_typing.specs.Typing.{base_typed}
-use Rattle.stk_tags.specs.Uses.{base_uses, declarator_uses, tail_uses}
+use Rattle.stk_tags.specs.Uses.{base_uses, declarator_uses}
 use Rattle.stk_declarators.specs.Counting.{given_count}
 use Rattle.stk_declarators.specs.Tails.{TailShape, of_arrays, of_function, tail_typed, tail_type, are_scalars}
 use Rattle.stk_declare.specs.Tags.{at_file, behind_uses}
 use Rattle.stk_declare.specs.Symbols.{sort_of, declarator_rule, added}
-use Rattle.stk_declare.specs.Structs.{Based, base_declared}
+use Rattle.stk_declare.specs.Structs.{base_declared}
 
 -- the name of a declarator
 abbrev pub declared_name : List ℕ → Option Span → List ℕ
@@ -64,16 +64,19 @@ definition_word (Some storage.Typedef) = None
 definition_word (Some storage.Extern) = Some storage.Extern
 definition_word (Some storage.Static) = Some storage.Static
 
--- the head of a function definition, whose unit has this number
-abbrev pub head_declared : List ℕ → Bool → ℕ → List NameEntry → FunctionTree → Outcome (List NameEntry)
-head_declared bytes mark n es (s.function word b d body) =
-    let es = behind_uses bytes es (base_uses b ++ declarator_uses d) in
+-- the head of a function definition, whose unit has this number, with the struct tags in force that it uses
+abbrev pub head_declared : List ℕ → Bool → ℕ → List NameEntry → Option Storage → BaseTree → DeclrTree → Outcome (List NameEntry)
+head_declared bytes mark n es word b d =
     and_then (base_typed (at_file bytes es) b) (λ x.
     and_then (declarator_declared bytes mark true (definition_word word) es x.ty d) (λ now.
     and_then (finish n (definition_rule word)) (λ y. Good now [])))
+
+abbrev pub definition_declared : List ℕ → Bool → ℕ → List NameEntry → FunctionTree → Outcome (List NameEntry)
+definition_declared bytes mark n es (s.function word b d body) =
+    head_declared bytes mark n (behind_uses bytes es (base_uses b ++ declarator_uses d)) word b d
 
 -- the entries in force behind a unit that is marked as not returning or isn't
 abbrev pub unit_declared : List ℕ → Bool → List NameEntry → UnitTree → Outcome (List NameEntry)
 unit_declared bytes mark es (s.empty_unit n) = Good es []
 unit_declared bytes mark es (s.declares n d) = declaration_declared bytes mark es d
-unit_declared bytes mark es (s.defines n f) = head_declared bytes mark n.number es f
+unit_declared bytes mark es (s.defines n f) = definition_declared bytes mark n.number es f

@@ -17,10 +17,11 @@ use Rattle.stk_numbers.specs.Kinds.{wrap}
 use Rattle.stk_facts.specs.declared.facts.Constancy.{Constancy}
 use Rattle.stk_facts.specs.declared.facts.Constancy.TheVariants.{Varies, Violates, Number}
 use Rattle.stk_facts.specs.Facts.{Ruled, Breaks, Fits, names_type}
-use Rattle.stk_facts.specs.Outcome.{Outcome, Good, and_then}
+use Rattle.stk_facts.specs.Outcome.{Outcome, Good, and_then, finish}
 use Rattle.stk_typing.specs.Typing.{expression_typed}
 use Rattle.stk_tags.specs.Uses.{expression_uses}
 use Rattle.stk_declare.specs.Tags.{at_file, behind_uses}
+use Rattle.stk_declare.specs.Bases.{Based}
 
 -- what is known behind some enumerators: the entries in force, the number that the next one has, whether a name stood for something before, and whether a value wasn't an `int` constant
 pub record Enumerated : Type 0 where
@@ -82,3 +83,10 @@ enumeration_rule c tag =
 abbrev pub with_enumeration : List ℕ → List NameEntry → Option Span → List NameEntry
 with_enumeration bytes es None = es
 with_enumeration bytes es (Some at) = es ++ entry.Enumeration (text_of bytes at) ∷ []
+
+-- an enumeration, whose base has this number
+abbrev pub enumeration_declared : List ℕ → List NameEntry → ℕ → Option Span → EnumrTrees → Outcome Based
+enumeration_declared bytes es k at rs =
+    and_then (enumerators_declared bytes (none_enumerated es) rs) (λ c.
+    and_then (finish k (enumeration_rule c (tag_before bytes c.entries at))) (λ x.
+    Good (record { entries = with_enumeration bytes c.entries at; ty = x.ty }) []))

@@ -1,5 +1,9 @@
 pub mod Tags
 pub mod Symbols
+pub mod Bases
 pub mod Enumerations
 pub mod Structs
 pub mod Declaring
+pub mod Answers
+pub mod Members
+pub mod Shown

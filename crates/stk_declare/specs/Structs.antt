@@ -3,13 +3,12 @@ use Rattle.std.specs.Prelude.{ℕ, Bool, true, false, not, ◌&&◌, ◌||◌, i
 use Rattle.std.specs.Option.{is_some}
 use Rattle.stk_base.specs.declared.span.Span.{Span}
 use Rattle.stk_base.specs.Text.{text_of, same_text}
-use Rattle.stk_ctype.specs.declared.kind.IntKind.TheVariants.{Int}
 use Rattle.stk_ctype.specs.declared.symbol.MemberInfo.{MemberInfo}
 use Rattle.stk_ctype.specs.declared.symbol.NameEntry.{NameEntry}
 use Rattle.stk_ctype.specs.declared.symbol.NameEntry.TheVariants as entry
 use Rattle.stk_ctype.specs.declared.symbol.Tag.{Tag}
 use Rattle.stk_ctype.specs.declared.symbol.Tag.TheVariants as tag
-use Rattle.stk_ctype.specs.Types.{TypeTree, integer_type, struct_type}
+use Rattle.stk_ctype.specs.Types.{TypeTree, struct_type}
 use Rattle.stk_ctype.specs.Structs.{Structs, structs_of, struct_at, layout_of}
 use Rattle.stk_ctype.specs.Names.{tag_of, struct_count}
 use Rattle.stk_tree.specs.Syntax.{BaseTree, BaseFormTree, MemberTree, MemberTrees, DeclrTree, DeclrTrees}
@@ -17,20 +16,15 @@ use Rattle.stk_tree.specs.Syntax as s
 use Rattle.stk_facts.specs.Facts.{Fact, Ruled, Breaks, Fits, names_type}
 use Rattle.stk_facts.specs.Outcome.{Outcome, Good, and_then, finish}
 use Rattle.stk_rules.specs.Types.{is_complete}
-use Rattle.stk_scope.specs.Bases.{base_rule}
 use Rattle.stk_scope.specs.Arrays.{starred, declared_type}
 use Rattle.stk_typing.specs.Typing.{dimensions_typed}
-use Rattle.stk_tags.specs.Uses.{form_uses, declarator_uses, dimensions_uses}
+use Rattle.stk_tags.specs.Uses.{dimensions_uses}
 use Rattle.stk_declarators.specs.Parameters.{array_parts}
 use Rattle.stk_agree.specs.Making.{made}
 use Rattle.stk_declare.specs.Tags.{at_file, behind_uses}
 use Rattle.stk_declare.specs.Symbols.{is_open_array}
-use Rattle.stk_declare.specs.Enumerations.{none_enumerated, enumerators_declared, tag_before, enumeration_rule, with_enumeration}
-
--- the entries in force behind a base, and the type that it names
-pub record Based : Type 0 where
-  pub entries : List NameEntry
-  pub ty : TypeTree
+use Rattle.stk_declare.specs.Bases.{Based, plain_declared}
+use Rattle.stk_declare.specs.Enumerations.{enumeration_declared}
 
 -- the entries in force behind members, and the members so far
 pub record Membered : Type 0 where
@@ -94,13 +88,21 @@ member_rule structs last before name makes = if has_member name before then Brea
 abbrev pub with_member : List NameEntry → List MemberInfo → List ℕ → Fact → Membered
 with_member es before name x = record { entries = es; members = before ++ record { name = name; ty = made x.ty } ∷ [] }
 
--- a member's declarator, under a base that names a type
+-- the type of a member's declarator, under a base that names a type
+abbrev pub member_typed : List ℕ → List NameEntry → List MemberInfo → Bool → TypeTree → DeclrTree → Outcome Fact
+member_typed bytes es before last t (s.declarator k count at tail init) =
+    and_then (dimensions_typed (at_file bytes es) (array_parts tail)) (λ sizes.
+    finish k.number (member_rule (structs_of es) last before (member_name bytes at) (declared_type (structs_of es) sizes (starred count t))))
+
+-- a member with this name and type
+abbrev pub member_declared_as : List ℕ → List NameEntry → List MemberInfo → Option Span → Outcome Fact → Outcome Membered
+member_declared_as bytes es before at o = and_then o (λ x. Good (with_member es before (member_name bytes at) x) [])
+
+-- a member's declarator, with the struct tags that its array parts use
 abbrev pub member_declarator : List ℕ → List NameEntry → List MemberInfo → Bool → TypeTree → DeclrTree → Outcome Membered
 member_declarator bytes es before last t (s.declarator k count at tail init) =
     let es = behind_uses bytes es (dimensions_uses (array_parts tail)) in
-    and_then (dimensions_typed (at_file bytes es) (array_parts tail)) (λ sizes.
-    and_then (finish k.number (member_rule (structs_of es) last before (member_name bytes at) (declared_type (structs_of es) sizes (starred count t)))) (λ x.
-    Good (with_member es before (member_name bytes at) x) []))
+    member_declared_as bytes es before at (member_typed bytes es before last t (s.declarator k count at tail init))
 
 abbrev pub ends_declarators : DeclrTrees → Bool
 ends_declarators s.no_declarators = true
@@ -115,9 +117,11 @@ member_declarators bytes es before last t s.no_declarators = Good (record { entr
 member_declarators bytes es before last t (s.then_declarator d ds) =
     and_then (member_declarator bytes es before (last && ends_declarators ds) t d) (λ m. member_declarators bytes m.entries m.members last t ds)
 
--- a base that names a type under these entries
-abbrev pub named_under : List NameEntry → Outcome Fact → Outcome Based
-named_under es o = and_then o (λ x. Good (record { entries = es; ty = x.ty }) [])
+-- a struct behind its members, whose base has this number
+abbrev pub struct_closed : ℕ → Opening → Membered → Outcome Based
+struct_closed k o m =
+    and_then (finish k (struct_rule (structs_of m.entries) o m.members)) (λ x.
+    Good (record { entries = m.entries ++ entry.Members o.id m.members ∷ []; ty = x.ty }) [])
 
 abbrev mutual
   -- a base of a declaration or of members
@@ -125,19 +129,12 @@ abbrev mutual
   base_declared bytes es (s.base n f) = form_declared bytes es n.number f
 
   pub form_declared : List ℕ → List NameEntry → ℕ → BaseFormTree → Outcome Based
-  form_declared bytes es k (s.words ws) = named_under es (finish k (base_rule bytes es (s.words ws)))
-  form_declared bytes es k (s.struct_ref at) = named_under (behind_uses bytes es (form_uses (s.struct_ref at))) (finish k (base_rule bytes (behind_uses bytes es (form_uses (s.struct_ref at))) (s.struct_ref at)))
-  form_declared bytes es k (s.struct_def at ms) =
-      let o = opening bytes es at in
-      and_then (members_declared bytes o.entries [] ms) (λ m.
-      and_then (finish k (struct_rule (structs_of m.entries) o m.members)) (λ x.
-      Good (record { entries = m.entries ++ entry.Members o.id m.members ∷ []; ty = x.ty }) []))
-  form_declared bytes es k (s.enum_ref at) = named_under es (finish k (base_rule bytes es (s.enum_ref at)))
-  form_declared bytes es k (s.enum_def at rs comma) =
-      and_then (enumerators_declared bytes (none_enumerated es) rs) (λ c.
-      and_then (finish k (enumeration_rule c (tag_before bytes c.entries at))) (λ x.
-      Good (record { entries = with_enumeration bytes c.entries at; ty = x.ty }) []))
-  form_declared bytes es k (s.named at) = named_under es (finish k (base_rule bytes es (s.named at)))
+  form_declared bytes es k (s.words ws) = plain_declared bytes es k (s.words ws)
+  form_declared bytes es k (s.struct_ref at) = plain_declared bytes es k (s.struct_ref at)
+  form_declared bytes es k (s.struct_def at ms) = and_then (members_declared bytes (opening bytes es at).entries [] ms) (λ m. struct_closed k (opening bytes es at) m)
+  form_declared bytes es k (s.enum_ref at) = plain_declared bytes es k (s.enum_ref at)
+  form_declared bytes es k (s.enum_def at rs comma) = enumeration_declared bytes es k at rs
+  form_declared bytes es k (s.named at) = plain_declared bytes es k (s.named at)
 
   -- members, behind others
   pub members_declared : List ℕ → List NameEntry → List MemberInfo → MemberTrees → Outcome Membered

@@ -115,12 +115,25 @@ was_marked (Some (symbol.Enumerator v)) = false
 abbrev pub marked : Bool → SignatureTree → SignatureTree
 marked mark (signature r ps more x) = signature r ps more mark
 
+-- the signature of a function's type
+abbrev pub signature_in : TypeTree → Option SignatureTree
+signature_in void_type = None
+signature_in (integer_type k) = None
+signature_in (pointer_type t) = None
+signature_in (array_type t count) = None
+signature_in (struct_type id) = None
+signature_in (function_type f) = Some f
+
+-- the meaning of a function's name, by the signature of its type
+abbrev pub function_meaning : Bool → TypeTree → Option SignatureTree → Symbol
+function_meaning mark t None = symbol.Object (made t)
+function_meaning mark t (Some f) = symbol.Function (made_signature (marked mark f))
+
 -- the meaning of a name of this sort and type
 abbrev pub meaning : Sort → Bool → TypeTree → Symbol
 meaning sort.TypeName mark t = symbol.TypeDef (made t)
 meaning sort.Object mark t = symbol.Object (made t)
-meaning sort.Function mark (function_type f) = symbol.Function (made_signature (marked mark f))
-meaning sort.Function mark t = symbol.Object (made t)
+meaning sort.Function mark t = function_meaning mark t (signature_in t)
 
 -- the type that holds: the earlier one, or this one
 abbrev pub holding : Option Symbol → TypeTree → Agreement → TypeTree

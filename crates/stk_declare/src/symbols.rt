@@ -6,7 +6,7 @@ ghost use Rattle.stk_ctype.specs.Types.{function_type, type_of, signature_of};
 ghost use Rattle.stk_ctype.specs.Structs.{Structs, structs_of};
 ghost use Rattle.stk_ctype.specs.Sound.{IsSound};
 ghost use Rattle.stk_tree.specs.View.{view_initialiser, maybe_initialiser};
-ghost use Rattle.stk_facts.specs.Facts.{Ruled, declares, fact_of};
+ghost use Rattle.stk_facts.specs.Facts.{Ruled};
 ghost use Rattle.stk_facts.specs.Outcome.{MakesFact};
 ghost use Rattle.stk_declarators.specs.Tails.{TailShape};
 ghost use Rattle.stk_declarators.specs.Rows.{IsShape};
@@ -84,8 +84,8 @@ fn clashes(earlier: Option<&Symbol>, what: Sort) -> bool
     }
 }
 
-// Whether a type is an array of unknown size.
-fn is_open_array(ty: &CType) -> bool
+/// Whether a type is an array of unknown size.
+pub(crate) fn is_open_array(ty: &CType) -> bool
     ensures { result ≡ is_open_array (type_of ty.now) }
 {
     match ty {
@@ -148,8 +148,8 @@ fn agree_function<'a>(
     }
 }
 
-// How a type agrees with what an earlier declaration says.
-fn agreement<'a>(
+/// How a type agrees with what an earlier declaration says.
+pub(crate) fn agreement<'a>(
     alloc: Global,
     earlier: Option<&'a Symbol>,
     ty: &'a CType,
@@ -174,7 +174,7 @@ fn agreed_rule(
     agreement: Agreement,
 ) -> Result<NodeFact, Broken>
     requires { IsSound (structs_of names.now) (type_of fact.ty) }
-    ensures fact { fact_of fact ≡ declares (type_of fact.ty) → MakesFact (agreed_rule (structs_of names.now) word what (maybe_initialiser (option_map view_initialiser i.now)) (type_of fact.ty) agreement) result }
+    ensures fact { MakesFact (agreed_rule (structs_of names.now) word what (maybe_initialiser (option_map view_initialiser i.now)) (type_of fact.ty) agreement) result }
     ensures sound { IfOk result (λ f. IsSound (structs_of names.now) (type_of f.ty)) }
 {
     match agreement {
@@ -187,7 +187,8 @@ fn agreed_rule(
     if !may_begin(what, &fact.ty, i) {
         return Err(Broken::Rule(16));
     }
-    Ok(fact)
+    let NodeFact { ty, .. } = fact;
+    Ok(NodeFact::declares(ty))
 }
 
 // The same of what its parts make.
@@ -200,8 +201,7 @@ fn made_rule<'a>(
     i: &Option<Init>,
     made: Result<NodeFact, Broken>,
 ) -> Result<NodeFact, Broken>
-    requires sound { IfOk made (λ f. IsSound (structs_of names.now) (type_of f.ty)) }
-    requires declares { IfOk made (λ f. fact_of f ≡ declares (type_of f.ty)) }
+    requires { IfOk made (λ f. IsSound (structs_of names.now) (type_of f.ty)) }
     ensures fact { (r : Ruled) → MakesFact r made → MakesFact (made_rule (structs_of names.now) word what (option_copied earlier.entry) (maybe_initialiser (option_map view_initialiser i.now)) r) result }
     ensures sound { IfOk result (λ f. IsSound (structs_of names.now) (type_of f.ty)) }
 {
@@ -227,8 +227,7 @@ pub fn declarator_rule<'a>(
     i: &Option<Init>,
     made: Result<NodeFact, Broken>,
 ) -> Result<NodeFact, Broken>
-    requires sound { IfOk made (λ f. IsSound (structs_of names.now) (type_of f.ty)) }
-    requires declares { IfOk made (λ f. fact_of f ≡ declares (type_of f.ty)) }
+    requires { IfOk made (λ f. IsSound (structs_of names.now) (type_of f.ty)) }
     ensures fact { (r : Ruled) → MakesFact r made → MakesFact (declarator_rule (structs_of names.now) word what (option_copied earlier.entry) (maybe_initialiser (option_map view_initialiser i.now)) r) result }
     ensures sound { IfOk result (λ f. IsSound (structs_of names.now) (type_of f.ty)) }
 {

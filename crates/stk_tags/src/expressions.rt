@@ -78,7 +78,7 @@ fn dimension_uses(d: &Dimension, out: &mut Vec<TagUse>) -> Result<(), NoMemory>
 
 /// The same of array parts.
 #[cycle(expression_uses)]
-pub(crate) fn dimensions_uses(list: &[Dimension], out: &mut Vec<TagUse>) -> Result<(), NoMemory>
+pub fn dimensions_uses(list: &[Dimension], out: &mut Vec<TagUse>) -> Result<(), NoMemory>
     ensures { OnOk result (out.new.items ≡ out.old.items ++ dimensions_uses (dimensions (map view_dimension list.now))) }
 {
     for d in list {

@@ -6,5 +6,5 @@ mod expressions;
 mod uses;
 
 pub use declarators::declarator_uses;
-pub use expressions::expression_uses;
+pub use expressions::{dimensions_uses, expression_uses};
 pub use uses::{TagUse, base_uses};
