@@ -1,5 +1,5 @@
 -- How the answers of parts make the answer of the whole.
-use Rattle.std.proofs.Common.{◌≡◌, ◌∙◌, ◌++◌, ℕ, List, Result, Ok, Err, refl, sym, ap, subst}
+use Rattle.std.proofs.Common.{List, Result, Ok, Err}
 use Rattle.stk_facts.specs.declared.untyped.Untyped.{Untyped}
 use Rattle.stk_facts.specs.declared.untyped.Untyped.TheVariants.{Rule, NoMemory}
 use Rattle.stk_facts.specs.Facts.{Fact}

@@ -1,6 +1,6 @@
 -- Structs: one that is new, one that gets its members, and members so far.
-use Rattle.std.proofs.Common.{◌≡◌, ◌∙◌, ◌<◌, ◌≤◌, ◌+◌, ◌++◌, ℕ, zero, suc, Bool, true, false, ◌&&◌, ◌||◌, not, List, [], ◌∷◌, length, Option, Some, None, Result, Ok, Err, refl, sym, ap, subst, arith, inl, inr, ◌⊎◌, length-append}
-use Rattle.std.specs.Prelude.{IsSome, IfSome, slice_index_or, if◌then◌else◌, nat_le}
+use Rattle.std.proofs.Common.{◌≡◌, ◌∙◌, ◌≤◌, ◌+◌, ◌++◌, ℕ, Bool, true, false, ◌&&◌, ◌||◌, not, List, [], ◌∷◌, length, Option, Some, None, Ok, refl, sym, ap, subst, arith, inl, inr, ◌⊎◌, length-append}
+use Rattle.std.specs.Prelude.{IsSome, slice_index_or, if◌then◌else◌, nat_le}
 use Rattle.std.specs.Option.{is_some, option_map}
 use Rattle.std.proofs.lemmas.Bool.{leb-true, false≢true}
 use Rattle.stk_ctype.specs.declared.ctype.CType.{CType}
@@ -13,12 +13,10 @@ use Rattle.stk_ctype.specs.Sound.{IsSound, IsWithinLimit, IsMember, IsLastMember
 use Rattle.stk_ctype.specs.Names.{struct_count}
 use Rattle.stk_ctype.proofs.Noting.{structs_behind-append, length-structs_behind}
 use Rattle.stk_facts.specs.declared.facts.NodeFact.{NodeFact}
-use Rattle.stk_facts.specs.declared.untyped.Untyped.{Untyped}
-use Rattle.stk_facts.specs.Facts.{Fact, Ruled, Breaks, Fits, fact_of, names_type}
-use Rattle.stk_facts.specs.Outcome.{Outcome, Good, and_then, finish}
+use Rattle.stk_facts.specs.Facts.{Ruled, Breaks, Fits, fact_of, names_type}
+use Rattle.stk_facts.specs.Outcome.{Good, and_then, finish}
 use Rattle.stk_rules.specs.Types.{is_complete}
-use Rattle.stk_declare.specs.Answers.{Answers, Extends}
-use Rattle.stk_declare.specs.Bases.{Based}
+use Rattle.stk_declare.specs.Answers.{Answers}
 use Rattle.stk_declare.specs.Members.{AreComplete, AreMembersSoFar}
 use Rattle.stk_declare.specs.Shown.{based}
 use Rattle.stk_declare.specs.Structs.{Opening, struct_rule, may_be_member, is_empty}

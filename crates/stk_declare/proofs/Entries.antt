@@ -1,5 +1,5 @@
 -- The entry of a declarator, the heads of functions, and enumerations: how the answers of their parts make theirs.
-use Rattle.std.proofs.Common.{◌≡◌, ◌∙◌, ◌++◌, ℕ, Bool, true, Vec, Global, List, [], ◌∷◌, Option, Result, Ok, Err, map, refl, sym, ap, subst}
+use Rattle.std.proofs.Common.{◌≡◌, ◌∙◌, ◌++◌, ℕ, Bool, true, Vec, Global, List, [], ◌∷◌, Option, Result, Ok, Err, refl, sym, ap, subst}
 use Rattle.stk_base.specs.declared.span.Span.{Span}
 use Rattle.stk_base.specs.Text.{text_of}
 use Rattle.stk_ctype.specs.declared.ctype.CType.{CType}
@@ -39,7 +39,7 @@ use Rattle.stk_declare.specs.Shown.{based, enumerated, membered, opening_of}
 use Rattle.stk_declare.specs.Structs.{Membered, Opening, form_declared, member_declarator, member_declared_as, member_name, member_rule, member_typed, members_declared, opening, struct_closed, with_member}
 use Rattle.stk_declare.specs.Symbols.{added, declarator_rule, sort_of}
 use Rattle.stk_declare.specs.Tags.{at_file, behind_uses}
-use Rattle.stk_declare.proofs.Answering.{free, from_gives, goes, stops, refused_same}
+use Rattle.stk_declare.proofs.Answering.{from_gives, goes, stops}
 
 abbrev pub IsFact : Fact → NodeFact → Type 0
 IsFact x f = fact_of f ≡ x

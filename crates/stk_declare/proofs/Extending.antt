@@ -1,11 +1,11 @@
 -- Names that grow: entries with some behind them.
-use Rattle.std.proofs.Common.{◌≡◌, ◌∙◌, ◌++◌, ◌<◌, ◌+◌, ◌≤◌, ℕ, Bool, List, [], ◌∷◌, Option, None, Some, Result, Ok, Err, IfOk, OnOk, OnErr, refl, sym, ap, subst, append_assoc, append-nil, arith}
-use Rattle.std.specs.Prelude.{IsSome, IfSome, take, length}
+use Rattle.std.proofs.Common.{◌≡◌, ◌∙◌, ◌++◌, List, [], ◌∷◌, Option, Result, Ok, Err, OnOk, OnErr, refl, sym, ap, subst, append_assoc, append-nil}
+use Rattle.std.specs.Prelude.{IsSome}
 use Rattle.stk_ctype.specs.declared.symbol.NameEntry.{NameEntry}
 use Rattle.stk_ctype.specs.declared.symbol.MemberInfo.{MemberInfo}
 use Rattle.stk_ctype.specs.Types.{TypeTree, type_of}
 use Rattle.stk_ctype.specs.Structs.{Structs, structs_of, size_of}
-use Rattle.stk_ctype.specs.Sound.{IsSound, IsMember, Keeps}
+use Rattle.stk_ctype.specs.Sound.{IsSound, Keeps}
 use Rattle.stk_declare.specs.Answers.{Extends}
 use Rattle.stk_declare.specs.Members.{AreComplete}
 

@@ -1,5 +1,5 @@
 -- The signature of a function with another mark, and the types that trees make.
-use Rattle.std.proofs.Common.{◌≡◌, ◌∙◌, Bool, List, [], ◌∷◌, map, refl, sym, ap, subst}
+use Rattle.std.proofs.Common.{◌≡◌, ◌∙◌, Bool, List, [], ◌∷◌, map, refl, sym, ap}
 use Rattle.stk_ctype.specs.declared.ctype.CType.{CType}
 use Rattle.stk_ctype.specs.declared.ctype.CType.TheVariants as ctype
 use Rattle.stk_ctype.specs.declared.ctype.Signature.{Signature, out-Signature, roll-Signature, fold_out-Signature, fold-roll-Signature}

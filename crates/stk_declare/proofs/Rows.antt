@@ -6,7 +6,6 @@ use Rattle.stk_ctype.specs.declared.symbol.MemberInfo.{MemberInfo}
 use Rattle.stk_ctype.specs.declared.symbol.NameEntry.{NameEntry}
 use Rattle.stk_ctype.specs.Types.{TypeTree}
 use Rattle.stk_ctype.specs.Structs.{Structs}
-use Rattle.stk_ctype.specs.Sound.{AreMembers}
 use Rattle.stk_tree.specs.declared.declaration.Declr.{Declr}
 use Rattle.stk_tree.specs.declared.declaration.Member.{Member}
 use Rattle.stk_tree.specs.declared.declaration.Storage.{Storage}

@@ -1,5 +1,5 @@
 -- Want of memory is an answer to each rule.
-use Rattle.std.proofs.Common.{◌≡◌, Bool, Option, Result, Err, sym, subst}
+use Rattle.std.proofs.Common.{◌≡◌, Option, Result, Err, sym, subst}
 use Rattle.stk_ctype.specs.declared.symbol.Symbol.{Symbol}
 use Rattle.stk_ctype.specs.Structs.{Structs}
 use Rattle.stk_tree.specs.declared.declaration.Storage.{Storage}

@@ -4,7 +4,7 @@ use Rattle.std.specs.Option.{option_map}
 use Rattle.stk_base.specs.declared.span.Span.{Span}
 use Rattle.stk_tree.specs.declared.fixed.Fixed.{Fixed}
 use Rattle.stk_tree.specs.declared.declaration.Base.{Base, out-Base, fold_out-Base}
-use Rattle.stk_tree.specs.declared.declaration.BaseForm.{BaseForm, BaseForm-F, fold-roll-BaseForm}
+use Rattle.stk_tree.specs.declared.declaration.BaseForm.{BaseForm-F, fold-roll-BaseForm}
 use Rattle.stk_tree.specs.declared.declaration.BaseForm.TheVariants as form
 use Rattle.stk_tree.specs.declared.declaration.Declr.{Declr, out-Declr, fold_out-Declr}
 use Rattle.stk_tree.specs.declared.declaration.Enumr.{Enumr, out-Enumr, fold_out-Enumr}
@@ -13,7 +13,7 @@ use Rattle.stk_tree.specs.declared.declaration.Init.{Init}
 use Rattle.stk_tree.specs.declared.expression.Expr.{Expr}
 use Rattle.stk_tree.specs.Syntax.{BaseFormTree, DesigTree, DimensionTree, InitTree, TailTree, ExprFormTree, BaseTree, DeclrTree, EnumrTree, ItemTree, MemberTree, ParamTree, TypeNameTree, ExprTree}
 use Rattle.stk_tree.specs.Syntax as s
-use Rattle.stk_tree.specs.View.{base_form_step, designator_step, dimension_step, initialiser_step, tail_step, expression_form_step, base_step, declarator_step, enumerator_step, item_step, member_step, parameter_step, type_name_step, expression_step, members, enumerators, declarators, maybe_initialiser, given_expression, view_base, view_base_form, view_declarator, view_enumerator, view_expression, view_initialiser, view_member, view_tail}
+use Rattle.stk_tree.specs.View.{base_form_step, designator_step, dimension_step, initialiser_step, tail_step, expression_form_step, base_step, declarator_step, enumerator_step, item_step, member_step, parameter_step, type_name_step, expression_step, members, enumerators, declarators, maybe_initialiser, given_expression, view_base, view_base_form, view_declarator, view_enumerator, view_initialiser, view_member, view_tail}
 
 pub view_base_node : (b : Base) → view_base b ≡ s.base (out-Base b).node (view_base_form (out-Base b).form)
 view_base_node b = fold_out-Base BaseFormTree DesigTree DimensionTree InitTree TailTree ExprFormTree BaseTree DeclrTree EnumrTree ItemTree MemberTree ParamTree TypeNameTree ExprTree base_form_step designator_step dimension_step initialiser_step tail_step expression_form_step base_step declarator_step enumerator_step item_step member_step parameter_step type_name_step expression_step b

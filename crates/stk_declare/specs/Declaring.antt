@@ -1,8 +1,7 @@
 -- What a unit declares (C11 6.7, 6.9): the entries in force behind it, or the first node that a rule refuses.
-use Rattle.std.specs.Prelude.{ℕ, Bool, true, false, List, [], ◌∷◌, ◌++◌, Option, Some, None}
+use Rattle.std.specs.Prelude.{ℕ, Bool, true, false, List, [], ◌++◌, Option, Some, None}
 use Rattle.stk_base.specs.declared.span.Span.{Span}
 use Rattle.stk_base.specs.Text.{text_of}
-use Rattle.stk_ctype.specs.declared.symbol.Symbol.{Symbol}
 use Rattle.stk_ctype.specs.declared.symbol.NameEntry.{NameEntry}
 use Rattle.stk_ctype.specs.Types.{TypeTree}
 use Rattle.stk_ctype.specs.Structs.{structs_of}

@@ -7,7 +7,6 @@ use Rattle.stk_tree.specs.View.{maybe_initialiser, view_initialiser, view_tail}
 use Rattle.stk_facts.specs.Facts.{fact_of}
 use Rattle.stk_scope.specs.Arrays.{starred}
 use Rattle.stk_scope.specs.Locals.{local_of}
-use Rattle.stk_declare.specs.Declaring.{declared_name}
 use Rattle.stk_declare.specs.Symbols.{added, sort_of}
 use Rattle.stk_declare.proofs.Entries.{entry_gives, entry_stops}
 use Rattle.stk_declare.proofs.Views.{view_declarator_node}

@@ -1,7 +1,6 @@
-use Rattle.std.proofs.Common.{◌≡◌, ◌+◌, ◌-◌, ◌&&◌, ◌∙◌, [], Err, ap, drop, map, true, rules}
-use Rattle.std.specs.Prelude.{nat_eq}
+use Rattle.std.proofs.Common.{◌≡◌, ◌+◌, ◌-◌, ◌∙◌, Err, ap, drop, map, true, rules}
 use Rattle.stk_ctype.specs.Structs.{structs_of}
-use Rattle.stk_ctype.specs.Types.{struct_type, type_of}
+use Rattle.stk_ctype.specs.Types.{struct_type}
 use Rattle.stk_tree.specs.declared.declaration.Base.{out-Base}
 use Rattle.stk_tree.specs.Syntax as s
 use Rattle.stk_tree.specs.View.{members as member_row, view_base, view_base_form, view_member}
@@ -10,7 +9,7 @@ use Rattle.stk_declare.specs.Structs.{ends_members}
 use Rattle.stk_declare.proofs.Entries.{struct_gives}
 use Rattle.stk_declare.proofs.Extending.{extends_self, extends_twice, sound_kept}
 use Rattle.stk_declare.proofs.Plain.{plainly}
-use Rattle.stk_declare.proofs.Rows.{begun, fewer, members_end_here, members_stop, members_turn, still_complete, went_on}
+use Rattle.stk_declare.proofs.Rows.{begun, fewer, members_end_here, members_stop, members_turn, went_on}
 use Rattle.stk_declare.proofs.Views.{view_base_node, view_struct_def}
 use Rattle.stk_declare.proofs.structs.+base.Goals as goal
 

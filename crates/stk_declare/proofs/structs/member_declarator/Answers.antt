@@ -1,11 +1,10 @@
-use Rattle.std.proofs.Common.{◌≡◌, ◌∙◌, ◌++◌, ◌∷◌, [], List, ap}
+use Rattle.std.proofs.Common.{◌∙◌, ◌++◌, ◌∷◌, [], List, ap}
 use Rattle.std.specs.Option.{option_map}
 use Rattle.stk_ctype.specs.declared.symbol.MemberInfo.{MemberInfo}
 use Rattle.stk_ctype.specs.Structs.{structs_of}
 use Rattle.stk_ctype.specs.Types.{type_of}
 use Rattle.stk_tree.specs.declared.declaration.Declr.{out-Declr}
 use Rattle.stk_tree.specs.View.{maybe_initialiser, view_initialiser, view_tail}
-use Rattle.stk_declare.specs.Structs.{member_name}
 use Rattle.stk_declare.proofs.Closing.{so_far_more}
 use Rattle.stk_declare.proofs.Entries.{member_adds}
 use Rattle.stk_declare.proofs.Extending.{complete_kept}

@@ -1,5 +1,4 @@
 use Rattle.std.proofs.Common.{◌≡◌, ◌+◌, ◌-◌, ◌&&◌, ◌∙◌, Err, ap, drop, map, rules}
-use Rattle.std.specs.Prelude.{nat_eq}
 use Rattle.stk_ctype.specs.Structs.{structs_of}
 use Rattle.stk_ctype.specs.Types.{type_of}
 use Rattle.stk_tree.specs.View.{declarators, view_declarator}

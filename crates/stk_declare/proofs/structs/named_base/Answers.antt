@@ -1,4 +1,4 @@
-use Rattle.std.proofs.Common.{◌≡◌, Err, ap, sym, rules}
+use Rattle.std.proofs.Common.{◌≡◌, Err, ap, rules}
 use Rattle.stk_facts.specs.Facts.{Fact, fact_of}
 use Rattle.stk_declare.proofs.Answering.{refused_same, weaker}
 use Rattle.stk_declare.proofs.Views.{view_base_node}

@@ -1,10 +1,6 @@
-use Rattle.std.proofs.Common.{◌≡◌, Err, Ok, subst, rules, Option}
-use Rattle.stk_ctype.specs.Types.{type_of}
-use Rattle.stk_tree.specs.declared.declaration.Storage.{Storage}
+use Rattle.std.proofs.Common.{◌≡◌, Err, rules}
 use Rattle.stk_tree.specs.View.{view_base, view_declarator}
-use Rattle.stk_declare.specs.Answers.{Answers}
-use Rattle.stk_declare.specs.Declaring.{declarator_declared}
-use Rattle.stk_declare.proofs.Entries.{IsNow, head_gives, head_stops}
+use Rattle.stk_declare.proofs.Entries.{head_gives, head_stops}
 use Rattle.stk_declare.proofs.units.head.Goals as goal
 
 pub returns-in_err-declarator-clause-gives : goal.returns-in_err-declarator-clause-gives

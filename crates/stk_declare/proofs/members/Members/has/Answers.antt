@@ -1,4 +1,4 @@
-use Rattle.std.proofs.Common.{ap, ◌∙◌, ◌≡◌, rules}
+use Rattle.std.proofs.Common.{ap, ◌∙◌, ◌≡◌}
 use Rattle.std.specs.Option.{is_some}
 use Rattle.stk_ctype.specs.Index.{last_meaning}
 use Rattle.stk_declare.specs.Members.{member_words}
