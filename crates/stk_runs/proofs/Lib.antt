@@ -1,1 +1,5 @@
 pub mod Told
+mod FunctionExamples
+mod ExpressionExamples
+mod StatementExamples
+mod ExecutionExamples

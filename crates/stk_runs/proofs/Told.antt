@@ -1,6 +1,5 @@
 -- What examples say of nodes: tables in place of typing.
-use Rattle.std.proofs.Common.{ℕ, ◌==◌, ◌&&◌, Bool, true, false, if◌then◌else◌, List, [], ◌∷◌, Option, Some, None, ℤ}
-use Rattle.std.specs.Prelude.{get_or}
+use Rattle.std.proofs.Common.{ℕ, ◌==◌, ◌&&◌, Bool, true, false, if◌then◌else◌, List, [], ◌∷◌, Option, Some, None, ℤ, pos}
 use Rattle.stk_base.specs.declared.span.Span.{Span}
 use Rattle.stk_ctype.specs.Types.{TypeTree, void_type, integer_type, pointer_type, array_type, struct_type, function_type, SignatureTree}
 use Rattle.stk_ctype.specs.Structs.{StructLayout}
@@ -11,6 +10,8 @@ use Rattle.stk_numbers.specs.declared.conditions.Kinds.{Kinds}
 use Rattle.stk_runs.specs.declared.entry.Entry.{Entry}
 use Rattle.stk_runs.specs.declared.entry.Entry.TheVariants.{Ub}
 use Rattle.stk_runs.specs.Typings.{Typing, is_among}
+use Rattle.stk_runs.specs.Memory.{Memory, Write}
+use Rattle.stk_runs.specs.Executions.{Answer, Start}
 
 -- what stands beside a number
 abbrev pub beside : {A : Type 0} → List (ℕ × A) → ℕ → Option A
@@ -71,3 +72,18 @@ ub_at k kind = Ub (record { node = k; kind = kind })
 -- no kind of conditions is taken out
 abbrev pub all_kinds : Kinds
 all_kinds = record { overflow = false; zero = false; shift = false; null = false; pointer = false; bounds = false; abs = false; copy = false }
+
+-- division by zero is taken out
+abbrev pub no_zero : Kinds
+no_zero = record { overflow = false; zero = true; shift = false; null = false; pointer = false; bounds = false; abs = false; copy = false }
+
+-- a start of an execution with these numbers of parameters and addresses of objects, each by its node
+abbrev pub start_at : List (ℕ × ℤ) → List (ℕ × ℕ) → Start
+start_at numbers addresses = record { numbers = λ k. beside_or (pos 0) (beside numbers k); addresses = λ k. beside_or 0 (beside addresses k) }
+
+-- an answer of the outside, and a memory of zeros
+abbrev pub answer : ℤ → List Write → Answer
+answer number writes = record { number = number; writes = writes }
+
+abbrev pub no_memory : Memory
+no_memory a = 0
