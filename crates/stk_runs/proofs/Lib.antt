@@ -3,3 +3,4 @@ mod FunctionExamples
 mod ExpressionExamples
 mod StatementExamples
 mod ExecutionExamples
+mod ListExamples

@@ -1,15 +1,20 @@
 -- What examples say of nodes: tables in place of typing.
 use Rattle.std.proofs.Common.{ℕ, ◌==◌, ◌&&◌, Bool, true, false, if◌then◌else◌, List, [], ◌∷◌, Option, Some, None, ℤ, pos}
 use Rattle.stk_base.specs.declared.span.Span.{Span}
+use Rattle.stk_ctype.specs.declared.kind.IntKind.{IntKind}
 use Rattle.stk_ctype.specs.Types.{TypeTree, void_type, integer_type, pointer_type, array_type, struct_type, function_type, SignatureTree}
 use Rattle.stk_ctype.specs.Structs.{StructLayout}
 use Rattle.stk_ctype.specs.Structs as structs
 use Rattle.stk_tree.specs.declared.node.Node.{Node}
 use Rattle.stk_numbers.specs.declared.conditions.UbKind.{UbKind}
+use Rattle.stk_numbers.specs.declared.conditions.CandKind.{CandKind}
+use Rattle.stk_numbers.specs.declared.conditions.Candidate.{Candidate}
+use Rattle.stk_numbers.specs.declared.conditions.Condition.{Condition}
 use Rattle.stk_numbers.specs.declared.conditions.Kinds.{Kinds}
 use Rattle.stk_runs.specs.declared.entry.Entry.{Entry}
 use Rattle.stk_runs.specs.declared.entry.Entry.TheVariants.{Ub}
 use Rattle.stk_runs.specs.Typings.{Typing, is_among}
+use Rattle.stk_runs.specs.Keys.{Key, KeyInfo}
 use Rattle.stk_runs.specs.Memory.{Memory, Write}
 use Rattle.stk_runs.specs.Executions.{Answer, Start}
 
@@ -87,3 +92,18 @@ answer number writes = record { number = number; writes = writes }
 
 abbrev pub no_memory : Memory
 no_memory a = 0
+
+-- a key with its kind and its size
+abbrev pub key : Key → IntKind → ℕ → Key × IntKind × ℕ
+key k kind size = (k, kind, size)
+
+abbrev pub shown_keys : List KeyInfo → List (Key × IntKind × ℕ)
+shown_keys [] = []
+shown_keys (x ∷ xs) = key x.key x.kind x.size ∷ shown_keys xs
+
+-- a condition and a candidate
+abbrev pub condition_at : ℕ → UbKind → Condition
+condition_at k kind = record { node = k; kind = kind }
+
+abbrev pub candidate_at : ℕ → CandKind → Candidate
+candidate_at k kind = record { node = k; kind = kind }

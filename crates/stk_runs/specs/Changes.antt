@@ -7,7 +7,7 @@ use Rattle.stk_rules.specs.Types.{is_scalar}
 use Rattle.stk_runs.specs.Typings.{Typing, is_among}
 use Rattle.stk_runs.specs.Libraries.{Library, absolute_in, copy_bytes, called_library}
 use Rattle.stk_runs.specs.Places.{Setting, Target, in_register, in_kept, in_object, unnamed, target_at, target_of}
-use Rattle.stk_runs.specs.Visits.{Site, at_expression, at_declarator, at_statement, at_section, Visits, no_visit, visit, both_visits, scope, turn_visits}
+use Rattle.stk_runs.specs.Visits.{Site, at_expression, at_declarator, at_statement, at_section, Visits, no_visit, visit, both_visits, scope, unevaluated, turn_visits}
 
 -- where a run keeps a number: a register, by its declarator; a kept object, by its position
 pub data Spot : Type 0 where
@@ -64,7 +64,7 @@ abbrev pub initial_changes : TypeTree → MaybeInitTree → Spot → Bool
 initial_changes t s.no_initialiser x = false
 initial_changes t (s.some_initialiser i) x = not (is_scalar t) && is_any_kept x
 
--- the declarator of an automatic object changes the object
+-- the declarator of a local object changes the object; a `static` one counts as declared too
 abbrev pub declarator_changes : Target → Spot → Bool
 declarator_changes (in_register k) x = is_register_spot k x
 declarator_changes (in_kept q) x = is_kept_spot q x
@@ -73,7 +73,7 @@ declarator_changes unnamed x = false
 
 abbrev pub site_changes : Setting → Site → Spot → Bool
 site_changes g (at_expression k role f) x = form_changes g f x
-site_changes g (at_declarator k static at init) x = not static && (declarator_changes (target_at g k) x || initial_changes (g.typing.type_at k) init x)
+site_changes g (at_declarator k static at init) x = declarator_changes (target_at g k) x || (not static && initial_changes (g.typing.type_at k) init x)
 site_changes g (at_statement k arm f) x = false
 site_changes g (at_section k ls) x = false
 
@@ -88,6 +88,7 @@ changes g no_visit x = false
 changes g (visit site) x = site_changes g site x
 changes g (both_visits a b) x = changes g a x || changes g b x
 changes g (scope ks a) x = not (is_own ks x) && changes g a x
+changes g (unevaluated a) x = false
 
 -- the registers that each turn of a loop may assign, in the order of their declarators, without those that its own blocks declare
 abbrev pub assigned_in : Setting → StmtFormTree → List ℕ

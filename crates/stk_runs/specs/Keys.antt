@@ -16,7 +16,7 @@ use Rattle.stk_rules.specs.Types.{is_scalar, is_struct, is_void}
 use Rattle.stk_runs.specs.Typings.{Typing, declarator_node, number_kind, object_size}
 use Rattle.stk_runs.specs.Libraries.{Library, called_library, called_signature, result_in}
 use Rattle.stk_runs.specs.Places.{Mention, mentioned_in, Setting, Target, in_register, in_kept, in_object, unnamed, target_at, form_target}
-use Rattle.stk_runs.specs.Visits.{Use, read, accessed, taken, Role, Site, at_expression, at_declarator, at_statement, at_section, Visits, collected, statement_visits}
+use Rattle.stk_runs.specs.Visits.{Use, read, accessed, taken, Role, Site, at_expression, at_declarator, at_statement, at_section, Visits, both_visits, collected, head_visits, statement_visits}
 use Rattle.stk_runs.specs.Changes.{assigned_in}
 
 -- what a number of a path run is asked for: a register parameter, the address of an object, a register without initialiser, a load, the
@@ -56,12 +56,15 @@ head_parameters (s.declarator n count at tail init) = tail_parameters tail
 abbrev pub parameters_of : FunctionTree → List DeclrTree
 parameters_of (s.function word specifiers d body) = head_parameters d
 
--- the body of a function, and the nodes that its runs may evaluate
+-- the declarator and the body of a function, and the nodes of both
+abbrev pub head_of : FunctionTree → DeclrTree
+head_of (s.function word specifiers d body) = d
+
 abbrev pub body_of : FunctionTree → StmtTree
 body_of (s.function word specifiers d body) = body
 
 abbrev pub function_visits : Typing → FunctionTree → Visits
-function_visits ty f = statement_visits ty false (body_of f)
+function_visits ty f = both_visits (head_visits ty (head_of f)) (statement_visits ty false (body_of f))
 
 -- ---- registers
 

@@ -16,3 +16,5 @@ pub mod Paths
 pub mod Executions
 pub mod Lists
 pub mod Maps
+pub mod Weights
+pub mod Gives

@@ -82,3 +82,13 @@ abbrev mutual
   form_target g k (s.binary op a b) = unnamed
   form_target g k (s.choice a b c) = unnamed
   form_target g k (s.assign op a b) = unnamed
+
+-- the position of the kept object that a name means, parentheses aside
+abbrev pub kept_target : Target → Option ℕ
+kept_target (in_register k) = None
+kept_target (in_kept q) = Some q
+kept_target (in_object k) = None
+kept_target unnamed = None
+
+abbrev pub kept_at : Setting → ExprTree → Option ℕ
+kept_at g e = kept_target (target_of g e)

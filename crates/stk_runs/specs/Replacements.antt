@@ -1,11 +1,12 @@
 -- What a comparison may be replaced by (Wang, Zeldovich, Kaashoek, Solar-Lezama, SOSP 2013, section 3.2): of a sum or difference that is
 -- compared with one of its own operands, the other operand compared with 0.
-use Rattle.std.specs.Prelude.{ℕ, Bool, true, false, ◌&&◌, ◌||◌, not, if◌then◌else◌, List, [], ◌∷◌, map, Option, Some, None, ℤ, pos}
+use Rattle.std.specs.Prelude.{ℕ, Bool, true, false, ◌&&◌, ◌||◌, not, if◌then◌else◌, List, [], ◌∷◌, ◌++◌, map, Option, Some, None, ℤ, pos}
 use Rattle.std.specs.Option.{is_some}
 use Rattle.std.specs.Cmp.Lexicographic.{pointwise}
 use Rattle.stk_base.specs.Text.{text_of, same_text}
 use Rattle.stk_ctype.specs.declared.kind.IntKind.{IntKind}
 use Rattle.stk_ctype.specs.declared.kind.IntKind.TheVariants as kind
+use Rattle.stk_tree.specs.declared.fixed.Fixed.TheVariants as fixed
 use Rattle.stk_tree.specs.declared.fixed.Lexeme.{Lexeme}
 use Rattle.stk_tree.specs.declared.fixed.Lexeme.TheVariants.{Leaf, Fixed}
 use Rattle.stk_tree.specs.declared.expression.BinaryOp.{BinaryOp}
@@ -144,3 +145,24 @@ replacement ty a b = first_of_both (replaced_side ty true (summed (bare a)) (bar
 abbrev pub replaced_truth : Bool → CompareOp → IntKind → ℤ → Bool
 replaced_truth true op k y = compared op (pos 0) (wrap (common k kind.Int) y)
 replaced_truth false op k y = compared op (wrap (common k kind.Int) y) (pos 0)
+
+-- the spelling of a comparison
+abbrev pub comparison_mark : CompareOp → List ℕ
+comparison_mark compare_op.Lt = spelling_of fixed.Less
+comparison_mark compare_op.Gt = spelling_of fixed.Greater
+comparison_mark compare_op.Le = spelling_of fixed.LessEqual
+comparison_mark compare_op.Ge = spelling_of fixed.GreaterEqual
+comparison_mark compare_op.Eq = spelling_of fixed.EqualEqual
+comparison_mark compare_op.Ne = spelling_of fixed.NotEqual
+
+-- texts with one space between each two
+abbrev pub spaced : List (List ℕ) → List ℕ
+spaced [] = []
+spaced (x ∷ []) = x
+spaced (x ∷ y ∷ xs) = x ++ 32 ∷ spaced (y ∷ xs)
+
+-- the text of what replaces a comparison: the tokens of `y op 0`, or of `0 op y`
+abbrev pub replacement_text : List ℕ → CompareOp → Replaced → List ℕ
+replacement_text bytes op found =
+    let kept = map (spelled bytes) (expression_tokens found.kept) in
+    spaced (if found.zero_first then (48 ∷ []) ∷ comparison_mark op ∷ kept else kept ++ comparison_mark op ∷ (48 ∷ []) ∷ [])

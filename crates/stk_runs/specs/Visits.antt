@@ -1,6 +1,7 @@
--- The nodes of a function that runs may evaluate, in the order of their numbers, each with its form and how it is evaluated. The lists of
--- conditions, candidates and keys, and what a loop may change, are read off them. Not evaluated are the operand of `sizeof`, the size of
--- an array, a case label, a designator and the initialiser of a `static` object (C11 6.5.3.4p2, 6.7.6.2, 6.8.4.2p3, 6.7.9p4).
+-- The expressions, local declarators, statements and sections of a function, in the order of their nodes, each with its form and how it is
+-- evaluated. The lists of conditions, candidates and keys, what a loop may change, and the weight are read off them. Not evaluated are the
+-- operand of `sizeof`, the size of an array, a case label and a designator (C11 6.5.3.4p2, 6.7.6.2, 6.8.4.2p3, 6.7.9p7); the initialiser
+-- of a `static` object isn't even typed, so its nodes aren't among these (C11 6.7.9p4).
 use Rattle.std.specs.Prelude.{ℕ, Bool, true, false, if◌then◌else◌, List, [], ◌∷◌, ◌++◌, Option, Some, None}
 use Rattle.stk_base.specs.declared.span.Span.{Span}
 use Rattle.stk_ctype.specs.Types.{TypeTree}
@@ -12,7 +13,7 @@ use Rattle.stk_tree.specs.declared.expression.BinaryOp.{BinaryOp}
 use Rattle.stk_tree.specs.declared.expression.BinaryOp.TheVariants as binary
 use Rattle.stk_tree.specs.declared.expression.AssignOp.{AssignOp}
 use Rattle.stk_tree.specs.declared.expression.AssignOp.TheVariants as assign
-use Rattle.stk_tree.specs.Syntax.{ExprTree, ExprTrees, MaybeExprTree, ExprFormTree, InitTree, MaybeInitTree, ItemTree, ItemTrees, DeclrTree, DeclrTrees, DeclarationTree, StartTree, LabelTrees, StmtTree, StmtTrees, MaybeStmtTree, StmtFormTree, PartTree, PartTrees, SectionTree, SectionTrees}
+use Rattle.stk_tree.specs.Syntax.{ExprTree, ExprTrees, MaybeExprTree, ExprFormTree, InitTree, MaybeInitTree, ItemTree, ItemTrees, DesigTree, DesigTrees, TypeNameTree, DimensionTree, DimensionTrees, TailTree, ParamTree, ParamTrees, DeclrTree, DeclrTrees, DeclarationTree, StartTree, LabelTree, LabelTrees, StmtTree, StmtTrees, MaybeStmtTree, StmtFormTree, PartTree, PartTrees, SectionTree, SectionTrees}
 use Rattle.stk_tree.specs.Syntax as s
 use Rattle.stk_runs.specs.Typings.{Typing, type_in, is_array, declarator_node}
 
@@ -28,7 +29,7 @@ pub record Role : Type 0 where
   pub is_arm : Bool
   pub is_test : Bool
 
--- a node that is evaluated: an expression; a declarator of a local object, with whether it is `static`; a statement, with whether it is
+-- a node: an expression; a declarator of a local object, with whether it is `static`; a statement, with whether it is
 -- entered as a branch; a section
 pub data Site : Type 0 where
   at_expression : ℕ → Role → ExprFormTree → Site
@@ -36,19 +37,21 @@ pub data Site : Type 0 where
   at_statement : ℕ → Bool → StmtFormTree → Site
   at_section : ℕ → LabelTrees → Site
 
--- sites in order; a scope has the declarators of its own locals
+-- sites in order; a scope has the declarators of its own locals; what isn't evaluated is marked
 pub data Visits : Type 0 where
   no_visit : Visits
   visit : Site → Visits
   both_visits : Visits → Visits → Visits
   scope : List ℕ → Visits → Visits
+  unevaluated : Visits → Visits
 
--- what each site gives, in order
+-- what each site gives that is evaluated, in order
 abbrev pub collected : {A : Type 0} → (Site → List A) → Visits → List A
 collected f no_visit = []
 collected f (visit x) = f x
 collected f (both_visits a b) = collected f a ++ collected f b
 collected f (scope ks a) = collected f a
+collected f (unevaluated a) = []
 
 -- an operand whose number is read; a place that is accessed and not read; the operand of `&`; a branch; a controlling expression
 abbrev pub reading : Role
@@ -167,9 +170,9 @@ abbrev mutual
   form_visits ty k role (s.arrow e at) = expression_visits ty reading e
   form_visits ty k role (s.step op e) = expression_visits ty reading e
   form_visits ty k role (s.unary op e) = expression_visits ty (unary_role op) e
-  form_visits ty k role (s.size_expression e) = no_visit
-  form_visits ty k role (s.size_name t) = no_visit
-  form_visits ty k role (s.cast t e) = expression_visits ty reading e
+  form_visits ty k role (s.size_expression e) = unevaluated (expression_visits ty reading e)
+  form_visits ty k role (s.size_name t) = type_name_visits ty t
+  form_visits ty k role (s.cast t e) = both_visits (type_name_visits ty t) (expression_visits ty reading e)
   form_visits ty k role (s.binary op a b) = both_visits (expression_visits ty (left_role op) a) (expression_visits ty (right_role op) b)
   form_visits ty k role (s.choice a b c) =
       both_visits (expression_visits ty as_test a) (both_visits (expression_visits ty as_arm b) (expression_visits ty as_arm c))
@@ -179,12 +182,24 @@ abbrev mutual
   arguments_visits ty s.no_expressions = no_visit
   arguments_visits ty (s.then_expression e es) = both_visits (expression_visits ty reading e) (arguments_visits ty es)
 
+  -- the sizes of the array parts of a type name
+  pub type_name_visits : Typing → TypeNameTree → Visits
+  type_name_visits ty (s.type_name n specifiers count ds) = dimensions_visits ty ds
+
+  pub dimensions_visits : Typing → DimensionTrees → Visits
+  dimensions_visits ty s.no_dimensions = no_visit
+  dimensions_visits ty (s.then_dimension d ds) = both_visits (dimension_visits ty d) (dimensions_visits ty ds)
+
+  pub dimension_visits : Typing → DimensionTree → Visits
+  dimension_visits ty s.open_dimension = no_visit
+  dimension_visits ty (s.sized e) = unevaluated (expression_visits ty reading e)
+
 -- an expression that may be missing
 abbrev pub maybe_visits : Typing → Role → MaybeExprTree → Visits
 maybe_visits ty role s.no_expression = no_visit
 maybe_visits ty role (s.some_expression e) = expression_visits ty role e
 
--- initialisers: the items in braces from left to right, without their designators
+-- initialisers: the items in braces from left to right
 abbrev mutual
   pub initialiser_visits : Typing → InitTree → Visits
   initialiser_visits ty (s.plain e) = expression_visits ty reading e
@@ -195,7 +210,34 @@ abbrev mutual
   items_visits ty (s.then_item x xs) = both_visits (item_visits ty x) (items_visits ty xs)
 
   pub item_visits : Typing → ItemTree → Visits
-  item_visits ty (s.item path x) = initialiser_visits ty x
+  item_visits ty (s.item path x) = both_visits (designators_visits ty path) (initialiser_visits ty x)
+
+  pub designators_visits : Typing → DesigTrees → Visits
+  designators_visits ty s.no_designators = no_visit
+  designators_visits ty (s.then_designator d ds) = both_visits (designator_visits ty d) (designators_visits ty ds)
+
+  pub designator_visits : Typing → DesigTree → Visits
+  designator_visits ty (s.dot_designator at) = no_visit
+  designator_visits ty (s.at_designator e) = unevaluated (expression_visits ty reading e)
+
+-- what follows the name of a declarator
+abbrev mutual
+  pub tail_visits : Typing → TailTree → Visits
+  tail_visits ty (s.arrays ds) = dimensions_visits ty ds
+  tail_visits ty s.unspecified = no_visit
+  tail_visits ty s.void_parameters = no_visit
+  tail_visits ty (s.with_parameters ps more) = parameters_visits ty ps
+
+  pub parameters_visits : Typing → ParamTrees → Visits
+  parameters_visits ty s.no_parameters = no_visit
+  parameters_visits ty (s.then_parameter p ps) = both_visits (parameter_visits ty p) (parameters_visits ty ps)
+
+  pub parameter_visits : Typing → ParamTree → Visits
+  parameter_visits ty (s.parameter n specifiers d) = head_visits ty d
+
+  -- a declarator of a parameter, or of a function
+  pub head_visits : Typing → DeclrTree → Visits
+  head_visits ty (s.declarator n count at tail init) = tail_visits ty tail
 
 -- whether a storage word is `static`
 abbrev pub is_static : Option Storage → Bool
@@ -211,7 +253,7 @@ initial_visits ty true (s.some_initialiser x) = no_visit
 initial_visits ty false (s.some_initialiser x) = initialiser_visits ty x
 
 abbrev pub declarator_visits : Typing → Bool → DeclrTree → Visits
-declarator_visits ty static (s.declarator n count at tail init) = both_visits (initial_visits ty static init) (visit (at_declarator n.number static at init))
+declarator_visits ty static (s.declarator n count at tail init) = both_visits (tail_visits ty tail) (both_visits (initial_visits ty static init) (visit (at_declarator n.number static at init)))
 
 abbrev pub declarators_visits : Typing → Bool → DeclrTrees → Visits
 declarators_visits ty static s.no_declarators = no_visit
@@ -245,6 +287,15 @@ start_visits ty (s.start_expression e) = maybe_visits ty reading e
 abbrev pub start_declares : StartTree → List ℕ
 start_declares (s.start_declaration d) = declared_in d
 start_declares (s.start_expression e) = []
+
+-- the labels of a section
+abbrev pub label_visits : Typing → LabelTree → Visits
+label_visits ty s.default_label = no_visit
+label_visits ty (s.case_label e) = unevaluated (expression_visits ty reading e)
+
+abbrev pub labels_visits : Typing → LabelTrees → Visits
+labels_visits ty s.no_labels = no_visit
+labels_visits ty (s.then_label l ls) = both_visits (label_visits ty l) (labels_visits ty ls)
 
 -- statements: their parts in order, and then the statement itself
 abbrev mutual
@@ -285,7 +336,7 @@ abbrev mutual
   sections_visits ty (s.then_section x xs) = both_visits (section_visits ty x) (sections_visits ty xs)
 
   pub section_visits : Typing → SectionTree → Visits
-  section_visits ty (s.section n ls body) = both_visits (statements_visits ty body) (visit (at_section n.number ls))
+  section_visits ty (s.section n ls body) = both_visits (labels_visits ty ls) (both_visits (statements_visits ty body) (visit (at_section n.number ls)))
 
 -- what a loop evaluates again in each turn: its test, its step and its body; nothing of another statement
 abbrev pub turn_visits : Typing → StmtFormTree → Visits
