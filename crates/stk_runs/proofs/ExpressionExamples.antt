@@ -1,9 +1,8 @@
 -- Path runs with each form of expression and each kind of condition.
-use Rattle.std.proofs.Common.{◌≡◌, ℕ, true, false, List, [], ◌∷◌, Option, Some, None, ℤ, pos, negsuc, refl}
+use Rattle.std.proofs.Common.{◌≡◌, true, false, [], ◌∷◌, Some, None, pos, negsuc, refl}
 use Rattle.stk_ctype.specs.declared.kind.IntKind.TheVariants as kind
 use Rattle.stk_ctype.specs.Types.{void_type, integer_type, pointer_type, array_type, struct_type, no_types, then_type, signature}
 use Rattle.stk_tree.specs.declared.fixed.Fixed.TheVariants as fixed
-use Rattle.stk_tree.specs.declared.declaration.Storage.TheVariants as storage
 use Rattle.stk_tree.specs.declared.expression.StepOp.TheVariants as step
 use Rattle.stk_tree.specs.declared.expression.UnaryOp.TheVariants as unary
 use Rattle.stk_tree.specs.declared.expression.BinaryOp.TheVariants as binary
@@ -11,7 +10,7 @@ use Rattle.stk_tree.specs.declared.expression.AssignOp.TheVariants as assign
 use Rattle.stk_tree.specs.Syntax.{FunctionTree}
 use Rattle.stk_tree.specs.Syntax as s
 use Rattle.stk_numbers.specs.declared.conditions.UbKind.TheVariants as ub
-use Rattle.stk_runs.specs.declared.entry.Entry.TheVariants.{Ub, Enter, Seen}
+use Rattle.stk_runs.specs.declared.entry.Entry.TheVariants.{Enter, Seen}
 use Rattle.stk_runs.specs.Typings.{Typing}
 use Rattle.stk_runs.specs.Paths.{path}
 use Rattle.stk_runs.proofs.Told.{told, n, at, ub_at, all_kinds}

@@ -4,3 +4,4 @@ mod ExpressionExamples
 mod StatementExamples
 mod ExecutionExamples
 mod ListExamples
+mod MapExamples

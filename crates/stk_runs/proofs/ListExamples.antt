@@ -1,9 +1,8 @@
 -- The keys, conditions, candidates and weights of a few functions, by which the definitions can be checked.
-use Rattle.std.proofs.Common.{◌≡◌, ℕ, true, false, List, [], ◌∷◌, Option, Some, None, ℤ, pos, negsuc, refl}
+use Rattle.std.proofs.Common.{◌≡◌, false, [], ◌∷◌, Some, None, pos, refl}
 use Rattle.stk_ctype.specs.declared.kind.IntKind.TheVariants as kind
-use Rattle.stk_ctype.specs.Types.{void_type, integer_type, pointer_type, array_type, struct_type, no_types, then_type, signature}
+use Rattle.stk_ctype.specs.Types.{integer_type, pointer_type, array_type, no_types, then_type, signature}
 use Rattle.stk_tree.specs.declared.fixed.Fixed.TheVariants as fixed
-use Rattle.stk_tree.specs.declared.declaration.Storage.TheVariants as storage
 use Rattle.stk_tree.specs.declared.expression.StepOp.TheVariants as step
 use Rattle.stk_tree.specs.declared.expression.UnaryOp.TheVariants as unary
 use Rattle.stk_tree.specs.declared.expression.BinaryOp.TheVariants as binary

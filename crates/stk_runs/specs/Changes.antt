@@ -1,10 +1,10 @@
 -- What a part of a function may change of registers and kept objects, which is what a loop of a path run sets and forgets first (C11 6.5.16, 6.5.2.4).
-use Rattle.std.specs.Prelude.{ℕ, ◌==◌, Bool, true, false, not, ◌&&◌, ◌||◌, List, [], ◌∷◌, Option, Some, None, filter}
+use Rattle.std.specs.Prelude.{ℕ, ◌==◌, Bool, true, false, not, ◌&&◌, ◌||◌, List, Option, Some, None, filter}
 use Rattle.stk_ctype.specs.Types.{TypeTree}
 use Rattle.stk_tree.specs.Syntax.{ExprTree, ExprFormTree, MaybeInitTree, StmtFormTree}
 use Rattle.stk_tree.specs.Syntax as s
 use Rattle.stk_rules.specs.Types.{is_scalar}
-use Rattle.stk_runs.specs.Typings.{Typing, is_among}
+use Rattle.stk_runs.specs.Typings.{is_among}
 use Rattle.stk_runs.specs.Libraries.{Library, absolute_in, copy_bytes, called_library}
 use Rattle.stk_runs.specs.Places.{Setting, Target, in_register, in_kept, in_object, unnamed, target_at, target_of}
 use Rattle.stk_runs.specs.Visits.{Site, at_expression, at_declarator, at_statement, at_section, Visits, no_visit, visit, both_visits, scope, unevaluated, turn_visits}

@@ -1,6 +1,6 @@
 -- The table of conditions: which kinds of undefined behaviour a node may have, by its form and the types of its operands, and where the
 -- numbers of the operands violate them (C11 6.5). Runs and the list of a function's conditions both use it.
-use Rattle.std.specs.Prelude.{ℕ, Bool, true, false, ◌&&◌, not, if◌then◌else◌, List, [], ◌∷◌, ◌++◌, map, Option, Some, None, ℤ, pos, filter, nat_lt}
+use Rattle.std.specs.Prelude.{ℕ, Bool, true, false, not, if◌then◌else◌, List, [], ◌∷◌, ◌++◌, map, Option, Some, None, ℤ, pos, filter}
 use Rattle.std.specs.Ordering.{int_eq}
 use Rattle.stk_ctype.specs.declared.kind.IntKind.{IntKind}
 use Rattle.stk_ctype.specs.Types.{TypeTree}
@@ -9,7 +9,6 @@ use Rattle.stk_tree.specs.declared.expression.UnaryOp.TheVariants as unary
 use Rattle.stk_tree.specs.Syntax.{ExprTree, ExprFormTree}
 use Rattle.stk_tree.specs.Syntax as s
 use Rattle.stk_numbers.specs.declared.operators.ArithOp.TheVariants as arith_op
-use Rattle.stk_numbers.specs.declared.conditions.UbKind.{UbKind}
 use Rattle.stk_numbers.specs.declared.conditions.UbKind.TheVariants as ub
 use Rattle.stk_numbers.specs.declared.conditions.Condition.{Condition}
 use Rattle.stk_numbers.specs.declared.conditions.Kinds.{Kinds}
@@ -19,7 +18,7 @@ use Rattle.stk_numbers.specs.Conditions.{leaves_memory, is_outside, overlaps}
 use Rattle.stk_runs.specs.declared.entry.Entry.{Entry}
 use Rattle.stk_runs.specs.declared.entry.Entry.TheVariants.{Ub}
 use Rattle.stk_runs.specs.Typings.{Typing, type_in, is_array, element_count, stride_in, number_kind}
-use Rattle.stk_runs.specs.Operations.{Operator, Operation, in_kind, operation_of, step_operation, Sort, operates, joins, or_else, and_also, sort_of, assigned_operator, Test, tested, operation_tests, to_address}
+use Rattle.stk_runs.specs.Operations.{Operator, in_kind, operation_of, step_operation, Sort, operates, joins, or_else, and_also, sort_of, assigned_operator, Test, tested, operation_tests, to_address}
 use Rattle.stk_runs.specs.Libraries.{Library, absolute_in, copy_bytes, called_library}
 
 -- an address that is 0 (C11 6.5.3.2p4)

@@ -1,6 +1,5 @@
 -- What the declaration of a local object does (C11 6.2.4p6, 6.7.9): its initialiser is evaluated and stored; a register without one has any number.
-use Rattle.std.specs.Prelude.{ℕ, Bool, true, false, if◌then◌else◌, List, [], ◌∷◌, Option, Some, None, ℤ, pos, set}
-use Rattle.stk_ctype.specs.Types.{TypeTree}
+use Rattle.std.specs.Prelude.{ℕ, Bool, if◌then◌else◌, List, ℤ, set}
 use Rattle.stk_tree.specs.Syntax.{InitTree, MaybeInitTree, ItemTree, ItemTrees, DeclrTree, DeclrTrees, DeclarationTree}
 use Rattle.stk_tree.specs.Syntax as s
 use Rattle.stk_rules.specs.Types.{is_scalar}

@@ -1,14 +1,12 @@
 -- What the evaluation of an expression does, by cases on its form: operands from left to right, but the right side of an assignment before
 -- the address of its left side (C11 6.5; this project's order of evaluation).
-use Rattle.std.specs.Prelude.{ℕ, ◌+◌, ◌-◌, Bool, true, false, not, if◌then◌else◌, List, [], ◌∷◌, ◌++◌, Option, Some, None, ℤ, pos, negsuc, ◌-ℤ◌, unwrap_or, option_map, set, get_or}
+use Rattle.std.specs.Prelude.{ℕ, ◌+◌, Bool, true, false, not, if◌then◌else◌, List, [], ◌∷◌, Option, Some, None, ℤ, pos, negsuc, ◌-ℤ◌, unwrap_or, option_map, set, get_or}
 use Rattle.stk_ctype.specs.declared.kind.IntKind.{IntKind}
-use Rattle.stk_ctype.specs.declared.kind.IntKind.TheVariants as kind
 use Rattle.stk_ctype.specs.Types.{TypeTree, TypeTrees, no_types, then_type}
 use Rattle.stk_tree.specs.declared.expression.StepOp.{StepOp}
 use Rattle.stk_tree.specs.declared.expression.UnaryOp.{UnaryOp}
 use Rattle.stk_tree.specs.declared.expression.UnaryOp.TheVariants as unary
 use Rattle.stk_tree.specs.declared.expression.BinaryOp.{BinaryOp}
-use Rattle.stk_tree.specs.declared.expression.BinaryOp.TheVariants as binary
 use Rattle.stk_tree.specs.declared.expression.AssignOp.{AssignOp}
 use Rattle.stk_tree.specs.Syntax.{ExprTree, ExprTrees, MaybeExprTree, ExprFormTree}
 use Rattle.stk_tree.specs.Syntax as s
@@ -24,7 +22,6 @@ use Rattle.stk_runs.specs.Libraries.{Library, absolute_in, copy_bytes, called_li
 use Rattle.stk_runs.specs.Conditions.{tests_at, violated}
 use Rattle.stk_runs.specs.Replacements.{Replaced, replacement, replaced_truth}
 use Rattle.stk_runs.specs.Places.{Setting, Target, in_register, in_kept, in_object, unnamed, object_named, target_at, target_of, form_target}
-use Rattle.stk_runs.specs.Visits.{Use, accesses, read, accessed, taken}
 use Rattle.stk_runs.specs.Worlds.{Ran, Went, Cut, World, after, and_then, gives, entered, told, answered, written, register}
 
 -- a number, and the numbers that its operands had where it is that of a sum or difference

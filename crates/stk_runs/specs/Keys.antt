@@ -1,5 +1,5 @@
 -- The input keys of a function: what a path run takes from an input map, in order; and its registers and kept objects.
-use Rattle.std.specs.Prelude.{ℕ, ◌+◌, ◌==◌, Bool, true, false, not, ◌&&◌, ◌||◌, if◌then◌else◌, List, [], ◌∷◌, ◌++◌, map, take, Option, Some, None, ℤ, pos, filter, sum_by, unwrap_or}
+use Rattle.std.specs.Prelude.{ℕ, ◌==◌, Bool, false, not, ◌&&◌, ◌||◌, if◌then◌else◌, List, [], ◌∷◌, ◌++◌, map, take, Option, Some, None, filter, sum_by}
 use Rattle.std.specs.Option.{is_some}
 use Rattle.stk_base.specs.declared.span.Span.{Span}
 use Rattle.stk_base.specs.Text.{text_of}

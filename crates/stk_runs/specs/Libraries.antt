@@ -1,5 +1,5 @@
 -- The functions of the library whose calls have values and conditions of their own: `abs`, `labs`, `llabs` (C11 7.22.6.1) and `memcpy` (C11 7.24.2.1).
-use Rattle.std.specs.Prelude.{ℕ, ◌==◌, Bool, true, false, ◌&&◌, ◌||◌, not, if◌then◌else◌, List, [], ◌∷◌, Option, Some, None, ℤ, option_and_then}
+use Rattle.std.specs.Prelude.{ℕ, ◌==◌, Bool, false, ◌&&◌, not, if◌then◌else◌, List, [], ◌∷◌, Option, Some, None, option_and_then}
 use Rattle.stk_base.specs.declared.span.Span.{Span}
 use Rattle.stk_base.specs.Text.{text_of, same_text}
 use Rattle.stk_ctype.specs.declared.kind.IntKind.{IntKind}

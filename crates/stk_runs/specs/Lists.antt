@@ -1,7 +1,6 @@
 -- The conditions and the candidates of a function, in the order of its nodes (Wang, Zeldovich, Kaashoek, Solar-Lezama, SOSP 2013, sections 3.2 and 3.3):
 -- what runs may violate, and what they may enter or see.
-use Rattle.std.specs.Prelude.{ℕ, Bool, true, false, ◌||◌, if◌then◌else◌, List, [], ◌∷◌, ◌++◌, Option, Some, None}
-use Rattle.stk_tree.specs.declared.expression.BinaryOp.{BinaryOp}
+use Rattle.std.specs.Prelude.{ℕ, Bool, true, false, List, [], ◌∷◌, ◌++◌, Option, Some, None}
 use Rattle.stk_tree.specs.Syntax.{ExprTree, ExprFormTree, FunctionTree}
 use Rattle.stk_tree.specs.Syntax as s
 use Rattle.stk_numbers.specs.declared.conditions.CandKind.{CandKind}
@@ -10,10 +9,10 @@ use Rattle.stk_numbers.specs.declared.conditions.Candidate.{Candidate}
 use Rattle.stk_numbers.specs.declared.conditions.Condition.{Condition}
 use Rattle.stk_numbers.specs.declared.conditions.Kinds.{Kinds}
 use Rattle.stk_runs.specs.Typings.{Typing}
-use Rattle.stk_runs.specs.Operations.{Operator, arithmetic, shifting, comparing, Sort, operates, joins, or_else, and_also, sort_of}
+use Rattle.stk_runs.specs.Operations.{arithmetic, shifting, comparing, Sort, operates, joins, or_else, and_also, sort_of}
 use Rattle.stk_runs.specs.Conditions.{tests_at, conditions_of}
 use Rattle.stk_runs.specs.Replacements.{Replaced, replacement}
-use Rattle.stk_runs.specs.Visits.{Role, accesses, Site, at_expression, at_declarator, at_statement, at_section, collected}
+use Rattle.stk_runs.specs.Visits.{accesses, Site, at_expression, at_declarator, at_statement, at_section, collected}
 use Rattle.stk_runs.specs.Keys.{function_visits}
 
 -- the conditions of a site: those that the table names for its form

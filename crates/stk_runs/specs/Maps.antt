@@ -1,7 +1,6 @@
 -- Which input maps and which starts of executions are valid, and the order of input maps (C11 6.2.4, 6.5.3.2: objects lie in memory and have addresses).
-use Rattle.std.specs.Prelude.{ℕ, ◌+◌, ◌-◌, ◌^◌, ◌==◌, ◌<◌, ◌≡◌, ◌⊎◌, Bool, true, false, not, ◌&&◌, ◌||◌, nat_lt, nat_le, List, [], ◌∷◌, length, map, ℤ}
+use Rattle.std.specs.Prelude.{ℕ, ◌+◌, ◌-◌, ◌^◌, ◌==◌, ◌<◌, ◌≡◌, ◌⊎◌, Bool, true, not, ◌&&◌, ◌||◌, nat_lt, nat_le, List, [], ◌∷◌, map, ℤ}
 use Rattle.std.specs.List.{list_all}
-use Rattle.stk_ctype.specs.declared.kind.IntKind.{IntKind}
 use Rattle.stk_tree.specs.Syntax.{FunctionTree}
 use Rattle.stk_numbers.specs.declared.conditions.Kinds.{Kinds}
 use Rattle.stk_numbers.specs.Kinds.{width_of, fits, residue}

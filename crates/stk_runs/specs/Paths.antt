@@ -1,8 +1,7 @@
 -- Path runs: each load, each call, each register without initialiser and each address takes its number from an input map, but a kept object
 -- that has a kept number gives that; a loop turns once, from registers that the map gives (Wang, Zeldovich, Kaashoek, Solar-Lezama, SOSP 2013,
 -- section 4.3, whose loops are unrolled once).
-use Rattle.std.specs.Prelude.{ℕ, suc, ◌+◌, ◌==◌, Bool, true, false, ◌&&◌, if◌then◌else◌, List, [], ◌∷◌, length, map, get_or, set, replicate, Option, Some, None, ℤ, pos}
-use Rattle.stk_ctype.specs.Types.{TypeTree}
+use Rattle.std.specs.Prelude.{ℕ, ◌+◌, ◌==◌, Bool, true, false, ◌&&◌, if◌then◌else◌, List, [], ◌∷◌, length, map, get_or, set, replicate, Option, Some, None, ℤ, pos}
 use Rattle.stk_tree.specs.Syntax.{FunctionTree}
 use Rattle.stk_numbers.specs.declared.conditions.Kinds.{Kinds}
 use Rattle.stk_rules.specs.Types.{is_void}

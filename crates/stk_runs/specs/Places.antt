@@ -1,5 +1,5 @@
 -- Registers, memory objects, and what an expression is as a place by name (C11 6.3.2.1p1, 6.5.1, 6.5.2.3).
-use Rattle.std.specs.Prelude.{ℕ, ◌+◌, ◌==◌, Bool, true, false, ◌&&◌, if◌then◌else◌, List, [], ◌∷◌, Option, Some, None, unwrap_or}
+use Rattle.std.specs.Prelude.{ℕ, ◌+◌, ◌==◌, if◌then◌else◌, List, [], ◌∷◌, Option, Some, None, unwrap_or}
 use Rattle.stk_base.specs.declared.span.Span.{Span}
 use Rattle.stk_base.specs.Text.{text_of, same_text}
 use Rattle.stk_tree.specs.Syntax.{ExprTree, ExprFormTree}

@@ -20,7 +20,7 @@ use Rattle.stk_numbers.specs.declared.operators.CompareOp.TheVariants as compare
 use Rattle.stk_numbers.specs.Kinds.{wrap, common}
 use Rattle.stk_numbers.specs.Values.{compared}
 use Rattle.stk_rules.specs.Types.{kind_of}
-use Rattle.stk_runs.specs.Typings.{Typing, node_of, type_in, number_kind, bare}
+use Rattle.stk_runs.specs.Typings.{Typing, type_in, bare}
 
 -- the spelling of a token
 abbrev pub spelled : List ℕ → Lexeme → List ℕ

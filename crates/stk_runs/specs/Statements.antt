@@ -1,5 +1,5 @@
 -- What a statement does, by cases on its form (C11 6.8).
-use Rattle.std.specs.Prelude.{ℕ, zero, suc, ◌+◌, Bool, true, false, if◌then◌else◌, List, [], ◌∷◌, Option, Some, None, ℤ, option_map}
+use Rattle.std.specs.Prelude.{ℕ, zero, suc, ◌+◌, Bool, true, false, if◌then◌else◌, List, Option, Some, None, ℤ, option_map}
 use Rattle.std.specs.Ordering.{int_eq}
 use Rattle.stk_ctype.specs.declared.kind.IntKind.{IntKind}
 use Rattle.stk_tree.specs.Syntax.{ExprTree, MaybeExprTree, StartTree, LabelTree, LabelTrees, StmtTree, StmtTrees, MaybeStmtTree, StmtFormTree, PartTree, PartTrees, SectionTree, SectionTrees}
@@ -10,7 +10,7 @@ use Rattle.stk_runs.specs.Operations.{truth}
 use Rattle.stk_runs.specs.Places.{Setting}
 use Rattle.stk_runs.specs.Visits.{parts_declare, start_declares}
 use Rattle.stk_runs.specs.Changes.{assigned_in, forgotten_in}
-use Rattle.stk_runs.specs.Worlds.{Ran, World, and_then, gives, entered, Flow, Normal, Break, Continue, Return, next, give_back, Turned, Another, Ended, again, repeated, behind_body, left_switch}
+use Rattle.stk_runs.specs.Worlds.{Ran, World, and_then, gives, entered, Flow, Normal, Break, Continue, Return, next, give_back, Turned, Another, Ended, repeated, behind_body, left_switch}
 use Rattle.stk_runs.specs.Expressions.{value_of, test_of}
 use Rattle.stk_runs.specs.Declarations.{declaration_run}
 

@@ -1,5 +1,5 @@
 -- What the definitions of runs ask of typing, by the numbers of nodes (C11 6.2.5, 6.3.2.1, 6.5).
-use Rattle.std.specs.Prelude.{ℕ, ◌==◌, Bool, true, false, ◌||◌, ◌&&◌, List, [], ◌∷◌, Option, Some, None, ℤ, unwrap_or, option_and_then}
+use Rattle.std.specs.Prelude.{ℕ, ◌==◌, Bool, true, false, ◌||◌, List, [], ◌∷◌, Option, Some, None, ℤ, unwrap_or, option_and_then}
 use Rattle.std.specs.Option.{option_map_or}
 use Rattle.stk_base.specs.declared.span.Span.{Span}
 use Rattle.stk_base.specs.Text.{text_of}
@@ -16,7 +16,7 @@ use Rattle.stk_tree.specs.Syntax.{ExprTree, ExprFormTree, DeclrTree, StmtTree}
 use Rattle.stk_tree.specs.Syntax as s
 use Rattle.stk_numbers.specs.Kinds.{wrap}
 use Rattle.stk_facts.specs.Facts.{Fact, fact_at}
-use Rattle.stk_rules.specs.Types.{pointee, is_void}
+use Rattle.stk_rules.specs.Types.{pointee}
 
 -- The bytes of the input; of a node the type, the declarator of the parameter or local object that a name means, and the number of a
 -- constant, an enumerator's name, a `sizeof` or the expression of a case label; whether the name of a declarator is an operand of `&`;

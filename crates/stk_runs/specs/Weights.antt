@@ -1,9 +1,7 @@
 -- The weight of a function: how much the search for its findings may cost. It is a sum of one number a node, one number a memory object, and one
 -- number a pair of objects. The table has a line for each form.
-use Rattle.std.specs.Prelude.{ℕ, ◌+◌, ◌*◌, ◌==◌, Bool, true, false, not, ◌&&◌, ◌||◌, if◌then◌else◌, max, count_ones, List, [], ◌∷◌, length, filter, sum_by, Option, Some, None}
+use Rattle.std.specs.Prelude.{ℕ, ◌+◌, ◌*◌, ◌==◌, Bool, true, false, ◌&&◌, ◌||◌, if◌then◌else◌, max, count_ones, List, [], ◌∷◌, length, filter, Option, Some, None}
 use Rattle.std.specs.List.{list_any}
-use Rattle.stk_ctype.specs.declared.kind.IntKind.{IntKind}
-use Rattle.stk_ctype.specs.declared.kind.IntKind.TheVariants as kind
 use Rattle.stk_ctype.specs.Types.{TypeTree, void_type, integer_type, pointer_type, array_type, struct_type, function_type}
 use Rattle.stk_tree.specs.declared.expression.UnaryOp.{UnaryOp}
 use Rattle.stk_tree.specs.declared.expression.UnaryOp.TheVariants as unary

@@ -1,6 +1,6 @@
 -- What a run gives, how one part of it follows another, and how the outside answers it: path runs and executions are one definition and
 -- differ in their world alone (C11 5.1.2.3).
-use Rattle.std.specs.Prelude.{ℕ, zero, suc, Bool, true, false, List, [], ◌∷◌, ◌++◌, Option, Some, None, ℤ, pos, get_or, set}
+use Rattle.std.specs.Prelude.{ℕ, zero, suc, Bool, List, [], ◌∷◌, ◌++◌, Option, Some, None, ℤ, pos, get_or, set}
 use Rattle.stk_ctype.specs.declared.kind.IntKind.{IntKind}
 use Rattle.stk_ctype.specs.Types.{TypeTree}
 use Rattle.stk_runs.specs.declared.entry.Entry.{Entry}
