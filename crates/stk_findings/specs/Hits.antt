@@ -1,5 +1,5 @@
 -- Which entries of a trace hit a candidate, and free of which conditions (Wang, Zeldovich, Kaashoek, Solar-Lezama, SOSP 2013, section 3).
-use Rattle.std.specs.Prelude.{◌≡◌, ℕ, Bool, true, false, not, ◌&&◌, ◌==◌, if◌then◌else◌, List, [], ◌∷◌, ◌++◌, Option, Some, None}
+use Rattle.std.specs.Prelude.{◌≡◌, Bool, true, false, not, ◌&&◌, ◌||◌, ◌==◌, List, [], ◌∷◌, ◌++◌, Option, Some, None}
 use Rattle.std.specs.List.{list_any, list_all}
 use Rattle.stk_numbers.specs.declared.conditions.CandKind.{CandKind}
 use Rattle.stk_numbers.specs.declared.conditions.CandKind.TheVariants.{Arm, AlwaysTrue, AlwaysFalse, Algebra}
@@ -66,4 +66,4 @@ pub record HitsFree (set : List Condition) (c : Candidate) (trace : List Entry) 
 -- the same as a test, from left to right
 abbrev pub is_hit_free : List Condition → Candidate → List Entry → Bool
 is_hit_free set c [] = false
-is_hit_free set c (e ∷ t) = if hits c e then true else not (breaks set e) && is_hit_free set c t
+is_hit_free set c (e ∷ t) = hits c e || (not (breaks set e) && is_hit_free set c t)

@@ -1,5 +1,5 @@
 -- The findings of a function: by its path runs, for its valid input maps.
-use Rattle.std.specs.Prelude.{◌≡◌, ℕ, nat_le, List}
+use Rattle.std.specs.Prelude.{ℕ, nat_le, List}
 use Rattle.stk_tree.specs.Syntax.{FunctionTree}
 use Rattle.stk_numbers.specs.declared.conditions.Candidate.{Candidate}
 use Rattle.stk_numbers.specs.declared.conditions.Condition.{Condition}
