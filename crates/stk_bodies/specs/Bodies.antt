@@ -1,5 +1,5 @@
 -- Where a statement of a function stands.
-use Rattle.std.specs.Prelude.{ℕ, Bool, true, false, ◌||◌, ◌==◌, List, [], ◌∷◌, ◌++◌, length, drop}
+use Rattle.std.specs.Prelude.{ℕ, Bool, true, List, length, drop}
 use Rattle.std.specs.Option.{is_some}
 use Rattle.stk_ctype.specs.Types.{TypeTree}
 use Rattle.stk_scope.specs.Locals.{Local, find_local}
@@ -33,8 +33,3 @@ switched b = record { scope = b.scope; taken = b.taken; outer = b.outer; returns
 -- whether a local of the block at hand has this name
 abbrev pub is_in_block : Body → List ℕ → Bool
 is_in_block b name = is_some (find_local name (drop b.outer b.scope.locals))
-
--- whether a declarator is one of these
-abbrev pub is_listed : ℕ → List ℕ → Bool
-is_listed k [] = false
-is_listed k (j ∷ js) = k == j || is_listed k js

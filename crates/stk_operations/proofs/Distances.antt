@@ -1,15 +1,14 @@
 -- Distances of addresses and bounds of indices, by bits.
-use Rattle.std.proofs.Common.{◌≡◌, ℕ, zero, suc, ◌+◌, ◌-◌, ◌*◌, ◌%◌, ◌/◌, ◌^◌, ◌<◌, ◌≤◌, Bool, true, false, not, ◌&&◌, ◌||◌, ℤ, pos, negsuc, neg_ℤ, ◌-ℤ◌, refl, sym, ap, subst, ◌∙◌, arith, nat_eq, nat_lt, int_lt, if◌then◌else◌}
+use Rattle.std.proofs.Common.{◌≡◌, ℕ, suc, ◌+◌, ◌-◌, ◌%◌, ◌/◌, ◌^◌, ◌<◌, ◌≤◌, Bool, true, false, not, ◌&&◌, ◌||◌, ℤ, pos, negsuc, neg_ℤ, ◌-ℤ◌, refl, sym, ap, subst, ◌∙◌, arith, nat_eq, nat_lt, int_lt, if◌then◌else◌}
 use Rattle.std.specs.Int.RustNames.{int_div, int_le}
 use Rattle.std.specs.Ordering.{int_eq}
 use Rattle.std.proofs.lemmas.Int.{ints}
-use Rattle.std.proofs.Math.Nat.{mod-eq_of_lt, mod-lt, div-one}
-use Rattle.std.proofs.lemmas.Nat.{pow_pos}
+use Rattle.std.proofs.Math.Nat.{mod-eq_of_lt, div-one}
 use Rattle.stk_ctype.specs.declared.kind.IntKind.{IntKind}
 use Rattle.stk_ctype.specs.declared.kind.IntKind.TheVariants as kind
 use Rattle.stk_numbers.specs.declared.operators.ArithOp.TheVariants.{Div}
 use Rattle.stk_numbers.specs.Kinds.{width_of, is_signed, residue, decoded, wrap}
-use Rattle.stk_numbers.specs.Values.{bits_of, exact, arith as arith_of, distance}
+use Rattle.stk_numbers.specs.Values.{bits_of, arith as arith_of, distance}
 use Rattle.stk_numbers.specs.Conditions.{is_outside}
 use Rattle.stk_numbers.proofs.Residues.{residue_sub, residue_below}
 use Rattle.stk_numbers.proofs.Wrapping.{wrap_congruent}

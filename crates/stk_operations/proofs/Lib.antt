@@ -2,8 +2,10 @@ pub mod Booleans
 pub mod Conversions
 pub mod Counts
 pub mod Distances
+pub mod InRange
 pub mod Made
 pub mod Magnitudes
+pub mod Moves
 pub mod Overflows
 pub mod Results
 pub mod Shifted

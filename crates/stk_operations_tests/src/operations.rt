@@ -284,7 +284,12 @@ static SHIFTS: [(ShiftOp, IntKind, i128, IntKind, i128, u128); 15] = [
 ];
 
 // The number of a term without inputs.
-fn number(rt: &impl Abort, alloc: Global, terms: &Terms, id: TermId) -> Result<u128, NoMemory> {
+pub(crate) fn number(
+    rt: &impl Abort,
+    alloc: Global,
+    terms: &Terms,
+    id: TermId,
+) -> Result<u128, NoMemory> {
     let residues = Residues {
         numbers: List::empty(alloc),
     };

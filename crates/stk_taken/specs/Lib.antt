@@ -1,3 +1,5 @@
 pub mod Marks
 pub mod Expressions
 pub mod Statements
+pub mod Sets
+pub mod Statics

@@ -19,7 +19,7 @@ use stk_tree::{
 };
 
 // Whether the storage word is `static`.
-fn is_static(word: Option<Storage>) -> bool
+pub(crate) fn is_static(word: Option<Storage>) -> bool
     ensures { result ≡ is_static word }
 {
     match word {

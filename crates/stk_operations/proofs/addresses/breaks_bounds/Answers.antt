@@ -1,4 +1,4 @@
-use Rattle.std.proofs.Common.{◌≡◌, ◌∙◌, ◌-◌, ◌*◌, ◌/◌, ◌%◌, ◌^◌, not, ◌&&◌, sym, ap, subst, nat_eq, nat_lt, arith}
+use Rattle.std.proofs.Common.{◌∙◌, not, ◌&&◌, sym, ap, nat_lt}
 use Rattle.stk_operations.proofs.Made.{obeys_before as B, term_below}
 use Rattle.stk_terms.specs.Values.{bit}
 use Rattle.stk_numbers.specs.Kinds.{residue, decoded}

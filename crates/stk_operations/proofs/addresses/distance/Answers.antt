@@ -1,4 +1,4 @@
-use Rattle.std.proofs.Common.{◌≡◌, ◌∙◌, ◌-◌, ◌*◌, ◌/◌, ◌%◌, ◌^◌, not, ◌&&◌, sym, ap, subst, nat_eq, nat_lt, arith, if◌then◌else◌}
+use Rattle.std.proofs.Common.{◌∙◌, ◌/◌, nat_eq, if◌then◌else◌}
 use Rattle.stk_operations.proofs.Made.{obeys_before as B, term_below}
 use Rattle.stk_operations.specs.Standing.{is_plus, turned_bits, magnitude, same}
 use Rattle.stk_operations.proofs.Distances.{distance_by_one, distance_by}

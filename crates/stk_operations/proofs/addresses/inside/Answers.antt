@@ -1,5 +1,5 @@
-use Rattle.std.proofs.Common.{◌≡◌, ◌∙◌, ◌-◌, ◌*◌, ◌/◌, ◌%◌, ◌^◌, not, ◌&&◌, sym, ap, subst, nat_eq, nat_lt, arith}
-use Rattle.stk_operations.proofs.Made.{obeys_before as B, term_below}
+use Rattle.std.proofs.Common.{◌∙◌, not, ap, nat_lt}
+use Rattle.stk_operations.proofs.Made.{obeys_before as B}
 use Rattle.stk_terms.specs.Values.{bit}
 use Rattle.stk_operations.specs.Standing.{is_plus}
 use Rattle.stk_operations.proofs.Magnitudes.{not_not}

@@ -1,0 +1,4 @@
+pub mod Hits
+pub mod Sufficient
+pub mod Findings
+pub mod PathFindings

@@ -1,0 +1,85 @@
+// Goals that become clauses.
+ghost use Rattle.std.specs.Prelude.{◌≡◌, ◌+◌, ◌<◌, ◌≤◌, ◌^◌, false, length, sum, slice_index_or, IfOk, MatchOption};
+ghost use Rattle.std.specs.List.{All};
+ghost use Rattle.stk_clauses.specs.Literals.{AreBelow, Satisfies};
+ghost use Rattle.stk_clauses.specs.Derivations.{IsRefutation};
+ghost use Rattle.stk_terms.specs.Values.{width_at};
+ghost use Rattle.stk_terms.specs.Cost.{cost};
+ghost use Rattle.stk_goals.specs.Standing.{StandsForGoal};
+ghost use Rattle.stk_goals.specs.Laws.{MakesOne};
+ghost use Rattle.stk_query.specs.Verdicts.{IsVerdict};
+
+use crate::{MOST_BUDGET, Verdict};
+use std::alloc::Global;
+use stk_base::NoMemory;
+use stk_bits::Bits;
+use stk_check::check;
+use stk_clauses::{Cnf, Derivation};
+use stk_goals::{clauses_for, residues_from};
+use stk_solver::{Answer, solve};
+use stk_terms::{Residues, TermId, Terms};
+
+/// The inputs that values which satisfy the clauses of a goal are.
+fn start_of(
+    alloc: Global,
+    terms: &Terms,
+    goal: TermId,
+    cnf: &Cnf,
+    values: &Bits,
+) -> Result<Residues, NoMemory>
+    requires stands { StandsForGoal terms.now goal.0 cnf.now }
+    requires each { length values.now.bits ≡ cnf.now.vars }
+    requires satisfied { Satisfies (λ v. slice_index_or values.now.bits v false) cnf.now.store }
+    ensures { IfOk result (λ r. MakesOne terms.now goal.0 r.numbers) }
+{
+    let _ = goal;
+    let _ = cnf;
+    let _ = terms.count();
+    let residues = residues_from(alloc, terms.widths(), values.bits.as_slice())?;
+    Ok(residues)
+}
+
+/// The derivation where `check` accepts it on the clauses, and `None` where it doesn't.
+fn accepted(
+    alloc: Global,
+    cnf: &Cnf,
+    derivation: Derivation,
+) -> Result<Option<Derivation>, NoMemory>
+    requires { All (AreBelow cnf.now.vars) cnf.now.store }
+    ensures { IfOk result (λ r. MatchOption r (IsRefutation cnf.now.vars cnf.now.store derivation.steps → ⊥) (λ d. (d ≡ derivation) × IsRefutation cnf.now.vars cnf.now.store d.steps)) }
+{
+    if check(alloc, cnf, &derivation)? {
+        Ok(Some(derivation))
+    } else {
+        Ok(None)
+    }
+}
+
+/// The verdict on a goal whose inputs have more than 16 bits: its clauses are searched, and a refutation is passed to `check` before it is
+/// answered.
+pub(crate) fn searched(
+    alloc: Global,
+    terms: &Terms,
+    goal: TermId,
+    budget: u32,
+) -> Result<Verdict, NoMemory>
+    requires exists { goal.0 < length terms.now.terms }
+    requires one { width_at terms.now goal.0 ≡ 1 }
+    requires most { budget ≤ MOST_BUDGET }
+    requires room { sum terms.now.inputs + cost terms.now goal.0 < 2 ^ 29 }
+    requires wide { 16 < sum terms.now.inputs }
+    ensures { IfOk result (IsVerdict terms.now goal.0 budget) }
+{
+    let cnf = clauses_for(alloc, terms, goal)?;
+    match solve(alloc, &cnf, budget)? {
+        Answer::Satisfied(values) => {
+            let residues = start_of(alloc, terms, goal, &cnf, &values)?;
+            Ok(Verdict::Satisfied(residues))
+        }
+        Answer::Refuted(derivation) => match accepted(alloc, &cnf, derivation)? {
+            Some(derivation) => Ok(Verdict::Refuted(cnf, derivation)),
+            None => unreachable!(),
+        },
+        Answer::Spent(log) => Ok(Verdict::Undecided(cnf, log)),
+    }
+}

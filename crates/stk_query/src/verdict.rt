@@ -1,0 +1,26 @@
+// What is said of a goal.
+ghost use Rattle.std.specs.Prelude.{◌≡◌};
+ghost use Rattle.stk_query.specs.Verdicts.{is_undecided};
+
+use stk_clauses::{Cnf, Derivation};
+use stk_terms::Residues;
+
+/// What was found of a goal, a term of width 1.
+#[derive(Drop)]
+pub enum Verdict {
+    /// These inputs make the goal 1.
+    Satisfied(Residues),
+    /// All inputs were tried, and none make it 1.
+    Tried,
+    /// No inputs make it 1: the derivation refutes clauses that stand for it.
+    Refuted(Cnf, Derivation),
+    /// The budget was spent: clauses that stand for it, and the log of the search.
+    Undecided(Cnf, Derivation),
+}
+
+/// Whether the goal was given up.
+pub(crate) fn is_undecided(verdict: &Verdict) -> bool
+    ensures { result ≡ is_undecided verdict.now }
+{
+    matches!(verdict, Verdict::Undecided(_, _))
+}

@@ -1,0 +1,7 @@
+pub mod Told
+mod FunctionExamples
+mod ExpressionExamples
+mod StatementExamples
+mod ExecutionExamples
+mod ListExamples
+mod MapExamples

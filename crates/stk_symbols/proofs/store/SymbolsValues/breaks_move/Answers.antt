@@ -1,0 +1,18 @@
+use Rattle.std.proofs.Common.{sym}
+use Rattle.stk_numbers.specs.Conditions.{leaves_memory}
+use Rattle.stk_symbols.proofs.Answering.{both_ok, Raised, obeys, test_of, operand_is, address}
+use Rattle.stk_symbols.proofs.Growing.{under}
+use Rattle.stk_symbols.proofs.store.SymbolsValues.breaks_move.Goals as goal
+
+pub returns-clause-value : goal.returns-clause-value
+returns-clause-value c =
+    let a = c.breaks_move-answer in
+    let ks = c.self.inside.kinds in
+    let s = c.args.self.now in
+    let old = c.self.inside.terms in
+    let new = a.new.terms in
+    let r : Raised s ks old new = record { spent = _; grown = a.ensures.grown; sound = c.count-count.ensures.sound; view = c.self.view_is } in
+    both_ok a.result _ _ _ a.ensures.made a.ensures.value (λ v t e. λ m p x h q y.
+    let o = obeys s ks old new r m h in
+    let n = under ks new m in
+    test_of s ks old new r m h v _ (leaves_memory p x c.args.size c.args.minus) t (e n o) (λ i. leaves_memory (address s ks old new r m h c.args.base p q i) (sym (operand_is s ks old new r m h c.args.step_kind c.args.step x y) i) c.args.size c.args.minus))

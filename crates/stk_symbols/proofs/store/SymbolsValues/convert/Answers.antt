@@ -1,0 +1,18 @@
+use Rattle.stk_numbers.specs.Kinds.{wrap}
+use Rattle.stk_numbers.proofs.Wrapping.{wrap_in_range}
+use Rattle.stk_symbols.proofs.Answering.{both_ok, Raised, obeys, from_one}
+use Rattle.stk_symbols.proofs.Growing.{under}
+use Rattle.stk_symbols.proofs.store.SymbolsValues.convert.Goals as goal
+
+pub returns-clause-value : goal.returns-clause-value
+returns-clause-value c =
+    let a = c.converted-answer in
+    let ks = c.self.inside.kinds in
+    let s = c.args.self.now in
+    let old = c.self.inside.terms in
+    let new = a.new.terms in
+    let r : Raised s ks old new = record { spent = _; grown = a.ensures.grown; sound = c.count-count.ensures.sound; view = c.self.view_is } in
+    both_ok a.result _ _ _ a.ensures.made a.ensures.value (λ v t e. λ m x h p.
+    let o = obeys s ks old new r m h in
+    let n = under ks new m in
+    from_one s ks old new r m h c.args.from c.args.to c.args.value v (wrap c.args.to) x p t (wrap_in_range c.args.to x) (e n o))

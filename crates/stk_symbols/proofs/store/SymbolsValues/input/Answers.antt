@@ -1,0 +1,16 @@
+use Rattle.stk_symbols.proofs.Answering.{both_ok, Raised, obeys, key_shown}
+use Rattle.stk_symbols.proofs.Growing.{under}
+use Rattle.stk_symbols.proofs.store.SymbolsValues.input.Goals as goal
+
+pub returns-clause-value : goal.returns-clause-value
+returns-clause-value c =
+    let a = c.input-answer in
+    let ks = c.self.inside.kinds in
+    let s = c.args.self.now in
+    let old = c.self.inside.terms in
+    let new = a.new.terms in
+    let r : Raised s ks old new = record { spent = _; grown = a.ensures.grown; sound = c.count-count.ensures.sound; view = c.self.view_is } in
+    both_ok a.result _ _ _ a.ensures.made a.ensures.value (λ v t e. λ m h.
+    let o = obeys s ks old new r m h in
+    let n = under ks new m in
+    key_shown s ks old new r m h c.args.key c.args.kind v c.requires t (e n o))

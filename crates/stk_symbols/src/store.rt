@@ -1,0 +1,178 @@
+// The calls of a store, as terms.
+use crate::symbols::Symbols;
+use stk_base::NoMemory;
+use stk_numbers::{ArithOp, CompareOp, IntKind, ShiftOp, UbKind};
+use stk_operations as terms;
+use stk_terms::TermId;
+use stk_values::Values;
+
+impl Values for Symbols {
+    type Value = TermId;
+
+    ghost use Rattle.stk_terms.specs.Cost.{total_cost};
+    ghost use Rattle.stk_symbols.specs.Symbolic.{Serves, HasKey, IsMade, Shows};
+
+    ghost serves = { Serves };
+
+    ghost has_key = { HasKey };
+
+    ghost made = { IsMade };
+
+    ghost shows = { Shows };
+
+    ghost cost = { λ s. total_cost s.terms };
+
+    ghost needs_memory = { Unit };
+
+    fn constant(&mut self, kind: IntKind, number: i128) -> Result<TermId, NoMemory> {
+        let answer = terms::constant(&mut self.terms, kind, number);
+        let _count = self.terms.count();
+        answer
+    }
+
+    fn input(&mut self, key: u32, kind: IntKind) -> Result<TermId, NoMemory> {
+        let answer = terms::input(&mut self.terms, key);
+        let _count = self.terms.count();
+        answer
+    }
+
+    fn convert(&mut self, from: IntKind, to: IntKind, value: TermId) -> Result<TermId, NoMemory> {
+        let answer = terms::converted(&mut self.terms, from, to, value);
+        let _count = self.terms.count();
+        answer
+    }
+
+    fn arith(
+        &mut self,
+        op: ArithOp,
+        kind: IntKind,
+        left: TermId,
+        right: TermId,
+    ) -> Result<TermId, NoMemory> {
+        let answer = terms::arith(&mut self.terms, op, kind, left, right);
+        let _count = self.terms.count();
+        answer
+    }
+
+    fn shift(
+        &mut self,
+        op: ShiftOp,
+        kind: IntKind,
+        left: TermId,
+        count_kind: IntKind,
+        count: TermId,
+    ) -> Result<TermId, NoMemory> {
+        let answer = terms::shift(&mut self.terms, op, kind, left, count_kind, count);
+        let _count = self.terms.count();
+        answer
+    }
+
+    fn compare(
+        &mut self,
+        op: CompareOp,
+        kind: IntKind,
+        left: TermId,
+        right: TermId,
+    ) -> Result<TermId, NoMemory> {
+        let answer = terms::compare(&mut self.terms, op, kind, left, right);
+        let _count = self.terms.count();
+        answer
+    }
+
+    fn moved(
+        &mut self,
+        base: TermId,
+        step_kind: IntKind,
+        step: TermId,
+        size: u64,
+        minus: bool,
+    ) -> Result<TermId, NoMemory> {
+        let answer = terms::moved(&mut self.terms, base, step_kind, step, size, minus);
+        let _count = self.terms.count();
+        answer
+    }
+
+    fn distance(&mut self, left: TermId, right: TermId, size: u64) -> Result<TermId, NoMemory> {
+        let answer = terms::distance(&mut self.terms, left, right, size);
+        let _count = self.terms.count();
+        answer
+    }
+
+    fn choose(
+        &mut self,
+        test: TermId,
+        kind: IntKind,
+        yes: TermId,
+        no: TermId,
+    ) -> Result<TermId, NoMemory> {
+        let answer = terms::choose(&mut self.terms, test, kind, yes, no);
+        let _count = self.terms.count();
+        answer
+    }
+
+    fn both(&mut self, left: TermId, right: TermId) -> Result<TermId, NoMemory> {
+        let answer = terms::both(&mut self.terms, left, right);
+        let _count = self.terms.count();
+        answer
+    }
+
+    fn opposite(&mut self, test: TermId) -> Result<TermId, NoMemory> {
+        let answer = terms::opposite(&mut self.terms, test);
+        let _count = self.terms.count();
+        answer
+    }
+
+    fn breaks(
+        &mut self,
+        what: UbKind,
+        op: ArithOp,
+        kind: IntKind,
+        left: TermId,
+        right: TermId,
+    ) -> Result<TermId, NoMemory> {
+        let answer = terms::breaks(&mut self.terms, what, op, kind, left, right);
+        let _count = self.terms.count();
+        answer
+    }
+
+    fn breaks_shift(
+        &mut self,
+        kind: IntKind,
+        count_kind: IntKind,
+        count: TermId,
+    ) -> Result<TermId, NoMemory> {
+        let answer = terms::breaks_shift(&mut self.terms, kind, count_kind, count);
+        let _count = self.terms.count();
+        answer
+    }
+
+    fn breaks_move(
+        &mut self,
+        base: TermId,
+        step_kind: IntKind,
+        step: TermId,
+        size: u64,
+        minus: bool,
+    ) -> Result<TermId, NoMemory> {
+        let answer = terms::breaks_move(&mut self.terms, base, step_kind, step, size, minus);
+        let _count = self.terms.count();
+        answer
+    }
+
+    fn breaks_bounds(
+        &mut self,
+        index_kind: IntKind,
+        index: TermId,
+        count: u64,
+    ) -> Result<TermId, NoMemory> {
+        let answer = terms::breaks_bounds(&mut self.terms, index_kind, index, count);
+        let _count = self.terms.count();
+        answer
+    }
+
+    ghost use Rattle.stk_symbols.specs.Laws.{numbered, one};
+
+    ghost has_number = { λ s m k v served made. numbered s m k v served made };
+
+    ghost one_number = { λ s m k v x y p q. one s m k v x y p q };
+}
