@@ -33,10 +33,10 @@ use Rattle.stk_declare.specs.declared.enumerations.Counter.{Counter}
 use Rattle.stk_declare.specs.declared.structs.Opened.{Opened}
 use Rattle.stk_declare.specs.Answers.{Answers, listed}
 use Rattle.stk_declare.specs.Bases.{Based}
-use Rattle.stk_declare.specs.Declaring.{count_for, declarator_declared, declared_name, definition_rule, definition_word, head_declared}
+use Rattle.stk_declare.specs.Declaring.{declarator_declared, declared_name, definition_rule, definition_word, head_declared, made_for}
 use Rattle.stk_declare.specs.Enumerations.{Enumerated, enumerator_declared, enumerators_declared, enumeration_declared, enumeration_rule, none_enumerated, tag_before, with_enumeration, with_value}
 use Rattle.stk_declare.specs.Shown.{based, enumerated, membered, opening_of}
-use Rattle.stk_declare.specs.Structs.{Membered, Opening, form_declared, member_declarator, member_declared_as, member_name, member_rule, member_typed, members_declared, opening, struct_closed, with_member}
+use Rattle.stk_declare.specs.Structs.{Membered, Opening, form_declared, member_declarator, member_declared_as, member_name, member_rule, member_size_first, member_typed, members_declared, opening, struct_closed, with_member}
 use Rattle.stk_declare.specs.Symbols.{added, declarator_rule, sort_of}
 use Rattle.stk_declare.specs.Tags.{at_file, behind_uses}
 use Rattle.stk_declare.proofs.Answering.{from_gives, goes, stops}
@@ -49,7 +49,7 @@ IsFact x f = fact_of f ≡ x
 module _ (bytes : List ℕ) (mark defines : Bool) (word : Option Storage) (es : List NameEntry) (t whole : TypeTree) (k : Node) (count : ℕ) (at : Option Span) (tail : TailTree) (init : MaybeInitTree) where
   -- what the rules make of it, by what follows its name
   abbrev pub rule_for : TypeTree → TailShape → Ruled
-  rule_for w shape = declarator_rule (structs_of es) word (sort_of word shape w) (find (declared_name bytes at) es) init (tail_type (structs_of es) defines (count_for bytes shape w init) w shape)
+  rule_for w shape = declarator_rule (structs_of es) word (sort_of word shape w) (find (declared_name bytes at) es) init (made_for bytes es defines word w init shape)
 
   abbrev AreEntries : List NameEntry → Option NameEntry → Type 0
   AreEntries now e = es ++ listed e ≡ now
@@ -171,14 +171,14 @@ AreMembered now ms x u = membered now ms ≡ x
 
 module _ (bytes : List ℕ) (es : List NameEntry) (before : List MemberInfo) (last : Bool) (t : TypeTree) (k : Node) (count : ℕ) (at : Option Span) (tail : TailTree) (init : MaybeInitTree) where
   pub member_gives : (whole : TypeTree) (v : Vec Size Global) (result : Result NodeFact Untyped) → whole ≡ starred count t → Answers AreSizes (dimensions_typed (at_file bytes es) (array_parts tail)) (Ok v)
-      → Answers IsFact (finish k.number (member_rule (structs_of es) last before (member_name bytes at) (declared_type (structs_of es) v.items whole))) result → Answers IsFact (member_typed bytes es before last t (s.declarator k count at tail init)) result
+      → Answers IsFact (finish k.number (member_rule (structs_of es) last before (member_name bytes at) (member_size_first last before v.items (declared_type (structs_of es) v.items whole)))) result → Answers IsFact (member_typed bytes es before last t (s.declarator k count at tail init)) result
   member_gives whole v result is sized ruled =
-      goes AreSizes IsFact (dimensions_typed (at_file bytes es) (array_parts tail)) (λ sizes. finish k.number (member_rule (structs_of es) last before (member_name bytes at) (declared_type (structs_of es) sizes (starred count t)))) v result sized
-      (λ sizes same. subst (λ (z : List Size). Answers IsFact (finish k.number (member_rule (structs_of es) last before (member_name bytes at) (declared_type (structs_of es) z (starred count t)))) result) same
-      (subst (λ (w : TypeTree). Answers IsFact (finish k.number (member_rule (structs_of es) last before (member_name bytes at) (declared_type (structs_of es) v.items w))) result) is ruled))
+      goes AreSizes IsFact (dimensions_typed (at_file bytes es) (array_parts tail)) (λ sizes. finish k.number (member_rule (structs_of es) last before (member_name bytes at) (member_size_first last before sizes (declared_type (structs_of es) sizes (starred count t))))) v result sized
+      (λ sizes same. subst (λ (z : List Size). Answers IsFact (finish k.number (member_rule (structs_of es) last before (member_name bytes at) (member_size_first last before z (declared_type (structs_of es) z (starred count t))))) result) same
+      (subst (λ (w : TypeTree). Answers IsFact (finish k.number (member_rule (structs_of es) last before (member_name bytes at) (member_size_first last before v.items (declared_type (structs_of es) v.items w)))) result) is ruled))
 
   pub sizes_stop : (e : Untyped) → Answers AreSizes (dimensions_typed (at_file bytes es) (array_parts tail)) (Err e) → Answers IsFact (member_typed bytes es before last t (s.declarator k count at tail init)) (Err e)
-  sizes_stop e sized = stops AreSizes IsFact (dimensions_typed (at_file bytes es) (array_parts tail)) (λ sizes. finish k.number (member_rule (structs_of es) last before (member_name bytes at) (declared_type (structs_of es) sizes (starred count t)))) e sized
+  sizes_stop e sized = stops AreSizes IsFact (dimensions_typed (at_file bytes es) (array_parts tail)) (λ sizes. finish k.number (member_rule (structs_of es) last before (member_name bytes at) (member_size_first last before sizes (declared_type (structs_of es) sizes (starred count t))))) e sized
 
   pub member_adds : (mid : List NameEntry) (now : List MemberInfo) (f : NodeFact) (u : Unit {0}) → mid ≡ behind_uses bytes es (dimensions_uses (array_parts tail)) → Answers IsFact (member_typed bytes mid before last t (s.declarator k count at tail init)) (Ok f)
       → now ≡ before ++ record { name = member_name bytes at; ty = f.ty } ∷ [] → Answers (AreMembered mid now) (member_declarator bytes es before last t (s.declarator k count at tail init)) (Ok u)

@@ -16,13 +16,14 @@ use Rattle.stk_tree.specs.Syntax as s
 use Rattle.stk_facts.specs.Facts.{Fact, Ruled, Breaks, Fits, names_type}
 use Rattle.stk_facts.specs.Outcome.{Outcome, Good, and_then, finish}
 use Rattle.stk_rules.specs.Types.{is_complete}
+use Rattle.stk_scope.specs.declared.arrays.Size.{Size}
 use Rattle.stk_scope.specs.Arrays.{starred, declared_type}
 use Rattle.stk_typing.specs.Typing.{dimensions_typed}
 use Rattle.stk_tags.specs.Uses.{dimensions_uses}
 use Rattle.stk_declarators.specs.Parameters.{array_parts}
 use Rattle.stk_agree.specs.Making.{made}
 use Rattle.stk_declare.specs.Tags.{at_file, behind_uses}
-use Rattle.stk_declare.specs.Symbols.{is_open_array}
+use Rattle.stk_declare.specs.Symbols.{is_open_array, is_unsized, size_first}
 use Rattle.stk_declare.specs.Bases.{Based, plain_declared}
 use Rattle.stk_declare.specs.Enumerations.{enumeration_declared}
 
@@ -84,6 +85,10 @@ member_made structs first last (Fits x) = if may_be_member structs first last x.
 abbrev pub member_rule : Structs → Bool → List MemberInfo → List ℕ → Ruled → Ruled
 member_rule structs last before name makes = if has_member name before then Breaks 3 else member_made structs (is_empty before) last makes
 
+-- a size that is missing refuses a member first, but for a last one that isn't the only one
+abbrev pub member_size_first : Bool → List MemberInfo → List Size → Ruled → Ruled
+member_size_first last before sizes made = size_first (is_unsized None sizes && not (last && not (is_empty before))) made
+
 -- one more member
 abbrev pub with_member : List NameEntry → List MemberInfo → List ℕ → Fact → Membered
 with_member es before name x = record { entries = es; members = before ++ record { name = name; ty = made x.ty } ∷ [] }
@@ -92,7 +97,7 @@ with_member es before name x = record { entries = es; members = before ++ record
 abbrev pub member_typed : List ℕ → List NameEntry → List MemberInfo → Bool → TypeTree → DeclrTree → Outcome Fact
 member_typed bytes es before last t (s.declarator k count at tail init) =
     and_then (dimensions_typed (at_file bytes es) (array_parts tail)) (λ sizes.
-    finish k.number (member_rule (structs_of es) last before (member_name bytes at) (declared_type (structs_of es) sizes (starred count t))))
+    finish k.number (member_rule (structs_of es) last before (member_name bytes at) (member_size_first last before sizes (declared_type (structs_of es) sizes (starred count t)))))
 
 -- a member with this name and type
 abbrev pub member_declared_as : List ℕ → List NameEntry → List MemberInfo → Option Span → Outcome Fact → Outcome Membered

@@ -12,6 +12,8 @@ use Rattle.stk_tree.specs.Syntax.{MaybeInitTree}
 use Rattle.stk_tree.specs.Syntax as s
 use Rattle.stk_facts.specs.Facts.{Ruled, Breaks, Fits, declares}
 use Rattle.stk_rules.specs.Types.{is_complete, is_void}
+use Rattle.stk_scope.specs.declared.arrays.Size.{Size}
+use Rattle.stk_scope.specs.Arrays.{is_open}
 use Rattle.stk_initialisers.specs.Fitting.{fits}
 use Rattle.stk_declarators.specs.Tails.{TailShape, of_arrays, of_function}
 use Rattle.stk_declare.specs.declared.symbols.Sort.{Sort}
@@ -101,6 +103,29 @@ made_rule structs word what earlier i (Fits x) = agreed_rule structs word what i
 -- a declarator, whose name means this before it
 abbrev pub declarator_rule : Structs → Option Storage → Sort → Option Symbol → MaybeInitTree → Ruled → Ruled
 declarator_rule structs word what earlier i made = if clashes earlier what then Breaks 3 else made_rule structs word what earlier i made
+
+-- the outermost array part has no size, and no initialiser counts one
+abbrev pub is_unsized : Option ℕ → List Size → Bool
+is_unsized (Some n) sizes = false
+is_unsized None [] = false
+is_unsized None (size ∷ sizes) = is_open size
+
+-- an `extern` object may have an array type of unknown size
+abbrev pub may_lack_size : Option Storage → Bool
+may_lack_size None = false
+may_lack_size (Some storage.Typedef) = false
+may_lack_size (Some storage.Extern) = true
+may_lack_size (Some storage.Static) = false
+
+-- a declarator behind this storage word lacks a size, by what follows its name and how many elements its initialiser counts
+abbrev pub lacks_size : Option Storage → TailShape → Option ℕ → Bool
+lacks_size word (of_arrays sizes) count = is_unsized count sizes && not (may_lack_size word)
+lacks_size word (of_function ps more) count = false
+
+-- a size that is missing refuses a declarator before what is wrong with its other parts, by the lower rule
+abbrev pub size_first : Bool → Ruled → Ruled
+size_first lacking (Breaks r) = Breaks (if lacking then 4 else r)
+size_first lacking (Fits x) = Fits x
 
 -- ---- the entry that it adds
 -- whether a function was marked as not returning

@@ -3,7 +3,7 @@
 ghost use Rattle.std.specs.Prelude.{◌≡◌, ◌&&◌, nat_eq, true, IfOk, List, OnOk, map};
 ghost use Rattle.stk_ctype.specs.declared.symbol.NameEntry.{NameEntry};
 ghost use Rattle.stk_ctype.specs.Names.{tag_of};
-ghost use Rattle.stk_ctype.specs.Structs.{structs_of, struct_at};
+ghost use Rattle.stk_ctype.specs.Structs.{Structs, structs_of, struct_at};
 ghost use Rattle.stk_ctype.specs.Sound.{IsSound, AreMembers};
 ghost use Rattle.stk_ctype.specs.Types.{struct_type, type_of};
 ghost use Rattle.stk_tree.specs.View.{declarators, dimensions, members, view_base, view_declarator, view_dimension, view_member, view_tail};
@@ -17,13 +17,13 @@ ghost use Rattle.stk_declare.specs.Answers.{Answers, Extends};
 ghost use Rattle.stk_declare.specs.Bases.{base_plainly_declared};
 ghost use Rattle.stk_declare.specs.Members.{AreComplete, AreMembersSoFar};
 ghost use Rattle.stk_declare.specs.Shown.{based, membered, opening_of};
-ghost use Rattle.stk_declare.specs.Structs.{base_declared, form_declared, has_member, is_empty, may_be_member, member_declarator, member_declarators, member_typed, member_declared, member_made, member_name, member_rule, members_declared, opening, opening_named, opening_new, struct_closed, struct_rule};
+ghost use Rattle.stk_declare.specs.Structs.{base_declared, form_declared, has_member, is_empty, may_be_member, member_declarator, member_declarators, member_typed, member_declared, member_made, member_name, member_rule, member_size_first, members_declared, opening, opening_named, opening_new, struct_closed, struct_rule};
 ghost use Rattle.stk_declare.specs.Tags.{at_file, behind_uses};
 
 use crate::enumerations::enumeration;
 use crate::members::Members;
 use crate::settling::settled;
-use crate::symbols::is_open_array;
+use crate::symbols::{is_open_array, is_unsized, size_first};
 use crate::tags::{add_entry, behind_uses};
 use std::alloc::Global;
 use stk_base::{List, NoMemory, Span};
@@ -182,6 +182,20 @@ fn member_rule(
     member_made(names, found.is_empty(), last, made)
 }
 
+// What refuses a member's array parts: a missing size first, but for a last member that isn't the only one.
+fn member_size_first(
+    last: bool,
+    found: &Members,
+    sizes: &[Size],
+    made: Result<NodeFact, Broken>,
+) -> Result<NodeFact, Broken>
+    ensures fact { (r : Ruled) → MakesFact r made → MakesFact (member_size_first last found.now sizes.now r) result }
+    ensures sound { (structs : Structs) → IfOk made (λ f. IsSound structs (type_of f.ty)) → IfOk result (λ f. IsSound structs (type_of f.ty)) }
+{
+    let lacking = is_unsized(None, sizes) && !(last && !found.is_empty());
+    size_first(lacking, made)
+}
+
 // The array parts of a member's declarator.
 fn array_parts(t: &Tail) -> &[Dimension]
     ensures { dimensions (map view_dimension result.now) ≡ array_parts (view_tail t.now) }
@@ -239,8 +253,10 @@ fn member_type(
     ensures may { IfOk result (λ f. may_be_member (structs_of names.now) (is_empty found.now) last (type_of f.ty) ≡ true) }
 {
     let sizes = file_sizes(alloc, bytes, names, array_parts(&d.tail))?;
+    let parts = sizes.as_slice();
     let whole = starred(alloc, d.stars, ty.copy(alloc)?)?;
-    let made = declared_type(alloc, names, sizes.as_slice(), whole);
+    let made = declared_type(alloc, names, parts, whole);
+    let made = member_size_first(last, found, parts, made);
     let made = member_rule(names, last, found, member_name(bytes, d.name), made);
     settled(d.node.number, made)
 }

@@ -1,6 +1,6 @@
 //! What a declarator of file scope declares, and how it agrees with earlier declarations of its name.
 
-ghost use Rattle.std.specs.Prelude.{◌≡◌, IfOk};
+ghost use Rattle.std.specs.Prelude.{◌≡◌, ◌&&◌, not, if◌then◌else◌, None, IfOk};
 ghost use Rattle.std.specs.Option.{option_map, option_copied};
 ghost use Rattle.stk_ctype.specs.Types.{function_type, type_of, signature_of};
 ghost use Rattle.stk_ctype.specs.Structs.{Structs, structs_of};
@@ -11,7 +11,7 @@ ghost use Rattle.stk_facts.specs.Outcome.{MakesFact};
 ghost use Rattle.stk_declarators.specs.Tails.{TailShape};
 ghost use Rattle.stk_declarators.specs.Rows.{IsShape};
 ghost use Rattle.stk_agree.specs.Agreeing.{agree};
-ghost use Rattle.stk_declare.specs.Symbols.{sort_by_type, sort_by_tail, sort_of, clashes, agreement, is_open_array, may_be_object, may_be, may_begin, agreed_rule, made_rule, declarator_rule};
+ghost use Rattle.stk_declare.specs.Symbols.{sort_by_type, sort_by_tail, sort_of, clashes, agreement, is_open_array, may_be_object, may_be, may_begin, agreed_rule, made_rule, declarator_rule, is_unsized, lacks_size, may_lack_size, size_first};
 
 use std::alloc::Global;
 use stk_agree::{Agreement, agree, agree_signature};
@@ -21,6 +21,7 @@ use stk_declarators::Tailed;
 use stk_facts::{Broken, NodeFact};
 use stk_initialisers::fits;
 use stk_rules::{is_complete, is_void};
+use stk_scope::Size;
 use stk_tree::{Init, Storage};
 
 /// What a declarator declares: a typedef name, an object or a function.
@@ -211,6 +212,55 @@ fn made_rule<'a>(
             let agreement = agreement(alloc, earlier, &fact.ty)?;
             agreed_rule(names, word, what, i, fact, agreement)
         }
+    }
+}
+
+/// Whether the outermost array part has no size, and no initialiser counts one.
+pub(crate) fn is_unsized(count: Option<u64>, sizes: &[Size]) -> bool
+    ensures { result ≡ is_unsized count sizes.now }
+{
+    match count {
+        Some(_) => false,
+        None => match sizes {
+            [] => false,
+            [Size::Open, ..] => true,
+            [Size::Sized(_), ..] => false,
+        },
+    }
+}
+
+// Whether a declarator behind this storage word may have an array type of unknown size.
+fn may_lack_size(word: Option<Storage>) -> bool
+    ensures { result ≡ may_lack_size word }
+{
+    match word {
+        None | Some(Storage::Typedef) | Some(Storage::Static) => false,
+        Some(Storage::Extern) => true,
+    }
+}
+
+/// Whether a declarator behind this storage word lacks a size, by what follows its name and how many elements its initialiser counts.
+pub(crate) fn lacks_size(word: Option<Storage>, t: &Tailed, count: Option<u64>) -> bool
+    ensures { (s : TailShape) → IsShape s t.now → result ≡ lacks_size word s count }
+{
+    match t {
+        Tailed::Arrays(sizes) => is_unsized(count, sizes.as_slice()) && !may_lack_size(word),
+        Tailed::Function(_, _) => false,
+    }
+}
+
+/// What refuses a declarator that lacks a size or doesn't: the missing size first.
+pub(crate) fn size_first(
+    lacking: bool,
+    made: Result<NodeFact, Broken>,
+) -> Result<NodeFact, Broken>
+    ensures fact { (r : Ruled) → MakesFact r made → MakesFact (size_first lacking r) result }
+    ensures sound { (structs : Structs) → IfOk made (λ f. IsSound structs (type_of f.ty)) → IfOk result (λ f. IsSound structs (type_of f.ty)) }
+{
+    match made {
+        Ok(fact) => Ok(fact),
+        Err(Broken::Rule(rule)) => Err(Broken::Rule(if lacking { 4 } else { rule })),
+        Err(Broken::NoMemory) => Err(Broken::NoMemory),
     }
 }
 
