@@ -1,12 +1,13 @@
 //! What declarations leave, told by which later ones agree with them.
 
+use std::alloc::Global;
+use std::process::Abort;
+use std::test::Fail;
 use stk_accept::{Accepted, Refusal, accept};
 use stk_base::MOST_BYTES;
 use stk_ctype::Names;
-use stk_lex::{Token, lex};
-use stk_units::{Piece, cut, skim};
-use std::rt::HostRuntime;
-use std::test::Fail;
+use stk_lex::lex;
+use stk_units::{cut, skim};
 
 /// A unit that isn't accepted: where its first token begins, where the refused node does, and the rule; 0 and 0 where it has no tree.
 type Refused = (u32, u32, u8);
@@ -199,8 +200,8 @@ fn told(first: u32, refusal: Refusal) -> Refused {
 }
 
 /// The units of a text that aren't accepted.
-fn refused_units(rt: &HostRuntime, text: &[u8]) -> Result<Vec<Refused>, Fail> {
-    let alloc = rt.alloc();
+fn refused_units(alloc: Global, rt: &impl Abort, text: &[u8]) -> Result<Vec<Refused>, Fail> {
+    assert!(rt; text.len() as u64 <= MOST_BYTES);
     let mut found = Vec::new(alloc);
     let tokens = lex(alloc, text)?;
     let skimmed = skim(alloc, text, tokens.as_slice())?;
@@ -226,7 +227,7 @@ fn refused_units(rt: &HostRuntime, text: &[u8]) -> Result<Vec<Refused>, Fail> {
 #[test]
 fn declarations_are_refused_by_their_rules(rt: HostRuntime) -> Result<(), Fail> {
     for (text, refused) in &TEXTS {
-        let found = refused_units(&rt, text)?;
+        let found = refused_units(rt.alloc(), &rt, text)?;
         assert!(rt; found.as_slice() == *refused, "{found:?}");
     }
     Ok(())

@@ -1,5 +1,5 @@
 -- A unit counts for no more than its tokens.
-use Rattle.std.proofs.Common.{◌≡◌, ℕ, zero, suc, ◌<◌, ◌≤◌, List, [], ◌∷◌, length, Some, None, false, refl, ap, length-append, arith}
+use Rattle.std.proofs.Common.{◌≡◌, ℕ, zero, suc, ◌<◌, ◌≤◌, List, [], ◌∷◌, length, Option, Some, None, Bool, false, refl, ap, length-append, arith}
 use Rattle.stk_lex.specs.declared.token.Token.{Token}
 use Rattle.stk_tree.specs.Syntax.{StmtTree, PartTree, PartTrees, FunctionTree, UnitTree}
 use Rattle.stk_tree.specs.Syntax as s
@@ -8,10 +8,13 @@ use Rattle.stk_lexeme.specs.Lexemes.{lexemes_of}
 use Rattle.stk_meaning.specs.declared.finding.Finding.{Finding}
 use Rattle.stk_meaning.specs.declared.finding.Finding.TheVariants.{Clear, Unstable, Undecided}
 use Rattle.stk_meaning.specs.Parts.{statement_candidates, part_candidates, parts_candidates, candidates}
-use Rattle.stk_small.specs.SmallForm.{IsSmallFunction}
+use Rattle.stk_small.specs.SmallForm.{IsSmall, IsSmallFunction}
+use Rattle.stk_ctype.specs.declared.symbol.NameEntry.{NameEntry}
+use Rattle.stk_tree.specs.declared.node.Node.{Node}
+use Rattle.stk_accept.specs.Accepting.{Accepts}
 use Rattle.stk_records.specs.declared.records.Counts.{Counts}
 use Rattle.stk_records.specs.Counts.{AreAtMost}
-use Rattle.stk_lint.specs.LawfulText.{Prints, unstable_count, IsUnitText, accepted, judged, skipped}
+use Rattle.stk_lint.specs.LawfulText.{unstable_count, IsUnitText, accepted, judged, other_form, refused}
 use Rattle.stk_lint.proofs.Findings.{length_same}
 
 -- ---- candidates are no more than tokens
@@ -37,8 +40,8 @@ lexeme_count : (bytes : List ℕ) (tokens : List Token) → length (lexemes_of b
 lexeme_count bytes [] = refl
 lexeme_count bytes (t ∷ ts) = ap suc (lexeme_count bytes ts)
 
-pub few_candidates : (bytes : List ℕ) (tokens : List Token) (f : FunctionTree) → Prints bytes tokens f → length (candidates f) ≤ length tokens
-few_candidates bytes tokens f p = omega (arith, few_function bytes f p.small, ap length p.is.tokens, lexeme_count bytes tokens)
+pub few_candidates : (bytes : List ℕ) (mark : Bool) (es now : List NameEntry) (tokens : List Token) (n : Node) (f : FunctionTree) → Accepts bytes mark es tokens (s.defines n f) now → IsSmall bytes (s.defines n f) → length (candidates f) ≤ length tokens
+few_candidates bytes mark es now tokens n f h small = omega (arith, few_function bytes f small, ap length h.tree.is.tokens, lexeme_count bytes tokens)
 
 few_reports : (xs : List Finding) → unstable_count xs ≤ length xs
 few_reports [] = omega arith
@@ -47,12 +50,14 @@ few_reports (Unstable start needs ∷ xs) = omega (arith, few_reports xs)
 few_reports (Undecided phase ∷ xs) = omega (arith, few_reports xs)
 
 -- a unit counts for no more than its tokens
-pub unit_most : (bytes : List ℕ) (tokens : List Token) (text : List ℕ) (counts : Counts) → 0 < length tokens → IsUnitText bytes tokens text counts → AreAtMost (length tokens) counts
-unit_most bytes tokens text counts some (accepted u is none) = record { functions = omega arith; candidates = omega arith; unstable = omega arith; undecided = omega arith; skipped = omega arith }
-unit_most bytes tokens text counts some (skipped cause is) =
+pub unit_most : (bytes : List ℕ) (mark : Bool) (es now : List NameEntry) (body : Option ℕ) (tokens : List Token) (text : List ℕ) (counts : Counts) → 0 < length tokens → IsUnitText bytes mark es body tokens text counts now → AreAtMost (length tokens) counts
+unit_most bytes mark es now body tokens text counts some (accepted u is none) = record { functions = omega arith; candidates = omega arith; unstable = omega arith; undecided = omega arith; skipped = omega arith }
+unit_most bytes mark es now body tokens text counts some (refused cause is) =
     record { functions = omega arith; candidates = omega arith; unstable = omega arith; undecided = omega arith; skipped = omega (arith, some) }
-unit_most bytes tokens text counts some (judged {f = f} xs prints lawful) =
-    let few = few_candidates bytes tokens f prints in
+unit_most bytes mark es now body tokens text counts some (other_form n f is other) =
+    record { functions = omega arith; candidates = omega arith; unstable = omega arith; undecided = omega arith; skipped = omega (arith, some) }
+unit_most bytes mark es now body tokens text counts some (judged n f xs is small lawful) =
+    let few = few_candidates bytes mark es now tokens n f is small in
     let same = length_same bytes f (candidates f) xs lawful in
     record {
       functions = omega (arith, some);

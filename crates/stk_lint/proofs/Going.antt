@@ -1,5 +1,5 @@
 -- How the texts of units are written, one after the other.
-use Rattle.std.proofs.Common.{◌≡◌, ℕ, suc, ◌+◌, ◌-◌, ◌<◌, ◌≤◌, List, [], ◌∷◌, ◌++◌, length, drop, get_or, Option, Some, None, refl, sym, ap, subst, ◌∙◌, append_assoc, arith}
+use Rattle.std.proofs.Common.{◌≡◌, ℕ, suc, ◌+◌, ◌-◌, ◌<◌, ◌≤◌, Bool, List, [], ◌∷◌, ◌++◌, length, drop, get_or, Option, Some, None, refl, sym, ap, subst, ◌∙◌, append_assoc, arith}
 use Rattle.std.proofs.Common.{drop-cons}
 use Rattle.std.proofs.lemmas.List.{append-nil, length-take, drop_all}
 use Rattle.std.specs.Prelude.{Result, Ok, Err, OnErr}
@@ -11,7 +11,8 @@ use Rattle.stk_units.specs.Units.{AreJoined}
 use Rattle.stk_records.specs.declared.records.Counts.{Counts}
 use Rattle.stk_records.specs.Records.{summary_text}
 use Rattle.stk_records.specs.Counts.{nothing_counted, counts_sum, AreAtMost}
-use Rattle.stk_lint.specs.LawfulText.{status_of, tokens_of_piece, AreUnitTexts, no_unit, then_unit, IsLawfulText}
+use Rattle.stk_ctype.specs.declared.symbol.NameEntry.{NameEntry}
+use Rattle.stk_lint.specs.LawfulText.{body_of_piece, status_of, tokens_of_piece, AreUnitTexts, no_unit, then_unit, IsLawfulText}
 use Rattle.stk_lint.specs.Judged.{WroteUnit, WroteUnitPrefix, WroteUnits, WroteUnitsPrefix}
 use Rattle.stk_lint.specs.Lint.{AreUnitsOf, TookText, TookPrefix}
 use Rattle.stk_lint.proofs.Counted.{unit_most}
@@ -44,10 +45,10 @@ on_err (Ok x) W w = tt
 on_err (Err e) W w = w
 
 -- nothing is a prefix of what may be written of a unit
-pub no_prefix : (bytes : List ℕ) (tokens : List Token) (before : Option (List ℕ)) → 0 < length tokens → WroteUnitPrefix bytes tokens before before
-no_prefix bytes tokens before some =
-    let unit = text_of_unit bytes tokens some in
-    record { text = unit.text; counts = unit.counts; is = unit.is; written = ([], unit.text, refl, nothing_appended before) }
+pub no_prefix : (bytes : List ℕ) (mark : Bool) (es : List NameEntry) (body : Option ℕ) (tokens : List Token) (before : Option (List ℕ)) → 0 < length tokens → WroteUnitPrefix bytes mark es body tokens before before
+no_prefix bytes mark es body tokens before some =
+    let unit = text_of_unit bytes mark es body tokens some in
+    record { text = unit.text; counts = unit.counts; now = unit.now; is = unit.is; written = ([], unit.text, refl, nothing_appended before) }
 
 -- ---- counts
 
@@ -98,14 +99,14 @@ most_sum n m k c d h p q = record {
 
 -- ---- the units so far
 
--- The units before the i-th are written, and each text of those behind it makes a text of all.
-pub record AreSoFar (bytes : List ℕ) (tokens : List Token) (pieces : List Piece) (i : ℕ) (before after : Option (List ℕ)) (counts : Counts) : Type 0 where
+-- The units before the i-th are written and leave these names in force, and each text of those behind it makes a text of all.
+pub record AreSoFar (bytes : List ℕ) (tokens : List Token) (pieces : List Piece) (i : ℕ) (before after : Option (List ℕ)) (counts : Counts) (now : List NameEntry) : Type 0 where
   pub at : ℕ
   pub joined : AreJoined at (length tokens) (drop i pieces)
   pub most : AreAtMost at counts
   pub lines : List ℕ
   pub written : Appended before after lines
-  pub goes_on : (more : List ℕ) (others : Counts) → AreUnitTexts bytes tokens (drop i pieces) more others → AreUnitTexts bytes tokens pieces (lines ++ more) (counts_sum counts others)
+  pub goes_on : (more : List ℕ) (others : Counts) → AreUnitTexts bytes tokens now (drop i pieces) more others → AreUnitTexts bytes tokens [] pieces (lines ++ more) (counts_sum counts others)
 
 -- the next unit begins where those so far end, and its tokens are among all
 pub record IsNextUnit (size at : ℕ) (p : Piece) (behind : List Piece) : Type 0 where
@@ -115,14 +116,14 @@ pub record IsNextUnit (size at : ℕ) (p : Piece) (behind : List Piece) : Type 0
   pub rest : AreJoined p.to size behind
 
 module _ (bytes : List ℕ) (tokens : List Token) (pieces : List Piece) (before : Option (List ℕ)) where
-  pub none_so_far : AreJoined 0 (length tokens) pieces → AreSoFar bytes tokens pieces 0 before before nothing_counted
+  pub none_so_far : AreJoined 0 (length tokens) pieces → AreSoFar bytes tokens pieces 0 before before nothing_counted []
   none_so_far joined = record {
     at = 0;
     joined = joined;
     most = record { functions = omega arith; candidates = omega arith; unstable = omega arith; undecided = omega arith; skipped = omega arith };
     lines = [];
     written = nothing_appended before;
-    goes_on = λ more others are. subst (λ c. AreUnitTexts bytes tokens pieces more c) (sym (nothing_plus others)) are;
+    goes_on = λ more others are. subst (λ c. AreUnitTexts bytes tokens [] pieces more c) (sym (nothing_plus others)) are;
   }
 
   next_joined : (at : ℕ) (ps : List Piece) (p : Piece) (rest : List Piece) → ps ≡ p ∷ rest → AreJoined at (length tokens) ps → IsNextUnit (length tokens) at p rest
@@ -130,8 +131,8 @@ module _ (bytes : List ℕ) (tokens : List Token) (pieces : List Piece) (before 
       let k : AreJoined at (length tokens) (p ∷ rest) = subst (AreJoined at (length tokens)) e h in
       record { from = k.0; some = omega (arith, k.0, k.1); within = joined_up p.to (length tokens) rest k.3; rest = k.3 }
 
-  pub next_unit : (i : ℕ) (d : Piece) (middle : Option (List ℕ)) (counts : Counts) → i < length pieces → (h : AreSoFar bytes tokens pieces i before middle counts) → IsNextUnit (length tokens) h.at (get_or pieces i d) (drop (i + 1) pieces)
-  next_unit i d middle counts within h = next_joined h.at (drop i pieces) (get_or pieces i d) (drop (i + 1) pieces) (behind i d within) h.joined where
+  pub next_unit : (i : ℕ) (d : Piece) (middle : Option (List ℕ)) (counts : Counts) (now : List NameEntry) → i < length pieces → (h : AreSoFar bytes tokens pieces i before middle counts now) → IsNextUnit (length tokens) h.at (get_or pieces i d) (drop (i + 1) pieces)
+  next_unit i d middle counts now within h = next_joined h.at (drop i pieces) (get_or pieces i d) (drop (i + 1) pieces) (behind i d within) h.joined where
     behind : (i : ℕ) (d : Piece) → i < length pieces → drop i pieces ≡ get_or pieces i d ∷ drop (i + 1) pieces
     behind i d h = let e : suc i ≡ i + 1 = omega arith in drop-cons pieces i d h ∙ ap (λ n. get_or pieces i d ∷ drop n pieces) e
 
@@ -139,24 +140,24 @@ module _ (bytes : List ℕ) (tokens : List Token) (pieces : List Piece) (before 
   unit_length p h = omega (arith, length-take (p.to - p.from) (drop p.from tokens))
 
   -- what a unit counts for, and what those before it do, is few
-  pub unit_few : (i : ℕ) (d : Piece) (middle old after : Option (List ℕ)) (counts counted : Counts) (unit : List Token) → i < length pieces → AreSoFar bytes tokens pieces i before middle counts → length tokens ≤ 16777216
-      → unit ≡ tokens_of_piece tokens (get_or pieces i d) → WroteUnit bytes unit old after counted → AreAtMost 16777216 counted
-  unit_few i d middle old after counts counted unit within h few same w =
+  pub unit_few : (i : ℕ) (d : Piece) (middle old after : Option (List ℕ)) (counts counted : Counts) (now left : List NameEntry) (mark : Bool) (body : Option ℕ) (unit : List Token) → i < length pieces → AreSoFar bytes tokens pieces i before middle counts now → length tokens ≤ 16777216
+      → unit ≡ tokens_of_piece tokens (get_or pieces i d) → WroteUnit bytes mark now body unit old after counted left → AreAtMost 16777216 counted
+  unit_few i d middle old after counts counted now left mark body unit within h few same w =
       let p : Piece = get_or pieces i d in
-      let n = next_unit i d middle counts within h in
+      let n = next_unit i d middle counts now within h in
       let some : 0 < length unit = rw same (piece_some tokens p n.some n.within) in
-      most_up (length unit) 16777216 counted (omega (arith, ap length same, unit_length p n.within, n.within, few)) (unit_most bytes unit w.text counted some w.is)
+      most_up (length unit) 16777216 counted (omega (arith, ap length same, unit_length p n.within, n.within, few)) (unit_most bytes mark now left body unit w.text counted some w.is)
 
-  pub so_far_few : (i : ℕ) (middle : Option (List ℕ)) (counts : Counts) → AreSoFar bytes tokens pieces i before middle counts → length tokens ≤ 16777216 → AreAtMost 16777216 counts
-  so_far_few i middle counts h few = most_up h.at 16777216 counts (omega (arith, joined_up h.at (length tokens) (drop i pieces) h.joined, few)) h.most
+  pub so_far_few : (i : ℕ) (middle : Option (List ℕ)) (counts : Counts) (now : List NameEntry) → AreSoFar bytes tokens pieces i before middle counts now → length tokens ≤ 16777216 → AreAtMost 16777216 counts
+  so_far_few i middle counts now h few = most_up h.at 16777216 counts (omega (arith, joined_up h.at (length tokens) (drop i pieces) h.joined, few)) h.most
 
   -- one more unit
-  pub one_more_unit : (i : ℕ) (d : Piece) (middle after : Option (List ℕ)) (counts unit : Counts) → i < length pieces → AreSoFar bytes tokens pieces i before middle counts
-      → WroteUnit bytes (tokens_of_piece tokens (get_or pieces i d)) middle after unit → AreSoFar bytes tokens pieces (i + 1) before after (counts_sum counts unit)
-  one_more_unit i d middle after counts unit within h w =
+  pub one_more_unit : (i : ℕ) (d : Piece) (middle after : Option (List ℕ)) (counts unit : Counts) (now left : List NameEntry) → i < length pieces → AreSoFar bytes tokens pieces i before middle counts now → let p = get_or pieces i d in
+      WroteUnit bytes p.no_return now (body_of_piece p) (tokens_of_piece tokens p) middle after unit left → AreSoFar bytes tokens pieces (i + 1) before after (counts_sum counts unit) left
+  one_more_unit i d middle after counts unit now left within h w =
       let p : Piece = get_or pieces i d in
-      let n = next_unit i d middle counts within h in
-      let most = unit_most bytes (tokens_of_piece tokens p) w.text unit (piece_some tokens p n.some n.within) w.is in
+      let n = next_unit i d middle counts now within h in
+      let most = unit_most bytes p.no_return now left (body_of_piece p) (tokens_of_piece tokens p) w.text unit (piece_some tokens p n.some n.within) w.is in
       let e : suc i ≡ i + 1 = omega arith in
       let here : drop i pieces ≡ p ∷ drop (i + 1) pieces = drop-cons pieces i d within ∙ ap (λ n. p ∷ drop n pieces) e in
       record {
@@ -166,49 +167,49 @@ module _ (bytes : List ℕ) (tokens : List Token) (pieces : List Piece) (before 
         lines = h.lines ++ w.text;
         written = appended_more before middle after h.lines w.text h.written w.written;
         goes_on = λ more others are.
-            let all = h.goes_on (w.text ++ more) (counts_sum unit others) (subst (λ (ps : List Piece). AreUnitTexts bytes tokens ps (w.text ++ more) (counts_sum unit others)) (sym here) (then_unit w.is are)) in
-            subst (λ c. AreUnitTexts bytes tokens pieces ((h.lines ++ w.text) ++ more) c) (plus_plus counts unit others)
-            (subst (λ (u : List ℕ). AreUnitTexts bytes tokens pieces u (counts_sum counts (counts_sum unit others))) (sym (append_assoc h.lines w.text more)) all);
+            let all = h.goes_on (w.text ++ more) (counts_sum unit others) (subst (λ (ps : List Piece). AreUnitTexts bytes tokens now ps (w.text ++ more) (counts_sum unit others)) (sym here) (then_unit w.is are)) in
+            subst (λ c. AreUnitTexts bytes tokens [] pieces ((h.lines ++ w.text) ++ more) c) (plus_plus counts unit others)
+            (subst (λ (u : List ℕ). AreUnitTexts bytes tokens [] pieces u (counts_sum counts (counts_sum unit others))) (sym (append_assoc h.lines w.text more)) all);
       }
 
   -- no more comes of a unit than some prefix of what may be written of it
-  pub stops_in_unit : (i : ℕ) (d : Piece) (middle after : Option (List ℕ)) (counts : Counts) → i < length pieces → AreSoFar bytes tokens pieces i before middle counts
-      → WroteUnitPrefix bytes (tokens_of_piece tokens (get_or pieces i d)) middle after → WroteUnitsPrefix bytes tokens pieces before after
-  stops_in_unit i d middle after counts within h w =
+  pub stops_in_unit : (i : ℕ) (d : Piece) (middle after : Option (List ℕ)) (counts : Counts) (now : List NameEntry) → i < length pieces → AreSoFar bytes tokens pieces i before middle counts now → let p = get_or pieces i d in
+      WroteUnitPrefix bytes p.no_return now (body_of_piece p) (tokens_of_piece tokens p) middle after → WroteUnitsPrefix bytes tokens pieces before after
+  stops_in_unit i d middle after counts now within h w =
       let p : Piece = get_or pieces i d in
-      let n = next_unit i d middle counts within h in
-      let rest = texts_of_units bytes tokens p.to (drop (i + 1) pieces) n.rest in
+      let n = next_unit i d middle counts now within h in
+      let rest = texts_of_units bytes tokens w.now p.to (drop (i + 1) pieces) n.rest in
       let e : suc i ≡ i + 1 = omega arith in
       let here : drop i pieces ≡ p ∷ drop (i + 1) pieces = drop-cons pieces i d within ∙ ap (λ n. p ∷ drop n pieces) e in
       record {
         lines = h.lines ++ (w.text ++ rest.lines);
         counts = counts_sum counts (counts_sum w.counts rest.counts);
         are = h.goes_on (w.text ++ rest.lines) (counts_sum w.counts rest.counts)
-            (subst (λ (ps : List Piece). AreUnitTexts bytes tokens ps (w.text ++ rest.lines) (counts_sum w.counts rest.counts)) (sym here) (then_unit w.is rest.are));
+            (subst (λ (ps : List Piece). AreUnitTexts bytes tokens now ps (w.text ++ rest.lines) (counts_sum w.counts rest.counts)) (sym here) (then_unit w.is rest.are));
         written = prefix_more before middle after h.lines w.text rest.lines h.written w.written;
       }
 
   -- all units
-  pub all_units : (i : ℕ) (after : Option (List ℕ)) (counts : Counts) → length pieces ≤ i → AreSoFar bytes tokens pieces i before after counts → WroteUnits bytes tokens pieces before after counts
-  all_units i after counts past h =
+  pub all_units : (i : ℕ) (after : Option (List ℕ)) (counts : Counts) (now : List NameEntry) → length pieces ≤ i → AreSoFar bytes tokens pieces i before after counts now → WroteUnits bytes tokens pieces before after counts
+  all_units i after counts now past h =
       let none : drop i pieces ≡ [] = drop_all i pieces past in
-      let are = h.goes_on [] nothing_counted (subst (λ (ps : List Piece). AreUnitTexts bytes tokens ps [] nothing_counted) (sym none) no_unit) in
+      let are = h.goes_on [] nothing_counted (subst (λ (ps : List Piece). AreUnitTexts bytes tokens now ps [] nothing_counted) (sym none) no_unit) in
       record {
         lines = h.lines;
-        are = subst (λ c. AreUnitTexts bytes tokens pieces h.lines c) (plus_nothing counts) (subst (λ (u : List ℕ). AreUnitTexts bytes tokens pieces u (counts_sum counts nothing_counted)) (append-nil h.lines) are);
+        are = subst (λ c. AreUnitTexts bytes tokens [] pieces h.lines c) (plus_nothing counts) (subst (λ (u : List ℕ). AreUnitTexts bytes tokens [] pieces u (counts_sum counts nothing_counted)) (append-nil h.lines) are);
         written = h.written;
       }
 
 -- ---- the text
 
 module _ (bytes : List ℕ) (kept : List Token) (pieces : List Piece) (units : AreUnitsOf bytes kept pieces) where
-  lawful : (lines : List ℕ) (counts : Counts) → AreUnitTexts bytes kept pieces lines counts → IsLawfulText bytes (lines ++ summary_text counts) (status_of counts.unstable)
+  lawful : (lines : List ℕ) (counts : Counts) → AreUnitTexts bytes kept [] pieces lines counts → IsLawfulText bytes (lines ++ summary_text counts) (status_of counts.unstable)
   lawful lines counts are = record {
     tokens = units.tokens;
     cut = units.cut;
     lines = lines;
     counts = counts;
-    units = rw (units.same_tokens) at (subst (λ (ps : List Piece). AreUnitTexts bytes kept ps lines counts) units.same_pieces are);
+    units = rw (units.same_tokens) at (subst (λ (ps : List Piece). AreUnitTexts bytes kept [] ps lines counts) units.same_pieces are);
     same_text = refl;
     same_status = refl;
   }

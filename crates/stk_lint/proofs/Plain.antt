@@ -1,5 +1,5 @@
 -- Functions of the small form are of the plain form that runs are defined for; and what is written of a unit that was read.
-use Rattle.std.proofs.Common.{◌≡◌, ℕ, zero, ◌<◌, ◌≤◌, Bool, true, false, List, [], ◌∷◌, Some, None, refl, subst, length, get_or, arith}
+use Rattle.std.proofs.Common.{◌≡◌, ℕ, zero, ◌<◌, ◌≤◌, Bool, true, false, List, [], ◌∷◌, Option, Some, None, Result, Ok, Err, IfOk, refl, length, get_or, arith}
 use Rattle.std.specs.Prelude.{◌&&◌, nat_le}
 use Rattle.std.proofs.lemmas.Bool.{leb-true}
 use Rattle.stk_base.specs.Text.{decimal}
@@ -8,13 +8,14 @@ use Rattle.stk_tree.specs.declared.expression.BinaryOp.TheVariants.{Add, Mul, Di
 use Rattle.stk_tree.specs.Syntax.{ExprTree, DeclrTree, DeclrTrees, DeclarationTree, StmtTree, PartTree, PartTrees, FunctionTree, UnitTree}
 use Rattle.stk_tree.specs.Syntax as s
 use Rattle.stk_lex.specs.declared.token.Token.{Token}
-use Rattle.stk_lexeme.specs.Lexemes.{lexemes_of, spans_of}
 use Rattle.stk_records.specs.declared.records.Counts.{Counts}
-use Rattle.stk_lint.specs.LawfulText.{IsSkipped, IsUnitText, Prints, accepted, is_definition, judged, no_types, one_skipped, skipped}
+use Rattle.stk_accept.specs.declared.accepting.Refusal.{Refusal}
+use Rattle.stk_accept.specs.Accepting.{Accepts, Refuses}
+use Rattle.stk_ctype.specs.declared.symbol.NameEntry.{NameEntry}
+use Rattle.stk_lint.specs.LawfulText.{IsUnitText, accepted, cause_of, is_definition, judged, one_skipped, other_form, refused}
 use Rattle.stk_records.specs.Records.{skip_text}
-use Rattle.stk_lint.specs.Judged.{IsJudged, IsReadAs}
+use Rattle.stk_lint.specs.Judged.{IsJudged, IsSkipLine}
 use Rattle.stk_tree.specs.declared.node.Node.{Node}
-use Rattle.stk_stmt_grammar.proofs.LaidUnits.{one_laid_unit}
 use Rattle.stk_records.specs.declared.records.Cause.{Cause}
 use Rattle.stk_records.specs.declared.records.Cause.TheVariants.{OtherForm}
 use Rattle.stk_records.specs.Counts.{nothing_counted}
@@ -99,30 +100,35 @@ module _ (bytes : List ℕ) where
 pub small_plain : (bytes : List ℕ) (n : Node) (f : FunctionTree) → IsSmall bytes (s.defines n f) → IsPlain bytes f
 small_plain bytes n f small = function_plain bytes f small
 
-read_prints : (bytes : List ℕ) (tokens : List Token) (n : Node) (f : FunctionTree) → IsReadAs bytes tokens (s.defines n f) → IsSmall bytes (s.defines n f) → Prints bytes tokens f
-read_prints bytes tokens n f h small = record { node = n; is = h.is; laid_out = h.laid_out; small = small }
-
--- a function that isn't of the small form is no function of the small form
-pub read_other : (bytes : List ℕ) (tokens : List Token) (n : Node) (f : FunctionTree) → IsReadAs bytes tokens (s.defines n f) → (IsSmall bytes (s.defines n f) → ⊥) → IsSkipped bytes tokens OtherForm
-read_other bytes tokens n f h other = record {
-  node = n;
-  function = f;
-  is = h.is;
-  other = λ g p. other (subst (IsSmall bytes) (one_laid_unit (no_types bytes) (lexemes_of bytes tokens) (spans_of tokens) (s.defines p.node g) (s.defines n f) p.is h.is p.laid_out h.laid_out) p.small);
-}
-
 -- what is written of a function of the small form
-pub text_judged : (bytes : List ℕ) (tokens : List Token) (n : Node) (f : FunctionTree) (text : List ℕ) (counts : Counts) → IsReadAs bytes tokens (s.defines n f) → IsSmall bytes (s.defines n f)
-    → IsJudged bytes f text counts → IsUnitText bytes tokens text counts
-text_judged bytes tokens n f text counts h small j = rw (j.same_text, j.same_counts) (judged j.findings (read_prints bytes tokens n f h small) j.lawful)
+pub text_judged : (bytes : List ℕ) (mark : Bool) (es now : List NameEntry) (body : Option ℕ) (tokens : List Token) (n : Node) (f : FunctionTree) (text : List ℕ) (counts : Counts) → Accepts bytes mark es tokens (s.defines n f) now → IsSmall bytes (s.defines n f)
+    → IsJudged bytes f text counts → IsUnitText bytes mark es body tokens text counts now
+text_judged bytes mark es now body tokens n f text counts h small j = rw (j.same_text, j.same_counts) (judged n f j.findings h small j.lawful)
 
 -- what is written of an empty unit and of a declaration
-pub text_accepted : (bytes : List ℕ) (tokens : List Token) (u : UnitTree) (text : List ℕ) (counts : Counts) → IsReadAs bytes tokens u → is_definition u ≡ false → text ≡ [] → counts ≡ nothing_counted
-    → IsUnitText bytes tokens text counts
-text_accepted bytes tokens u text counts h none e f = rw (e, f) (accepted u h.is none)
+pub text_accepted : (bytes : List ℕ) (mark : Bool) (es now : List NameEntry) (body : Option ℕ) (tokens : List Token) (u : UnitTree) (text : List ℕ) (counts : Counts) → Accepts bytes mark es tokens u now → is_definition u ≡ false → text ≡ [] → counts ≡ nothing_counted
+    → IsUnitText bytes mark es body tokens text counts now
+text_accepted bytes mark es now body tokens u text counts h none e f = rw (e, f) (accepted u h none)
 
--- what is written of a unit that is skipped
-pub text_skipped : (bytes : List ℕ) (tokens : List Token) (none : Token) (cause : Cause) (text : List ℕ) (counts : Counts) → 0 < length tokens → IsSkipped bytes tokens cause
-    → text ≡ skip_text bytes (get_or tokens 0 none).span.from cause → counts ≡ one_skipped → IsUnitText bytes tokens text counts
-text_skipped bytes [] none cause text counts some is e f = absurd (omega arith)
-text_skipped bytes (t ∷ ts) none cause text counts some is e f = rw (e, f) (skipped cause is)
+-- what is known of a value is known of it otherwise
+pub weaker_ok : {A E : Type 0} (r : Result A E) (P Q : A → Type 0) → ((x : A) → P x → Q x) → IfOk r P → IfOk r Q
+weaker_ok (Ok x) P Q k h = k x h
+weaker_ok (Err e) P Q k h = tt
+
+-- the line of a unit that is skipped
+pub skip_line : (bytes : List ℕ) (tokens : List Token) (none : Token) (cause : Cause) (text : List ℕ) (counts : Counts) → 0 < length tokens
+    → text ≡ skip_text bytes (get_or tokens 0 none).span.from cause → counts ≡ one_skipped → IsSkipLine bytes tokens cause text counts
+skip_line bytes [] none cause text counts some e f = absurd (omega arith)
+skip_line bytes (t ∷ ts) none cause text counts some e f = (e, f)
+
+-- what is written of a function of another form
+pub text_other : (bytes : List ℕ) (mark : Bool) (es now : List NameEntry) (body : Option ℕ) (tokens : List Token) (n : Node) (f : FunctionTree) (text : List ℕ) (counts : Counts) → Accepts bytes mark es tokens (s.defines n f) now → (IsSmall bytes (s.defines n f) → ⊥)
+    → IsSkipLine bytes tokens OtherForm text counts → IsUnitText bytes mark es body tokens text counts now
+text_other bytes mark es now body [] n f text counts h other line = absurd line
+text_other bytes mark es now body (t ∷ ts) n f text counts h other line = rw (line.0, line.1) (other_form n f h other)
+
+-- what is written of a unit that isn't accepted
+pub text_refused : (bytes : List ℕ) (mark : Bool) (es now : List NameEntry) (body : Option ℕ) (tokens : List Token) (cause : Refusal) (text : List ℕ) (counts : Counts) → Refuses bytes mark es tokens body cause now
+    → IsSkipLine bytes tokens (cause_of cause) text counts → IsUnitText bytes mark es body tokens text counts now
+text_refused bytes mark es now body [] cause text counts h line = absurd line
+text_refused bytes mark es now body (t ∷ ts) cause text counts h line = rw (line.0, line.1) (refused cause h)

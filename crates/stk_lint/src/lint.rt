@@ -6,7 +6,7 @@ ghost use Rattle.stk_base.specs.Causes.{Rose, HasCause};
 ghost use Rattle.stk_base.specs.Streams.{Came, Appended, AppendedPrefix, IsFlushed};
 ghost use Rattle.stk_units.specs.Units.{AreJoined};
 ghost use Rattle.stk_records.specs.Records.{summary_text};
-ghost use Rattle.stk_lint.specs.LawfulText.{status_of, tokens_of_piece};
+ghost use Rattle.stk_lint.specs.LawfulText.{body_of_piece, status_of, tokens_of_piece};
 ghost use Rattle.stk_lint.specs.Judged.{WroteUnit, WroteUnitPrefix, WroteUnits, WroteUnitsPrefix};
 ghost use Rattle.stk_lint.specs.Lint.{IsWritten, IsUnread, fault_line, HasWritten, HasWrittenPrefix, IsSkimmedFrom, AreUnitsOf, TookText, TookPrefix, status_after};
 
@@ -15,6 +15,7 @@ use std::alloc::Global;
 use stk_base::{
     Failed, List, MOST_BYTES, NoMemory, ReadAll, Sink, Source, Status, read_all, write_all,
 };
+use stk_ctype::Names;
 use stk_lex::{Places, Token, lex};
 use stk_records::{Counts, add_summary};
 use stk_units::{Piece, Skimmed, cut, skim};
@@ -104,19 +105,31 @@ fn cut_into_units(alloc: Global, bytes: &[u8]) -> Result<Units, NoMemory>
 fn write_unit<K: Sink>(
     alloc: Global,
     input: &Places,
+    piece: Piece,
     tokens: &[Token],
+    names: &mut Names,
     out: &mut K,
 ) -> Result<Counts, Stop>
     requires some { 0 < length tokens.now }
     requires few { length tokens.now ≤ most_bytes }
-    ensures written { IfOk result (WroteUnit input.now tokens.now (K.taken out.old) (K.taken out.new)) }
-    ensures prefix { OnErr result (WroteUnitPrefix input.now tokens.now (K.taken out.old) (K.taken out.new)) }
+    ensures written { IfOk result (λ counts. WroteUnit input.now piece.no_return names.old (body_of_piece piece) tokens.now (K.taken out.old) (K.taken out.new) counts names.new) }
+    ensures prefix { OnErr result (WroteUnitPrefix input.now piece.no_return names.old (body_of_piece piece) tokens.now (K.taken out.old) (K.taken out.new)) }
     ensures later { K.faults out.old ≤ K.faults out.new }
     ensures fault { result ≡ Err Stop.WriteFault → Rose (K.faults out.old) (K.faults out.new) }
 {
-    let unit = unit_text(alloc, input, tokens)?;
+    let unit = unit_text(alloc, input, piece.no_return, body_of_piece(piece), tokens, names)?;
     write_all(out, unit.text.as_slice())?;
     Ok(unit.counts)
+}
+
+// How many tokens of a unit stand before its body, where one was found.
+fn body_of_piece(piece: Piece) -> Option<usize>
+    ensures { result ≡ body_of_piece piece }
+{
+    match piece.body {
+        None => None,
+        Some(at) => Some(at.saturating_sub(piece.from) as usize),
+    }
 }
 
 // The tokens of a unit, among those of its file.
@@ -144,10 +157,11 @@ fn write_units<K: Sink>(
     ensures later { K.faults out.old ≤ K.faults out.new }
     ensures fault { result ≡ Err Stop.WriteFault → Rose (K.faults out.old) (K.faults out.new) }
 {
+    let mut names = Names::new(alloc);
     let mut counts = Counts::nothing();
     for piece in pieces {
         let unit = tokens_of(tokens, *piece);
-        let counted = write_unit(alloc, input, unit, out)?;
+        let counted = write_unit(alloc, input, *piece, unit, &mut names, out)?;
         counts = counts.plus(counted);
     }
     Ok(counts)

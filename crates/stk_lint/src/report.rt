@@ -1,26 +1,27 @@
 //! What is written of a unit, and what it counts for.
 
-ghost use Rattle.std.specs.Prelude.{◌≡◌, ◌≤◌, ◌<◌, ◌∷◌, [], None, IfOk, IfSome, length};
+ghost use Rattle.std.specs.Prelude.{◌≡◌, ◌≤◌, ◌<◌, ◌∷◌, [], Bool, IfOk, List, Option, length, ℕ};
 ghost use Rattle.stk_base.specs.Limits.{most_bytes};
 ghost use Rattle.stk_tree.specs.View.{view_function, view_unit};
 ghost use Rattle.stk_meaning.specs.Forms.{IsPlain};
 ghost use Rattle.stk_meaning.specs.Parts.{conditions, candidates};
-ghost use Rattle.stk_records.specs.Records.{function_nodes, skip_text};
+ghost use Rattle.stk_records.specs.Records.{function_nodes};
 ghost use Rattle.stk_records.specs.Counts.{nothing_counted};
-ghost use Rattle.stk_lint.specs.LawfulText.{unstable_count, one_skipped, IsSkipped, IsUnitText};
-ghost use Rattle.stk_lint.specs.Judged.{AddsFindings, IsJudged, IsReadAs};
+ghost use Rattle.stk_ctype.specs.declared.symbol.NameEntry.{NameEntry};
+ghost use Rattle.stk_accept.specs.Accepting.{Accepts, IsAnswered};
+ghost use Rattle.stk_lint.specs.LawfulText.{unstable_count, cause_of, IsUnitText};
+ghost use Rattle.stk_lint.specs.Judged.{AddsFindings, IsJudged, IsSkipLine};
 
 use std::alloc::Global;
-use stk_base::{Boxed, NoMemory};
+use stk_accept::{Accepted, Refusal, accept};
+use stk_base::NoMemory;
 use stk_ctype::Names;
-use stk_expr::Parse;
 use stk_judge::judge;
 use stk_lex::{Places, Token};
 use stk_meaning::{Finding, candidates_of, conditions_of};
 use stk_numbers::{Candidate, Condition};
 use stk_records::{Cause, Counts, add_finding, add_skip, nodes_of};
 use stk_small::is_small;
-use stk_stmt::unit;
 use stk_tree::{Function, Node, Unit};
 
 /// What is written of a unit, and what it counts for.
@@ -102,16 +103,15 @@ fn accepted(alloc: Global) -> UnitText
     UnitText { text, counts }
 }
 
-// What is written of a unit that is skipped for a cause.
+// The line of a unit that is skipped for a cause.
 fn skipped(
     alloc: Global,
     input: &Places,
     tokens: &[Token],
     cause: Cause,
 ) -> Result<UnitText, NoMemory>
-    requires some { 0 < length tokens.now }
-    requires is { IsSkipped input.now tokens.now cause }
-    ensures { IfOk result (λ unit. IsUnitText input.now tokens.now unit.text.items unit.counts) }
+    requires { 0 < length tokens.now }
+    ensures { IfOk result (λ unit. IsSkipLine input.now tokens.now cause unit.text.items unit.counts) }
 {
     let mut text = Vec::new(alloc);
     add_skip(&mut text, input, tokens[0].span.from, cause)?;
@@ -122,30 +122,25 @@ fn skipped(
     Ok(UnitText { text, counts })
 }
 
-// The unit that tokens are, its nodes laid out, or `None` exactly where no tree is these tokens.
-fn unit_of(alloc: Global, bytes: &[u8], tokens: &[Token]) -> Result<Option<Boxed<Unit>>, NoMemory>
-    requires { length tokens.now ≤ most_bytes }
-    ensures found { IfOk result (λ found. IfSome found (λ unit. IsReadAs bytes.now tokens.now (view_unit unit))) }
-    ensures none { IfOk result (λ found. found ≡ None → IsSkipped bytes.now tokens.now Cause.NoTree) }
+// Why a unit is skipped that isn't accepted.
+fn cause_of(refusal: Refusal) -> Cause
+    ensures { result ≡ cause_of refusal }
 {
-    let names = Names::new(alloc);
-    match unit(alloc, bytes, tokens, &names) {
-        Ok(unit) => Ok(Some(unit)),
-        Err(Parse::NoTree) => Ok(None),
-        Err(Parse::NoMemory) => Err(NoMemory),
+    match refusal {
+        Refusal::NoTree => Cause::NoTree,
+        Refusal::Rule { at, rule } => Cause::Rule { at, rule },
     }
 }
 
-// What is written of a unit that is this tree.
+// What is written of a unit that is accepted as this tree.
 fn text_of_tree(
     alloc: Global,
     input: &Places,
     tokens: &[Token],
     unit: &Unit,
 ) -> Result<UnitText, NoMemory>
-    requires some { 0 < length tokens.now }
-    requires read { IsReadAs input.now tokens.now (view_unit unit.now) }
-    ensures { IfOk result (λ text. IsUnitText input.now tokens.now text.text.items text.counts) }
+    requires { 0 < length tokens.now }
+    ensures { (mark : Bool) → (es : List NameEntry) → (body : Option ℕ) → (now : List NameEntry) → Accepts input.now mark es tokens.now (view_unit unit.now) now → IfOk result (λ text. IsUnitText input.now mark es body tokens.now text.text.items text.counts now) }
 {
     match unit {
         Unit::Defines(_, function) => {
@@ -160,20 +155,39 @@ fn text_of_tree(
     }
 }
 
-/// What is written of a unit of these tokens, of which there is at least one: nothing of an empty unit and of a declaration, a
-/// skip line where no tree is the tokens and where they define a function that isn't of the small form, and else the records of the
-/// function's candidates. The only refusal is want of memory.
-pub fn unit_text(alloc: Global, input: &Places, tokens: &[Token]) -> Result<UnitText, NoMemory>
+// What is written of a unit that is accepted or isn't.
+fn text_of_answer(
+    alloc: Global,
+    input: &Places,
+    tokens: &[Token],
+    found: &Accepted,
+) -> Result<UnitText, NoMemory>
+    requires { 0 < length tokens.now }
+    ensures { (mark : Bool) → (es : List NameEntry) → (body : Option ℕ) → (now : List NameEntry) → IsAnswered input.now mark es tokens.now body found.now now → IfOk result (λ text. IsUnitText input.now mark es body tokens.now text.text.items text.counts now) }
+{
+    match found {
+        Accepted::Tree(unit) => text_of_tree(alloc, input, tokens, unit.get()),
+        Accepted::Refused(refusal) => skipped(alloc, input, tokens, cause_of(*refusal)),
+    }
+}
+
+/// What is written of a unit of these tokens, of which there is at least one: nothing of an empty unit and of a declaration that are
+/// accepted; a skip line where no tree is the tokens, where a rule refuses it, and where it defines a function that isn't of the small
+/// form; and else the records of the function's candidates. The names are those that the unit leaves in force; `body` says how many of
+/// its tokens stand before a body, and `mark` that it is marked as one of functions that don't return. The only refusal is want of
+/// memory.
+pub fn unit_text(
+    alloc: Global,
+    input: &Places,
+    mark: bool,
+    body: Option<usize>,
+    tokens: &[Token],
+    names: &mut Names,
+) -> Result<UnitText, NoMemory>
     requires some { 0 < length tokens.now }
     requires few { length tokens.now ≤ most_bytes }
-    ensures { IfOk result (λ unit. IsUnitText input.now tokens.now unit.text.items unit.counts) }
+    ensures { IfOk result (λ unit. IsUnitText input.now mark names.old body tokens.now unit.text.items unit.counts names.new) }
 {
-    let found = unit_of(alloc, input.bytes(), tokens)?;
-    match &found {
-        Some(unit) => {
-            let text = text_of_tree(alloc, input, tokens, unit.get())?;
-            Ok(text)
-        }
-        None => skipped(alloc, input, tokens, Cause::NoTree),
-    }
+    let found = accept(alloc, input.bytes(), mark, tokens, body, names)?;
+    text_of_answer(alloc, input, tokens, &found)
 }

@@ -1,5 +1,5 @@
 -- Each text has a lawful text of records: it has a cut, the cut has units, and each unit has a text.
-use Rattle.std.proofs.Common.{ℕ, List, ◌++◌, refl}
+use Rattle.std.proofs.Common.{ℕ, List, [], ◌++◌, refl}
 use Rattle.stk_base.specs.declared.status.Status.{Status}
 use Rattle.stk_units.specs.Skimming.{kept_tokens, notes_of}
 use Rattle.stk_units.specs.Units.{units_of}
@@ -15,7 +15,7 @@ records_of bytes =
     let kept = kept_tokens bytes cut.0 in
     let notes = notes_of bytes cut.0 in
     let joined = cut_joined bytes kept notes (units_of bytes kept notes) (record { all = λ order. refl; bounds = refl }) in
-    let units = texts_of_units bytes kept 0 (units_of bytes kept notes) joined in (
+    let units = texts_of_units bytes kept [] 0 (units_of bytes kept notes) joined in (
       units.lines ++ summary_text units.counts,
       (
         status_of units.counts.unstable,

@@ -1,5 +1,5 @@
 -- A text has one lawful text of records: each part that goes into it is determined.
-use Rattle.std.proofs.Common.{◌≡◌, ◌⊎◌, ℕ, List, [], ◌∷◌, ◌++◌, length, refl, sym, ap, subst, ◌∙◌, inl, inr, arith}
+use Rattle.std.proofs.Common.{◌≡◌, ◌⊎◌, ℕ, Bool, true, false, Option, Some, None, List, [], ◌∷◌, ◌++◌, length, take, refl, sym, ap, subst, ◌∙◌, inl, inr, arith}
 use Rattle.std.specs.Prelude.{ℤ, ◌<ℤ◌}
 use Rattle.std.proofs.lemmas.Bool.{false≢true}
 use Rattle.std.proofs.lemmas.Int.{ints}
@@ -11,10 +11,20 @@ use Rattle.stk_units.specs.Skimming.{kept_tokens, notes_of}
 use Rattle.stk_units.specs.Units.{units_of}
 use Rattle.stk_tree.specs.Syntax.{UnitTree, FunctionTree}
 use Rattle.stk_tree.specs.Syntax as s
-use Rattle.stk_tree.specs.Layout.{unit_laid_out}
-use Rattle.stk_tree.specs.Unlaid.{unlaid_unit}
+use Rattle.stk_tree.specs.declared.node.Node.{Node}
+use Rattle.stk_tree_nodes.specs.Rows.{unit_row}
 use Rattle.stk_lexeme.specs.Lexemes.{lexemes_of, spans_of}
-use Rattle.stk_stmt_grammar.proofs.Laws.{one_unit}
+use Rattle.stk_stmt_grammar.proofs.LaidUnits.{one_laid_unit}
+use Rattle.stk_stmt.specs.Heads.{ended_lexemes, ended_spans}
+use Rattle.stk_ctype.specs.declared.symbol.NameEntry.{NameEntry}
+use Rattle.stk_ctype.specs.Named.{named}
+use Rattle.stk_facts.specs.Facts.{Fact}
+use Rattle.stk_facts.specs.Outcome.{Outcome, Good, Refused}
+use Rattle.stk_declare.specs.Declaring.{unit_declared}
+use Rattle.stk_accept.specs.declared.accepting.Refusal.{Refusal}
+use Rattle.stk_accept.specs.declared.accepting.Refusal.TheVariants as refusal
+use Rattle.stk_accept.specs.Accepting.{IsTree, IsHeadTree, IsRefusedFor, beginning, Accepts, Refuses, Leaves, LeavesHead, no_head, refused_head, declared_head}
+use Rattle.stk_small.specs.SmallForm.{IsSmall}
 use Rattle.stk_numbers.specs.declared.conditions.Candidate.{Candidate}
 use Rattle.stk_numbers.specs.declared.conditions.Condition.{Condition}
 use Rattle.stk_meaning.specs.declared.finding.Finding.{Finding}
@@ -25,11 +35,10 @@ use Rattle.stk_meaning.specs.Keys.{Precedes}
 use Rattle.stk_meaning.specs.Parts.{candidates}
 use Rattle.stk_meaning.specs.Findings.{members, need, IsFirstAnswer, IsMinimal, no_more, member, no_member, NoAnswer, IsLawful}
 use Rattle.stk_judge.specs.Lawful.{AreLawful}
-use Rattle.stk_records.specs.declared.records.Cause.TheVariants.{NoTree, OtherForm}
 use Rattle.stk_records.specs.declared.records.Counts.{Counts}
-use Rattle.stk_records.specs.Records.{findings_text, summary_text}
+use Rattle.stk_records.specs.Records.{findings_text, skip_text, summary_text}
 use Rattle.stk_records.specs.Counts.{counts_sum}
-use Rattle.stk_lint.specs.LawfulText.{no_types, IsUnitOf, is_definition, Prints, IsUnitText, accepted, skipped, judged, AreUnitTexts, no_unit, then_unit, one_judged, status_of, IsLawfulText}
+use Rattle.stk_lint.specs.LawfulText.{is_definition, IsUnitText, accepted, refused, other_form, judged, cause_of, body_of_piece, tokens_of_piece, AreUnitTexts, no_unit, then_unit, one_judged, status_of, IsLawfulText}
 
 -- ---- findings
 
@@ -106,73 +115,138 @@ one_findings bytes f (c ∷ cs) (x ∷ xs) (y ∷ ys) h k =
 
 -- ---- units
 
-definition_unlaid : (u : UnitTree) → is_definition (unlaid_unit u) ≡ is_definition u
-definition_unlaid (s.empty_unit n) = refl
-definition_unlaid (s.declares n d) = refl
-definition_unlaid (s.defines n f) = refl
-
--- what tokens are is a definition in each way of reading them or in none
-one_definition : (bytes : List ℕ) (tokens : List Token) (u v : UnitTree) → IsUnitOf bytes tokens u → IsUnitOf bytes tokens v → is_definition u ≡ is_definition v
-one_definition bytes tokens u v h k =
-    sym (definition_unlaid u) ∙ ap is_definition (one_unit (no_types bytes) (lexemes_of bytes tokens) u v h k) ∙ definition_unlaid v
-
 -- the function that a unit defines, or another one
 function_in : FunctionTree → UnitTree → FunctionTree
 function_in other (s.empty_unit n) = other
 function_in other (s.declares n d) = other
 function_in other (s.defines n f) = f
 
-one_function : (bytes : List ℕ) (tokens : List Token) (f g : FunctionTree) → Prints bytes tokens f → Prints bytes tokens g → f ≡ g
-unfolding function_in
-one_function bytes tokens f g h k =
-    let unlaid = one_unit (no_types bytes) (lexemes_of bytes tokens) (s.defines h.node f) (s.defines k.node g) h.is k.is in
-    let laid : s.defines h.node f ≡ s.defines k.node g = h.laid_out ∙ ap (unit_laid_out (spans_of tokens)) unlaid ∙ sym k.laid_out in
-    ap (function_in f) laid
+-- an outcome's value, or another one
+value_in : List NameEntry → Outcome (List NameEntry) → List NameEntry
+value_in other (Good es facts) = es
+value_in other (Refused n r) = other
 
-Same : List ℕ → List ℕ → Counts → Counts → Type 0
-Same text other counts also = (text ≡ other) × (counts ≡ also)
+-- whether an outcome is a value
+is_good : Outcome (List NameEntry) → Bool
+is_good (Good es facts) = true
+is_good (Refused n r) = false
 
-same_judged : (bytes : List ℕ) (f g : FunctionTree) (xs ys : List Finding) → f ≡ g → AreLawful bytes f (candidates f) xs → AreLawful bytes g (candidates g) ys
-    → Same (findings_text bytes f (candidates f) xs) (findings_text bytes g (candidates g) ys) (one_judged xs) (one_judged ys)
+node_in : Outcome (List NameEntry) → ℕ
+node_in (Good es facts) = 0
+node_in (Refused n r) = n
+
+rule_in : Outcome (List NameEntry) → ℕ
+rule_in (Good es facts) = 0
+rule_in (Refused n r) = r
+
+module _ (bytes : List ℕ) (mark : Bool) (es : List NameEntry) where
+  -- what tokens are, laid out, is one unit
+  one_tree : (tokens : List Token) (u v : UnitTree) → IsTree bytes es tokens u → IsTree bytes es tokens v → u ≡ v
+  one_tree tokens u v h k = one_laid_unit (named bytes es) (lexemes_of bytes tokens) (spans_of tokens) u v h.is k.is h.laid_out k.laid_out
+
+  one_head : (tokens : List Token) (u v : UnitTree) → IsHeadTree bytes es tokens u → IsHeadTree bytes es tokens v → u ≡ v
+  one_head tokens u v h k = one_laid_unit (named bytes es) (ended_lexemes (lexemes_of bytes tokens)) (ended_spans (spans_of tokens)) u v h.is.is k.is.is h.laid_out k.laid_out
+
+  good_not_refused : (u v : UnitTree) (now : List NameEntry) (facts : List Fact) (n r : ℕ) → u ≡ v → unit_declared bytes mark es u ≡ Good now facts → unit_declared bytes mark es v ≡ Refused n r → ⊥
+  unfolding is_good
+  good_not_refused u v now facts n r same e f = false≢true (sym (ap is_good f) ∙ ap (λ z. is_good (unit_declared bytes mark es z)) (sym same) ∙ ap is_good e)
+
+  same_value : (u v : UnitTree) (now also : List NameEntry) (facts more : List Fact) → u ≡ v → unit_declared bytes mark es u ≡ Good now facts → unit_declared bytes mark es v ≡ Good also more → now ≡ also
+  unfolding value_in
+  same_value u v now also facts more same e f = ap (value_in now) (sym e ∙ ap (unit_declared bytes mark es) same ∙ f)
+
+  one_left_head : (tokens : List Token) (now also : List NameEntry) → LeavesHead bytes mark es tokens now → LeavesHead bytes mark es tokens also → now ≡ also
+  one_left_head tokens now also (no_head none) (no_head none') = refl
+  one_left_head tokens now also (no_head none) (refused_head v n r k f) = refl
+  one_left_head tokens now also (no_head none) (declared_head v later facts k f) = absurd (none v k.is)
+  one_left_head tokens now also (refused_head u n r h e) (no_head none) = refl
+  one_left_head tokens now also (refused_head u n r h e) (refused_head v m s' k f) = refl
+  one_left_head tokens now also (refused_head u n r h e) (declared_head v later facts k f) = absurd (good_not_refused v u later facts n r (one_head tokens v u k h) f e)
+  one_left_head tokens now also (declared_head u here facts h e) (no_head none) = absurd (none u h.is)
+  one_left_head tokens now also (declared_head u here facts h e) (refused_head v n r k f) = absurd (good_not_refused u v here facts n r (one_head tokens u v h k) e f)
+  one_left_head tokens now also (declared_head u here facts h e) (declared_head v later more k f) = same_value u v here later facts more (one_head tokens u v h k) e f
+
+  one_left : (tokens : List Token) (body : Option ℕ) (now also : List NameEntry) → Leaves bytes mark es tokens body now → Leaves bytes mark es tokens body also → now ≡ also
+  one_left tokens None now also h k = h ∙ sym k
+  one_left tokens (Some n) now also h k = one_left_head (take n tokens) now also h k
+
+  -- a unit that is accepted isn't refused
+  not_both : (tokens : List Token) (body : Option ℕ) (u : UnitTree) (now also : List NameEntry) (cause : Refusal) → Accepts bytes mark es tokens u now → Refuses bytes mark es tokens body cause also → ⊥
+  not_both tokens body u now also refusal.NoTree h k = k.because u h.tree.is
+  not_both tokens body u now also (refusal.Rule at rule) h k = good_not_refused u k.because.unit now h.facts k.because.node rule (one_tree tokens u k.because.unit h.tree k.because.tree) h.declared k.because.refused
+
+  one_accepted : (tokens : List Token) (u v : UnitTree) (now also : List NameEntry) → Accepts bytes mark es tokens u now → Accepts bytes mark es tokens v also → now ≡ also
+  one_accepted tokens u v now also h k = same_value u v now also h.facts k.facts (one_tree tokens u v h.tree k.tree) h.declared k.declared
+
+  one_cause : (tokens : List Token) (cause other : Refusal) → IsRefusedFor bytes mark es tokens cause → IsRefusedFor bytes mark es tokens other → cause ≡ other
+  unfolding node_in rule_in
+  one_cause tokens refusal.NoTree refusal.NoTree h k = refl
+  one_cause tokens refusal.NoTree (refusal.Rule at rule) h k = absurd (h k.unit k.tree.is)
+  one_cause tokens (refusal.Rule at rule) refusal.NoTree h k = absurd (k h.unit h.tree.is)
+  one_cause tokens (refusal.Rule at rule) (refusal.Rule place number) h k =
+      let same : h.unit ≡ k.unit = one_tree tokens h.unit k.unit h.tree k.tree in
+      let outcome = sym h.refused ∙ ap (unit_declared bytes mark es) same ∙ k.refused in
+      let place_is : at ≡ place = h.place ∙ ap (λ (u : UnitTree). beginning (unit_row u) h.node) same ∙ ap (beginning (unit_row k.unit)) (ap node_in outcome) ∙ sym k.place in
+      ap (λ n. refusal.Rule n rule) place_is ∙ ap (λ n. refusal.Rule place n) (ap rule_in outcome)
+
+  one_definition : (tokens : List Token) (u v : UnitTree) (now also : List NameEntry) → Accepts bytes mark es tokens u now → Accepts bytes mark es tokens v also → is_definition u ≡ is_definition v
+  one_definition tokens u v now also h k = ap is_definition (one_tree tokens u v h.tree k.tree)
+
+  one_function : (tokens : List Token) (n m : Node) (f g : FunctionTree) (now also : List NameEntry) → Accepts bytes mark es tokens (s.defines n f) now → Accepts bytes mark es tokens (s.defines m g) also → f ≡ g
+  unfolding function_in
+  one_function tokens n m f g now also h k = ap (function_in f) (one_tree tokens (s.defines n f) (s.defines m g) h.tree k.tree)
+
+  same_small : (tokens : List Token) (n m : Node) (f g : FunctionTree) (now also : List NameEntry) → Accepts bytes mark es tokens (s.defines n f) now → Accepts bytes mark es tokens (s.defines m g) also → IsSmall bytes (s.defines n f) → IsSmall bytes (s.defines m g)
+  same_small tokens n m f g now also h k small = subst (IsSmall bytes) (one_tree tokens (s.defines n f) (s.defines m g) h.tree k.tree) small
+
+-- the same text, counts and names
+Same : List ℕ → List ℕ → Counts → Counts → List NameEntry → List NameEntry → Type 0
+Same text other counts also now later = (text ≡ other) × (counts ≡ also) × (now ≡ later)
+
+same_judged : (bytes : List ℕ) (f g : FunctionTree) (xs ys : List Finding) (now later : List NameEntry) → f ≡ g → AreLawful bytes f (candidates f) xs → AreLawful bytes g (candidates g) ys → now ≡ later
+    → Same (findings_text bytes f (candidates f) xs) (findings_text bytes g (candidates g) ys) (one_judged xs) (one_judged ys) now later
 unfolding Same
-same_judged bytes f g xs ys e h k =
+same_judged bytes f g xs ys now later e h k names =
     let there : AreLawful bytes f (candidates f) ys = subst (λ (x : FunctionTree). AreLawful bytes x (candidates x) ys) (sym e) k in
     let same = one_findings bytes f (candidates f) xs ys h there in
-    (ap (λ (zs : List Finding). findings_text bytes f (candidates f) zs) same ∙ ap (λ (x : FunctionTree). findings_text bytes x (candidates x) ys) e, ap one_judged same)
+    (ap (λ (zs : List Finding). findings_text bytes f (candidates f) zs) same ∙ ap (λ (x : FunctionTree). findings_text bytes x (candidates x) ys) e, ap one_judged same, names)
 
-one_unit_text : {bytes : List ℕ} {tokens : List Token} {text other : List ℕ} {counts also : Counts} → IsUnitText bytes tokens text counts → IsUnitText bytes tokens other also → Same text other counts also
-unfolding Same
-one_unit_text (accepted u is plain) (accepted v is' plain') = (refl, refl)
-one_unit_text (accepted u is plain) (skipped NoTree none) = absurd (none u is)
-one_unit_text {bytes = bytes} {tokens = tokens} (accepted u is plain) (skipped OtherForm other) = absurd (false≢true (sym plain ∙ one_definition bytes tokens u (s.defines other.node other.function) is other.is))
-one_unit_text {bytes = bytes} {tokens = tokens} (accepted u is plain) (judged {f = g} ys prints lawful) = absurd (false≢true (sym plain ∙ one_definition bytes tokens u (s.defines prints.node g) is prints.is))
-one_unit_text (skipped NoTree none) (accepted v is' plain') = absurd (none v is')
-one_unit_text {bytes = bytes} {tokens = tokens} (skipped OtherForm other) (accepted v is' plain') = absurd (false≢true (sym plain' ∙ one_definition bytes tokens v (s.defines other.node other.function) is' other.is))
-one_unit_text (skipped NoTree none) (skipped NoTree none') = (refl, refl)
-one_unit_text (skipped NoTree none) (skipped OtherForm other) = absurd (none (s.defines other.node other.function) other.is)
-one_unit_text (skipped OtherForm other) (skipped NoTree none) = absurd (none (s.defines other.node other.function) other.is)
-one_unit_text (skipped OtherForm other) (skipped OtherForm other') = (refl, refl)
-one_unit_text (skipped NoTree none) (judged {f = g} ys prints lawful) = absurd (none (s.defines prints.node g) prints.is)
-one_unit_text (skipped OtherForm other) (judged {f = g} ys prints lawful) = absurd (other.other g prints)
-one_unit_text {bytes = bytes} {tokens = tokens} (judged {f = f} xs prints lawful) (accepted v is' plain') = absurd (false≢true (sym plain' ∙ one_definition bytes tokens v (s.defines prints.node f) is' prints.is))
-one_unit_text (judged {f = f} xs prints lawful) (skipped NoTree none) = absurd (none (s.defines prints.node f) prints.is)
-one_unit_text (judged {f = f} xs prints lawful) (skipped OtherForm other) = absurd (other.other f prints)
-one_unit_text {bytes = bytes} {tokens = tokens} (judged {f = f} xs prints lawful) (judged {f = g} ys prints' lawful') = same_judged bytes f g xs ys (one_function bytes tokens f g prints prints') lawful lawful'
+module _ {bytes : List ℕ} {mark : Bool} {es : List NameEntry} {body : Option ℕ} where
+  one_unit_text : {tokens : List Token} {text other : List ℕ} {counts also : Counts} {now later : List NameEntry} → IsUnitText bytes mark es body tokens text counts now → IsUnitText bytes mark es body tokens other also later → Same text other counts also now later
+  unfolding Same
+  one_unit_text {tokens = tokens} (accepted {now = a} u h plain) (accepted {now = b} v k plain') = (refl, refl, one_accepted bytes mark es tokens u v a b h k)
+  one_unit_text {tokens = tokens} (accepted {now = a} u h plain) (refused {now = b} cause k) = absurd (not_both bytes mark es tokens body u a b cause h k)
+  one_unit_text {tokens = tokens} (accepted {now = a} u h plain) (other_form {now = b} n g k other) = absurd (false≢true (sym plain ∙ one_definition bytes mark es tokens u (s.defines n g) a b h k))
+  one_unit_text {tokens = tokens} (accepted {now = a} u h plain) (judged {now = b} n g ys k small lawful) = absurd (false≢true (sym plain ∙ one_definition bytes mark es tokens u (s.defines n g) a b h k))
+  one_unit_text {tokens = tokens} (refused {now = a} cause h) (accepted {now = b} v k plain) = absurd (not_both bytes mark es tokens body v b a cause k h)
+  one_unit_text (refused {first = t} {others = ts} {now = a} cause h) (refused {now = b} cause' k) =
+      (ap (λ (c : Refusal). skip_text bytes t.span.from (cause_of c)) (one_cause bytes mark es (t ∷ ts) cause cause' h.because k.because), refl, one_left bytes mark es (t ∷ ts) body a b h.leaves k.leaves)
+  one_unit_text {tokens = tokens} (refused {now = a} cause h) (other_form {now = b} n g k other) = absurd (not_both bytes mark es tokens body (s.defines n g) b a cause k h)
+  one_unit_text {tokens = tokens} (refused {now = a} cause h) (judged {now = b} n g ys k small lawful) = absurd (not_both bytes mark es tokens body (s.defines n g) b a cause k h)
+  one_unit_text {tokens = tokens} (other_form {now = a} n f h other) (accepted {now = b} v k plain) = absurd (false≢true (sym plain ∙ one_definition bytes mark es tokens v (s.defines n f) b a k h))
+  one_unit_text {tokens = tokens} (other_form {now = a} n f h other) (refused {now = b} cause k) = absurd (not_both bytes mark es tokens body (s.defines n f) a b cause h k)
+  one_unit_text {tokens = tokens} (other_form {now = a} n f h other) (other_form {now = b} m g k other') = (refl, refl, one_accepted bytes mark es tokens (s.defines n f) (s.defines m g) a b h k)
+  one_unit_text {tokens = tokens} (other_form {now = a} n f h other) (judged {now = b} m g ys k small lawful) = absurd (other (same_small bytes mark es tokens m n g f b a k h small))
+  one_unit_text {tokens = tokens} (judged {now = a} n f xs h small lawful) (accepted {now = b} v k plain) = absurd (false≢true (sym plain ∙ one_definition bytes mark es tokens v (s.defines n f) b a k h))
+  one_unit_text {tokens = tokens} (judged {now = a} n f xs h small lawful) (refused {now = b} cause k) = absurd (not_both bytes mark es tokens body (s.defines n f) a b cause h k)
+  one_unit_text {tokens = tokens} (judged {now = a} n f xs h small lawful) (other_form {now = b} m g k other) = absurd (other (same_small bytes mark es tokens n m f g a b h k small))
+  one_unit_text {tokens = tokens} (judged {now = a} n f xs h small lawful) (judged {now = b} m g ys k small' lawful') =
+      same_judged bytes f g xs ys a b (one_function bytes mark es tokens n m f g a b h k) lawful lawful' (one_accepted bytes mark es tokens (s.defines n f) (s.defines m g) a b h k)
 
-one_units_text : {bytes : List ℕ} {tokens : List Token} {ps : List Piece} {text other : List ℕ} {counts also : Counts} → AreUnitTexts bytes tokens ps text counts → AreUnitTexts bytes tokens ps other also → Same text other counts also
+one_units_text : {bytes : List ℕ} {tokens : List Token} {es fs : List NameEntry} {ps : List Piece} {text other : List ℕ} {counts also : Counts} → es ≡ fs → AreUnitTexts bytes tokens es ps text counts → AreUnitTexts bytes tokens fs ps other also → (text ≡ other) × (counts ≡ also)
 unfolding Same
-one_units_text no_unit no_unit = (refl, refl)
-one_units_text (then_unit {text = a} {others = xs} {counts = m} {more = ms} h hs) (then_unit {text = b} {others = ys} {counts = n} {more = ns} k ks) =
-    let first = one_unit_text h k in
-    let rest = one_units_text hs ks in
+one_units_text names no_unit no_unit = (refl, refl)
+one_units_text {bytes = bytes} {tokens = tokens} {fs = fs} names (then_unit {es = es} {p = p} {text = a} {others = xs} {counts = m} {more = ms} h hs) (then_unit {now = later} {text = b} {others = ys} {counts = n} {more = ns} k ks) =
+    let there = subst (λ (z : List NameEntry). IsUnitText bytes p.no_return z (body_of_piece p) (tokens_of_piece tokens p) b n later) (sym names) k in
+    let first = one_unit_text h there in
+    let rest = one_units_text first.2 hs ks in
     (ap (λ (x : List ℕ). x ++ xs) first.0 ∙ ap (λ (x : List ℕ). b ++ x) rest.0, ap (λ (x : Counts). counts_sum x ms) first.1 ∙ ap (counts_sum n) rest.1)
 
 pub one_text : (bytes text other : List ℕ) (status also : Status) → IsLawfulText bytes text status → IsLawfulText bytes other also → (text ≡ other) × (status ≡ also)
-unfolding Same
 one_text bytes text other status also h k =
     let cut : h.tokens ≡ k.tokens = one_cut bytes h.tokens k.tokens h.cut k.cut in
-    let there = subst (λ (ts : List Token). AreUnitTexts bytes (kept_tokens bytes ts) (units_of bytes (kept_tokens bytes ts) (notes_of bytes ts)) k.lines k.counts) (sym cut) k.units in
-    let same = one_units_text h.units there in
+    let there = subst (λ (ts : List Token). AreUnitTexts bytes (kept_tokens bytes ts) [] (units_of bytes (kept_tokens bytes ts) (notes_of bytes ts)) k.lines k.counts) (sym cut) k.units in
+    let same = one_units_text refl h.units there in
     let whole : List ℕ → Counts → List ℕ = λ lines counts. lines ++ summary_text counts in (
       h.same_text ∙ ap (λ (x : List ℕ). whole x h.counts) same.0 ∙ ap (whole k.lines) same.1 ∙ sym k.same_text,
       h.same_status ∙ ap (λ (x : Counts). status_of x.unstable) same.1 ∙ sym k.same_status,

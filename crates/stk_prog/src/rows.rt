@@ -14,7 +14,7 @@ struct Row {
     status: Status,
 }
 
-static ROWS: [Row; 25] = [
+static ROWS: [Row; 27] = [
     Row {
         input: "",
         records: "0 functions, 0 candidates, 0 unstable, 0 undecided, 0 skipped\n",
@@ -136,6 +136,16 @@ static ROWS: [Row; 25] = [
         status: Status::Stable,
     },
     Row {
+        input: "typedef unsigned char byte; struct s { byte b; };\nbyte f(struct s *p) { return p->b; }\nbyte f(struct s *);\nstruct s { int b; };",
+        records: "-:2:1: skipped: other form\n-:4:1: skipped: rule 17 at -:4:1\n0 functions, 0 candidates, 0 unstable, 0 undecided, 2 skipped\n",
+        status: Status::Stable,
+    },
+    Row {
+        input: "int g(int x) { goto out; out: return x; }\nlong g(int);\nint g(int);",
+        records: "-:1:1: skipped: no tree\n-:2:1: skipped: rule 3 at -:2:6\n0 functions, 0 candidates, 0 unstable, 0 undecided, 2 skipped\n",
+        status: Status::Stable,
+    },
+    Row {
         input: "\n\n  @",
         records: "-:3:3: skipped: no tree\n0 functions, 0 candidates, 0 unstable, 0 undecided, 1 skipped\n",
         status: Status::Stable,
@@ -143,14 +153,14 @@ static ROWS: [Row; 25] = [
 ];
 
 /// Texts of one unit with the cause that it is skipped for; without a cause, it is a declaration.
-static UNITS: [(&str, &str); 32] = [
+static UNITS: [(&str, &str); 33] = [
     ("int f(unsigned char x) { return 256; }", "other form"),
     ("int f(unsigned char x) { return 01; }", "other form"),
     ("int f(unsigned char x) { return 0x1; }", "other form"),
     ("int f(unsigned char f) { return f; }", "other form"),
     (
         "int f(unsigned char x, unsigned char x) { return x; }",
-        "other form",
+        "rule 3 at -:1:38",
     ),
     (
         "int f(unsigned char x) { int x = 1; return x; }",
@@ -198,8 +208,9 @@ static UNITS: [(&str, &str); 32] = [
     ("int f(unsigned char x);", ""),
     ("struct s { int a; } x, *y;", ""),
     ("enum e { A, B = 2, };", ""),
+    ("enum { A = 2147483647, B };", "rule 5 at -:1:1"),
     ("typedef unsigned long size_t;", ""),
-    ("int a[] = { [1] = 2, 3 };", ""),
+    ("int a[] = { [1] = 2, 3 };", "rule 4 at -:1:5"),
 ];
 
 /// How a source and the sinks behave in a run: the most bytes of a call, and the calls that fail.

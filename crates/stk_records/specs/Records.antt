@@ -17,7 +17,7 @@ use Rattle.stk_meaning.specs.declared.finding.Need.{Need}
 use Rattle.stk_numbers.specs.declared.conditions.Inputs.{Inputs}
 use Rattle.stk_meaning.specs.Runs.{body_of, parameters_of}
 use Rattle.stk_records.specs.declared.records.Cause.{Cause}
-use Rattle.stk_records.specs.declared.records.Cause.TheVariants.{NoTree, OtherForm}
+use Rattle.stk_records.specs.declared.records.Cause.TheVariants.{NoTree, Rule, OtherForm}
 use Rattle.stk_records.specs.declared.records.Counts.{Counts}
 
 -- a byte of a file's name as it is printed: itself from 32 to 126, and else `?`
@@ -169,11 +169,16 @@ left_out_text n = counted n.undecided (codes " undecided, ") ++ counted n.skippe
 abbrev pub summary_text : Counts → List ℕ
 summary_text n = found_text n ++ left_out_text n
 
--- what a skip line says behind the place
-abbrev pub skip_words : Cause → List ℕ
-skip_words NoTree = codes ": skipped: no tree\n"
-skip_words OtherForm = codes ": skipped: other form\n"
+-- `rule R at PLACE`
+abbrev pub rule_text : List ℕ → ℕ → ℕ → List ℕ
+rule_text bytes at rule = codes "rule " ++ decimal rule ++ codes " at " ++ place_text bytes at
+
+-- why a unit is skipped
+abbrev pub cause_text : List ℕ → Cause → List ℕ
+cause_text bytes NoTree = codes "no tree"
+cause_text bytes (Rule at rule) = rule_text bytes at rule
+cause_text bytes OtherForm = codes "other form"
 
 -- the line of a unit that is skipped; the place is that of its first token
 abbrev pub skip_text : List ℕ → ℕ → Cause → List ℕ
-skip_text bytes at cause = place_text bytes at ++ skip_words cause
+skip_text bytes at cause = place_text bytes at ++ codes ": skipped: " ++ cause_text bytes cause ++ codes "\n"

@@ -4,7 +4,7 @@ ghost use Rattle.std.specs.Prelude.{◌≡◌, ◌++◌, ◌∷◌, [], ◌≤�
 ghost use Rattle.std.specs.Fmt.{signed_decimal};
 ghost use Rattle.stk_base.specs.Limits.{most_bytes};
 ghost use Rattle.stk_tree.specs.View.{view_expression, view_declarator, declarators, view_statement, view_part, parts, view_parameter, parameters, view_function};
-ghost use Rattle.stk_records.specs.Records.{printed_byte, file_text, position_text, place_text, expression_nodes, declarator_nodes, declarators_nodes, statement_nodes, part_nodes, parts_nodes, function_nodes, beginning, node_place, declarator_name, function_name, key_text, more_keys, start_text, kind_text, shown_text, need_text, needs_text, report_text, hit_text, finding_text, counted, found_text, left_out_text, skip_text, skip_words, summary_text};
+ghost use Rattle.stk_records.specs.Records.{printed_byte, file_text, position_text, place_text, expression_nodes, declarator_nodes, declarators_nodes, statement_nodes, part_nodes, parts_nodes, function_nodes, beginning, node_place, declarator_name, function_name, key_text, more_keys, start_text, kind_text, shown_text, need_text, needs_text, report_text, hit_text, finding_text, counted, found_text, left_out_text, rule_text, cause_text, skip_text, summary_text};
 ghost use Rattle.stk_records.specs.Counts.{nothing_counted, counts_sum, AreAtMost};
 
 use itoa::Buffer;
@@ -381,17 +381,30 @@ pub fn add_summary(text: &mut Vec<u8>, counts: Counts) -> Result<(), NoMemory>
 pub enum Cause {
     /// No tree of the grammar prints its tokens.
     NoTree,
+    /// A rule, by its number, refuses a node of it, which begins at this byte of the input.
+    Rule { at: u32, rule: u8 },
     /// It defines a function, of another form than the program judges.
     OtherForm,
 }
 
-// What a skip line says behind the place.
-fn skip_words(cause: Cause) -> &'static [u8]
-    ensures { result.now ≡ skip_words cause }
+// Adds `rule R at PLACE`.
+fn add_rule(text: &mut Vec<u8>, input: &Places, at: u32, rule: u8) -> Result<(), NoMemory>
+    ensures { IfOk result (λ _. text.new.items ≡ text.old.items ++ rule_text input.now at rule) }
+{
+    add(text, b"rule ")?;
+    add_count(text, u64::from(rule))?;
+    add(text, b" at ")?;
+    add_place(text, input, at)
+}
+
+// Adds the cause that a skip line tells.
+fn add_cause(text: &mut Vec<u8>, input: &Places, cause: Cause) -> Result<(), NoMemory>
+    ensures { IfOk result (λ _. text.new.items ≡ text.old.items ++ cause_text input.now cause) }
 {
     match cause {
-        Cause::NoTree => b": skipped: no tree\n",
-        Cause::OtherForm => b": skipped: other form\n",
+        Cause::NoTree => add(text, b"no tree"),
+        Cause::Rule { at, rule } => add_rule(text, input, at, rule),
+        Cause::OtherForm => add(text, b"other form"),
     }
 }
 
@@ -401,5 +414,7 @@ pub fn add_skip(text: &mut Vec<u8>, input: &Places, at: u32, cause: Cause) -> Re
     ensures { IfOk result (λ _. text.new.items ≡ text.old.items ++ skip_text input.now at cause) }
 {
     add_place(text, input, at)?;
-    add(text, skip_words(cause))
+    add(text, b": skipped: ")?;
+    add_cause(text, input, cause)?;
+    add(text, b"\n")
 }

@@ -1,0 +1,26 @@
+#!/bin/bash
+# Times the checker on large files of declarations:
+#   bash bench/declare.sh [PROGRAM]
+# PROGRAM is ./stack where none is named. For each sort of declaration and number of them it prints the seconds of the whole run, the memory at
+# most in megabytes, and the summary. Twice as many should take about twice the time.
+set -eu
+program=${1:-$(dirname "$0")/../stack}
+text=$(mktemp)
+trap 'rm -f "$text" "$text.out" "$text.time"' EXIT
+"$program" </dev/null >/dev/null # (proves and builds it where it isn't built)
+run() { # the name $1 of the text
+    /usr/bin/env time -f '%e s, %M kB' -o "$text.time" "$program" <"$text" >"$text.out" || true
+    echo "$1: $(tail -n 1 "$text.time"); $(tail -n 1 "$text.out")"
+}
+for count in 250000 500000 1000000; do
+    seq -f 'int a%.0f;' "$count" >"$text"
+    run "$count objects"
+    { echo 'typedef int t0;'; seq "$((count / 2))" | awk '{ print "typedef t" $1 - 1 " t" $1 ";" }'; } >"$text"
+    run "a chain of $((count / 2)) typedef names"
+    { echo 'typedef int t0;'; seq "$((count / 2))" | awk '{ print "typedef t" $1 - 1 " *t" $1 ";" }'; } >"$text"
+    run "a chain of $((count / 2)) pointers"
+    { echo 'enum {'; seq -f 'a%.0f,' "$count"; echo '};'; } >"$text"
+    run "$count enumerators"
+    { echo 'struct s {'; seq -f 'int a%.0f;' "$count"; echo '};'; } >"$text"
+    run "$count members"
+done
