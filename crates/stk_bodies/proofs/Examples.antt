@@ -3,9 +3,10 @@ use Rattle.std.proofs.Common.{◌≡◌, ℕ, ◌+◌, false, List, [], ◌∷�
 use Rattle.stk_base.specs.declared.span.Span.{Span}
 use Rattle.stk_tree.specs.declared.node.Node.{Node}
 use Rattle.stk_tree.specs.declared.fixed.Fixed.TheVariants as fixed
+use Rattle.stk_tree.specs.declared.declaration.Storage.TheVariants as storage
 use Rattle.stk_tree.specs.Syntax.{BaseTree, DeclrTree, ExprTree, FunctionTree, LabelTrees, MaybeInitTree, PartTree, PartTrees, StmtTree, StmtFormTree, TailTree}
 use Rattle.stk_tree.specs.Syntax as s
-use Rattle.stk_facts.specs.Facts.{Fact, Fits, plain}
+use Rattle.stk_facts.specs.Facts.{Fact}
 use Rattle.stk_facts.specs.Outcome.{Outcome, Good, Refused}
 use Rattle.stk_bodies.specs.Functions.{function_typed}
 
@@ -43,7 +44,7 @@ abbrev defined : PartTrees → FunctionTree
 defined ps = s.function None (int_base 0) (s.declarator (node 4) 0 (Some (at 2)) (s.with_parameters (s.then_parameter (s.parameter (node 3) (int_base 1) (declr 2 0 s.no_initialiser)) s.no_parameters) false) s.no_initialiser) (s.statement (node 20) (s.block ps))
 
 abbrev typed : PartTrees → Outcome Fact
-typed ps = function_typed text [] [] 21 (Fits plain) (defined ps)
+typed ps = function_typed text [] [] 21 (defined ps)
 
 abbrev one : PartTree → PartTrees
 one p = s.then_part p s.no_parts
@@ -103,3 +104,11 @@ continue_in_a_switch = refl
 
 label_once : counted (typed (one (run 9 (sections (case_one 6 s.no_labels) 7 s.break_statement)))) ≡ Some 12
 label_once = refl
+
+-- `int y[][x];`: the lowest of two rules
+no_size : refused (typed (one (local 5 (s.declarator (node 7) 0 (Some (at 1)) (s.arrays (s.then_dimension s.open_dimension (s.then_dimension (s.sized (name 6 0)) s.no_dimensions))) s.no_initialiser)))) ≡ Some (7, 4)
+no_size = refl
+
+-- `typedef int f(int x) { }`
+typedef_definition : refused (function_typed text [] [] 21 (s.function (Some storage.Typedef) (int_base 0) (s.declarator (node 1) 0 (Some (at 2)) s.void_parameters s.no_initialiser) (s.statement (node 2) (s.block s.no_parts)))) ≡ Some (21, 15)
+typedef_definition = refl

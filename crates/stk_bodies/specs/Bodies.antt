@@ -1,10 +1,13 @@
 -- Where a statement of a function stands.
-use Rattle.std.specs.Prelude.{ℕ, Bool, true, false, ◌||◌, ◌==◌, List, [], ◌∷◌, ◌++◌, length, drop}
+use Rattle.std.specs.Prelude.{ℕ, ◌≡◌, Bool, true, false, List, Option, length, map, take, drop}
 use Rattle.std.specs.Option.{is_some}
-use Rattle.stk_ctype.specs.Types.{TypeTree}
-use Rattle.stk_scope.specs.Locals.{Local, find_local}
+use Rattle.stk_ctype.specs.Types.{TypeTree, type_of}
+use Rattle.stk_scope.specs.declared.locals.LocalName.{LocalName}
+use Rattle.stk_scope.specs.Locals.{Local, find_local, local_of}
 use Rattle.stk_scope.specs.Scope.{Scope}
 use Rattle.stk_declarators.specs.Parameters.{with_locals}
+use Rattle.stk_declarators.specs.Rows.{file_scope}
+use Rattle.stk_bodies.specs.declared.places.Place.{Place}
 
 -- the names in force, the declarators whose names are operands of `&`, how many locals stand outside of the block at hand, what the function returns, and whether there is something for `break` and for `continue` to leave
 pub record Body : Type 0 where
@@ -34,7 +37,14 @@ switched b = record { scope = b.scope; taken = b.taken; outer = b.outer; returns
 abbrev pub is_in_block : Body → List ℕ → Bool
 is_in_block b name = is_some (find_local name (drop b.outer b.scope.locals))
 
--- whether a declarator is one of these
-abbrev pub is_listed : ℕ → List ℕ → Bool
-is_listed k [] = false
-is_listed k (j ∷ js) = k == j || is_listed k js
+-- what the code knows of where a statement stands, with these locals in force
+abbrev pub body_in : Place → List LocalName → Body
+body_in p ls = record { scope = file_scope p.file ls; taken = p.taken.now; outer = p.outer; returns = type_of p.returns.now; can_break = p.can_break; can_continue = p.can_continue }
+
+-- the locals begin with those before
+abbrev pub Begins : List LocalName → List LocalName → Type 0
+Begins before now = take (length before) now ≡ before
+
+-- the names that the code knows to be in force, in the initialiser of a register
+abbrev pub scope_owned : Place → List LocalName → Option ℕ → Scope
+scope_owned p ls own = record { bytes = p.file.bytes.now; entries = p.file.names.now; locals = map local_of ls; own = own }

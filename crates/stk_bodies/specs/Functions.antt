@@ -2,9 +2,11 @@
 use Rattle.std.specs.Prelude.{ℕ, Bool, true, false, List, [], ◌∷◌, Option, Some, None}
 use Rattle.stk_ctype.specs.declared.symbol.NameEntry.{NameEntry}
 use Rattle.stk_ctype.specs.Types.{TypeTree}
+use Rattle.stk_tree.specs.declared.declaration.Storage.{Storage}
+use Rattle.stk_tree.specs.declared.declaration.Storage.TheVariants as storage
 use Rattle.stk_tree.specs.Syntax.{FunctionTree, DeclrTree, StmtTree, StmtFormTree}
 use Rattle.stk_tree.specs.Syntax as s
-use Rattle.stk_facts.specs.Facts.{Fact, Ruled, Fits, plain}
+use Rattle.stk_facts.specs.Facts.{Fact, Ruled, Breaks, Fits, plain}
 use Rattle.stk_facts.specs.Outcome.{Outcome, Good, and_then, finish}
 use Rattle.stk_scope.specs.Locals.{Local}
 use Rattle.stk_scope.specs.Scope.{Scope}
@@ -40,10 +42,20 @@ body_typed b (s.statement n f) = outermost b n.number f
 abbrev pub body_of : Scope → List ℕ → Headed → Body
 body_of scope taken h = record { scope = with_locals scope h.locals; taken = taken; outer = 0; returns = h.returns; can_break = false; can_continue = false }
 
--- a function definition whose unit has this number and whose storage word this rule allows
-abbrev pub function_typed : List ℕ → List NameEntry → List ℕ → ℕ → Ruled → FunctionTree → Outcome Fact
-function_typed bytes entries taken n storage (s.function word b d x) =
-    let scope : Scope = record { bytes = bytes; entries = entries; locals = []; own = None } in
-    and_then (base_typed scope b) (λ named.
-    and_then (head_typed scope named.ty d) (λ h.
-    and_then (body_typed (body_of scope taken h) x) (λ u. finish n storage)))
+-- a function definition has no storage word `typedef`
+abbrev pub storage_rule : Option Storage → Ruled
+storage_rule None = Fits plain
+storage_rule (Some storage.Typedef) = Breaks 15
+storage_rule (Some storage.Extern) = Fits plain
+storage_rule (Some storage.Static) = Fits plain
+
+-- the names of file scope in force, and nothing else
+abbrev pub outside : List ℕ → List NameEntry → Scope
+outside bytes entries = record { bytes = bytes; entries = entries; locals = []; own = None }
+
+-- a function definition whose unit has this number, with these declarators whose names are operands of `&`
+abbrev pub function_typed : List ℕ → List NameEntry → List ℕ → ℕ → FunctionTree → Outcome Fact
+function_typed bytes entries taken n (s.function word b d x) =
+    and_then (base_typed (outside bytes entries) b) (λ named.
+    and_then (head_typed (outside bytes entries) named.ty d) (λ h.
+    and_then (body_typed (body_of (outside bytes entries) taken h) x) (λ u. finish n (storage_rule word))))

@@ -3,3 +3,4 @@ pub mod Locals
 pub mod Sections
 pub mod Statements
 pub mod Functions
+pub mod Rows

@@ -1,5 +1,5 @@
 -- The sections of a `switch` and their labels (C11 6.8.1, 6.8.4.2).
-use Rattle.std.specs.Prelude.{ℕ, zero, suc, ◌-◌, Bool, true, false, ◌||◌, if◌then◌else◌, List, [], ◌∷◌, ◌++◌, length, take, Option, Some, None, ℤ}
+use Rattle.std.specs.Prelude.{Bool, true, false, ◌||◌, if◌then◌else◌, List, [], ◌∷◌, Option, Some, None, ℤ}
 use Rattle.std.specs.Ordering.{int_eq}
 use Rattle.stk_ctype.specs.declared.kind.IntKind.{IntKind}
 use Rattle.stk_tree.specs.Syntax.{LabelTree, LabelTrees}
@@ -52,15 +52,20 @@ number_in (Number z) = Some z
 abbrev pub with_number : Fact → Fact
 with_number x = record { role = x.role; ty = x.ty; lvalue = x.lvalue; means = x.means; constancy = x.constancy; number = number_in x.constancy; is_null = x.is_null }
 
--- the same of the last fact of an outcome, which is the expression's own
-abbrev pub with_last : Outcome Fact → Outcome Fact
-with_last (Good x t) = Good (with_number x) (take (length t - 1) t ++ with_number x ∷ [])
-with_last (Refused n r) = Refused n r
+-- the same of the last one of some facts, which is the expression's own
+abbrev pub last_numbered : List Fact → List Fact
+last_numbered [] = []
+last_numbered (x ∷ []) = with_number x ∷ []
+last_numbered (x ∷ y ∷ ys) = x ∷ last_numbered (y ∷ ys)
+
+abbrev pub numbered : Outcome Fact → Outcome Fact
+numbered (Good x t) = Good x (last_numbered t)
+numbered (Refused n r) = Refused n r
 
 -- a label
 abbrev pub label_typed : Scope → Option IntKind → Labelled → LabelTree → Outcome Labelled
 label_typed scope kind l s.default_label = Good (with_default l) []
-label_typed scope kind l (s.case_label e) = and_then (with_last (expression_typed scope e)) (λ x. Good (with_case kind l x.constancy) [])
+label_typed scope kind l (s.case_label e) = and_then (numbered (expression_typed scope e)) (λ x. Good (with_case kind l x.constancy) [])
 
 abbrev pub labels_typed : Scope → Option IntKind → Labelled → LabelTrees → Outcome Labelled
 labels_typed scope kind l s.no_labels = Good l []
