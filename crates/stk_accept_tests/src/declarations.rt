@@ -42,9 +42,15 @@ static TEXTS: [(&[u8], &[Refused]); 87] = [
     // other parameters
     (b"int f(void); int f(int);", &[(13, 17, 3)]),
     // no parameters given
-    (b"int f(); int f(int); int f(); int f(long);", &[(30, 34, 3)]),
+    (
+        b"int f(); int f(int); int f(); int f(long);",
+        &[(30, 34, 3)],
+    ),
     // a size that was unknown
-    (b"extern int a[]; int a[3]; extern int a[]; extern int a[4];", &[(42, 53, 3)]),
+    (
+        b"extern int a[]; int a[3]; extern int a[]; extern int a[4];",
+        &[(42, 53, 3)],
+    ),
     // an enumerator twice
     (b"enum { A }; enum { A };", &[(12, 12, 3)]),
     // an enumerator that is an object
@@ -60,7 +66,10 @@ static TEXTS: [(&[u8], &[Refused]); 87] = [
     // an incomplete struct
     (b"struct s v;", &[(0, 9, 4)]),
     // an incomplete struct elsewhere
-    (b"extern struct s v; extern int a[]; extern struct s w;", &[]),
+    (
+        b"extern struct s v; extern int a[]; extern struct s w;",
+        &[],
+    ),
     // void elsewhere
     (b"extern void v;", &[(0, 12, 4)]),
     // an unknown size
@@ -74,17 +83,26 @@ static TEXTS: [(&[u8], &[Refused]); 87] = [
     // items that are arrays
     (b"int a[][2] = { 1, 2 };", &[(0, 4, 4)]),
     // items that count
-    (b"int a[] = { 1, 2, 3 }; extern int a[3]; int b[][2] = { { 1 }, { 2 } }; extern int b[2][2];", &[]),
+    (
+        b"int a[] = { 1, 2, 3 }; extern int a[3]; int b[][2] = { { 1 }, { 2 } }; extern int b[2][2];",
+        &[],
+    ),
     // a lone member of unknown size
     (b"struct s { int a[]; };", &[(0, 15, 4)]),
     // a member of unknown size that isn't last
     (b"struct s { int n; int a[]; int m; };", &[(0, 22, 4)]),
     // a last member of unknown size
-    (b"struct s { int n; char a[]; }; char z[sizeof(struct s)]; extern char z[4];", &[]),
+    (
+        b"struct s { int n; char a[]; }; char z[sizeof(struct s)]; extern char z[4];",
+        &[],
+    ),
     // a struct in itself
     (b"struct s { struct s x; };", &[(0, 20, 4)]),
     // a pointer to the struct itself
-    (b"struct s { struct s *next; int v; }; char z[sizeof(struct s)]; extern char z[16];", &[]),
+    (
+        b"struct s { struct s *next; int v; }; char z[sizeof(struct s)]; extern char z[16];",
+        &[],
+    ),
     // a function that returns an array
     (b"typedef int A[3]; A f(void);", &[(18, 20, 4)]),
     // a parameter of type void
@@ -94,7 +112,10 @@ static TEXTS: [(&[u8], &[Refused]); 87] = [
     // a function's type as a type of a member
     (b"typedef int F(int); struct s { F f; };", &[(20, 33, 4)]),
     // a function by its type
-    (b"typedef int F(int); F f; int f(int); long f(int);", &[(37, 42, 3)]),
+    (
+        b"typedef int F(int); F f; int f(int); long f(int);",
+        &[(37, 42, 3)],
+    ),
     // no element
     (b"int a[0];", &[(0, 4, 5)]),
     // less than none
@@ -104,7 +125,10 @@ static TEXTS: [(&[u8], &[Refused]); 87] = [
     // too large
     (b"char a[2147483648];", &[(0, 5, 5)]),
     // just not too large
-    (b"char a[2147483647]; long b[268435455]; long c[268435456];", &[(39, 44, 5)]),
+    (
+        b"char a[2147483647]; long b[268435455]; long c[268435456];",
+        &[(39, 44, 5)],
+    ),
     // a struct that is too large
     (b"struct s { char a[2147483647]; char b; };", &[(0, 0, 5)]),
     // an enumerator that is no int
@@ -112,17 +136,29 @@ static TEXTS: [(&[u8], &[Refused]); 87] = [
     // the enumerator behind the greatest
     (b"enum { A = 2147483647, B };", &[(0, 0, 5)]),
     // the least enumerator
-    (b"enum { A = -2147483647 - 1, B }; char z[B + 2147483647 + 1]; extern char z[1];", &[]),
+    (
+        b"enum { A = -2147483647 - 1, B }; char z[B + 2147483647 + 1]; extern char z[1];",
+        &[],
+    ),
     // enumerators go on
-    (b"enum e { A, B = 5, C, D = -3, E, }; char z[C + 4 + D]; extern char z[7]; char y[E + 3]; extern char y[1];", &[]),
+    (
+        b"enum e { A, B = 5, C, D = -3, E, }; char z[C + 4 + D]; extern char z[7]; char y[E + 3]; extern char y[1];",
+        &[],
+    ),
     // a constant that violates a condition
     (b"int a[1 / 0];", &[(0, 4, 5)]),
     // one that isn't evaluated
-    (b"int a[1 || 1 / 0]; extern int a[1]; int b[0 && 1 / 0 ? 1 : 2]; extern int b[2];", &[]),
+    (
+        b"int a[1 || 1 / 0]; extern int a[1]; int b[0 && 1 / 0 ? 1 : 2]; extern int b[2];",
+        &[],
+    ),
     // a sum that overflows
     (b"int a[2147483647 + 1];", &[(0, 4, 5)]),
     // a converted constant
-    (b"char a[(char)300]; extern char a[44]; char b['a']; extern char b[97];", &[]),
+    (
+        b"char a[(char)300]; extern char a[44]; char b['a']; extern char b[97];",
+        &[],
+    ),
     // a comma
     (b"int a[(1, 2)];", &[(0, 4, 5)]),
     // an octal digit
@@ -156,7 +192,10 @@ static TEXTS: [(&[u8], &[Refused]); 87] = [
     // a string that counts
     (b"char a[] = \"a\\0b\" \"c\\x41\"; extern char a[6];", &[]),
     // a struct defined twice
-    (b"struct s { int x; }; struct s { int y; };", &[(21, 21, 17)]),
+    (
+        b"struct s { int x; }; struct s { int y; };",
+        &[(21, 21, 17)],
+    ),
     // an enumeration defined twice
     (b"enum e { A }; enum e { B };", &[(14, 14, 17)]),
     // another kind of tag
@@ -168,27 +207,51 @@ static TEXTS: [(&[u8], &[Refused]); 87] = [
     // a struct in the members of its own
     (b"struct s { struct s { int x; } a; };", &[(0, 0, 17)]),
     // members with gaps
-    (b"struct d { char c; long l; short s; }; char z[sizeof(struct d)]; extern char z[24];", &[]),
+    (
+        b"struct d { char c; long l; short s; }; char z[sizeof(struct d)]; extern char z[24];",
+        &[],
+    ),
     // arrays and structs in a struct
-    (b"struct d { char c; long l; short s; }; struct e { char c; int n[3]; struct d d; char f; }; char z[sizeof(struct e)]; extern char z[48];", &[]),
+    (
+        b"struct d { char c; long l; short s; }; struct e { char c; int n[3]; struct d d; char f; }; char z[sizeof(struct e)]; extern char z[48];",
+        &[],
+    ),
     // a struct that is named later
     (b"struct s; struct s *p; struct s v;", &[(23, 32, 4)]),
     // a tag that was used
-    (b"struct s v; struct s { int x; }; struct s w;", &[(0, 9, 4)]),
+    (
+        b"struct s v; struct s { int x; }; struct s w;",
+        &[(0, 9, 4)],
+    ),
     // a struct whose members are refused
-    (b"struct s { int x; void y; }; struct s { long x; }; char z[sizeof(struct s)]; extern char z[8];", &[(0, 23, 4)]),
+    (
+        b"struct s { int x; void y; }; struct s { long x; }; char z[sizeof(struct s)]; extern char z[8];",
+        &[(0, 23, 4)],
+    ),
     // enumerators before one that is refused
     (b"enum { A, B = 2147483648 }; int A; int B;", &[(0, 0, 5)]),
     // declarators before one that is refused
     (b"int a, b[0]; long a;", &[(0, 7, 5)]),
     // the head of a function whose definition is refused
-    (b"int f(int) { return 1; } long f(int);", &[(0, 4, 15), (25, 30, 3)]),
+    (
+        b"int f(int) { return 1; } long f(int);",
+        &[(0, 4, 15), (25, 30, 3)],
+    ),
     // the head of a function without a tree
-    (b"int g(int x) { goto out; out: return x; } long g(int);", &[(0, 0, 0), (42, 47, 3)]),
+    (
+        b"int g(int x) { goto out; out: return x; } long g(int);",
+        &[(0, 0, 0), (42, 47, 3)],
+    ),
     // a struct in the head of one
-    (b"int g(struct s { int x; } *p) { goto out; } struct s v;", &[(0, 0, 0), (44, 53, 4)]),
+    (
+        b"int g(struct s { int x; } *p) { goto out; } struct s v;",
+        &[(0, 0, 0), (44, 53, 4)],
+    ),
     // a head that is refused
-    (b"int g; int g(int x) { goto out; } long g;", &[(7, 0, 0), (34, 39, 3)]),
+    (
+        b"int g; int g(int x) { goto out; } long g;",
+        &[(7, 0, 0), (34, 39, 3)],
+    ),
 ];
 
 /// What is said of a unit that isn't accepted.

@@ -19,8 +19,8 @@ ghost use Rattle.stk_declare.specs.Tags.{behind_uses};
 
 use crate::additions::addition;
 use crate::settling::settled;
-use crate::tags::{add_entry, behind_uses};
 use crate::symbols::{declarator_rule, lacks_size, size_first, sort_of};
+use crate::tags::{add_entry, behind_uses};
 use std::alloc::Global;
 use stk_base::{NoMemory, Span};
 use stk_ctype::{CType, NameEntry, Names};

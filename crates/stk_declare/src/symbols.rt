@@ -250,10 +250,7 @@ pub(crate) fn lacks_size(word: Option<Storage>, t: &Tailed, count: Option<u64>) 
 }
 
 /// What refuses a declarator that lacks a size or doesn't: the missing size first.
-pub(crate) fn size_first(
-    lacking: bool,
-    made: Result<NodeFact, Broken>,
-) -> Result<NodeFact, Broken>
+pub(crate) fn size_first(lacking: bool, made: Result<NodeFact, Broken>) -> Result<NodeFact, Broken>
     ensures fact { (r : Ruled) → MakesFact r made → MakesFact (size_first lacking r) result }
     ensures sound { (structs : Structs) → IfOk made (λ f. IsSound structs (type_of f.ty)) → IfOk result (λ f. IsSound structs (type_of f.ty)) }
 {

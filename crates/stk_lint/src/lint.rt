@@ -117,7 +117,14 @@ fn write_unit<K: Sink>(
     ensures later { K.faults out.old ≤ K.faults out.new }
     ensures fault { result ≡ Err Stop.WriteFault → Rose (K.faults out.old) (K.faults out.new) }
 {
-    let unit = unit_text(alloc, input, piece.no_return, body_of_piece(piece), tokens, names)?;
+    let unit = unit_text(
+        alloc,
+        input,
+        piece.no_return,
+        body_of_piece(piece),
+        tokens,
+        names,
+    )?;
     write_all(out, unit.text.as_slice())?;
     Ok(unit.counts)
 }
