@@ -14,7 +14,7 @@ type Refused = (u32, u32, u8);
 
 /// Texts with their units that aren't accepted, in order. The rules are those of C11 6.7 and 6.9 in the profile of this project, and the
 /// sizes those that gcc gives.
-static TEXTS: [(&[u8], &[Refused]); 87] = [
+static TEXTS: [(&[u8], &[Refused]); 89] = [
     // a name that isn't declared
     (b"int a[n];", &[(0, 6, 1)]),
     // a struct tag is declared by its use
@@ -86,6 +86,12 @@ static TEXTS: [(&[u8], &[Refused]); 87] = [
     (
         b"int a[] = { 1, 2, 3 }; extern int a[3]; int b[][2] = { { 1 }, { 2 } }; extern int b[2][2];",
         &[],
+    ),
+    // a missing size before a size of 0, but where it may be missing
+    (b"int a[][0]; extern int b[][0];", &[(0, 4, 4), (12, 23, 5)]),
+    (
+        b"struct s { int n; int a[][0]; }; struct t { int a[][0]; int n; };",
+        &[(0, 22, 5), (33, 48, 4)],
     ),
     // a lone member of unknown size
     (b"struct s { int a[]; };", &[(0, 15, 4)]),
