@@ -1,7 +1,6 @@
 -- What an answer says of the outcome.
-use Rattle.std.proofs.Common.{◌≡◌, ◌∙◌, ℕ, List, Result, Ok, Err, refl, sym, ap}
-use Rattle.stk_facts.specs.declared.untyped.Untyped.{Untyped}
-use Rattle.stk_facts.specs.declared.untyped.Untyped.TheVariants.{Rule, NoMemory}
+use Rattle.std.proofs.Common.{◌≡◌, ◌∙◌, ℕ, List, Ok, Err, refl, sym, ap}
+use Rattle.stk_facts.specs.declared.untyped.Untyped.TheVariants.{Rule}
 use Rattle.stk_ctype.specs.declared.symbol.NameEntry.{NameEntry}
 use Rattle.stk_facts.specs.Facts.{Fact}
 use Rattle.stk_facts.specs.Outcome.{Outcome, Good, Refused}

@@ -1,5 +1,5 @@
 -- Each unit is accepted or refused, and leaves names in force.
-use Rattle.std.proofs.Common.{◌≡◌, ◌∙◌, ◌⊎◌, inl, inr, ℕ, Bool, true, false, List, [], ◌∷◌, take, Option, Some, None, refl, sym, ap}
+use Rattle.std.proofs.Common.{◌≡◌, ◌∙◌, ◌⊎◌, inl, inr, ℕ, Bool, true, false, List, take, Option, Some, None, refl, sym, ap}
 use Rattle.std.proofs.lemmas.Bool.{false≢true}
 use Rattle.stk_base.specs.declared.span.Span.{Span}
 use Rattle.stk_ctype.specs.declared.symbol.NameEntry.{NameEntry}
@@ -17,11 +17,11 @@ use Rattle.stk_stmt_grammar.specs.Reading.{unit_at}
 use Rattle.stk_stmt_grammar.specs.Units.{IsUnit}
 use Rattle.stk_stmt_grammar.proofs.LaidUnits.{laid_unlaid_unit, laid_is_unit}
 use Rattle.stk_stmt_grammar.proofs.Laws.{found_unlaid, none_of_none, unit_of_found, one_unit}
-use Rattle.stk_stmt.specs.Heads.{IsHead, ended_lexemes, ended_spans, is_declaration}
+use Rattle.stk_stmt.specs.Heads.{ended_lexemes, ended_spans, is_declaration}
 use Rattle.stk_declare.specs.Declaring.{unit_declared}
 use Rattle.stk_accept.specs.declared.accepting.Refusal.{Refusal}
 use Rattle.stk_accept.specs.declared.accepting.Refusal.TheVariants as refusal
-use Rattle.stk_accept.specs.Accepting.{IsUnitOf, IsHeadOf, IsTree, IsHeadTree, beginning, Accepts, Refuses, Leaves, LeavesHead, no_head, refused_head, declared_head}
+use Rattle.stk_accept.specs.Accepting.{IsTree, IsHeadTree, beginning, Accepts, Refuses, Leaves, LeavesHead, no_head, refused_head, declared_head}
 
 -- tokens with these spans are a unit, laid out, or there is none
 read_or_not : (words : Span → Bool) (ts : List Lexeme) (spans : List Span) → ((u : UnitTree) × (IsUnit words ts u × (u ≡ unit_laid_out spans (unlaid_unit u)))) ⊎ ((u : UnitTree) → IsUnit words ts u → ⊥)

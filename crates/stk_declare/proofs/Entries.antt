@@ -28,7 +28,7 @@ use Rattle.stk_agree.specs.Making.{made}
 use Rattle.stk_agree.proofs.Made.{made_type}
 use Rattle.stk_declarators.specs.declared.tails.Tailed.{Tailed}
 use Rattle.stk_declarators.specs.Rows.{IsShape, IsTail}
-use Rattle.stk_declarators.specs.Tails.{TailShape, tail_type, tail_typed}
+use Rattle.stk_declarators.specs.Tails.{TailShape, tail_typed}
 use Rattle.stk_declare.specs.declared.enumerations.Counter.{Counter}
 use Rattle.stk_declare.specs.declared.structs.Opened.{Opened}
 use Rattle.stk_declare.specs.Answers.{Answers, listed}
