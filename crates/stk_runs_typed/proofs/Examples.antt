@@ -9,7 +9,7 @@ use Rattle.stk_tree.specs.Syntax.{FunctionTree}
 use Rattle.stk_tree.specs.Syntax as s
 use Rattle.stk_numbers.specs.declared.conditions.UbKind.TheVariants as ub
 use Rattle.stk_runs.specs.declared.entry.Entry.TheVariants.{Enter, Seen}
-use Rattle.stk_facts.specs.Facts.{Fact, Fits, plain}
+use Rattle.stk_facts.specs.Facts.{Fact}
 use Rattle.stk_facts.specs.Outcome.{Outcome, Good, Refused}
 use Rattle.stk_bodies.specs.Functions.{function_typed}
 use Rattle.stk_runs.specs.Typings.{Typing, typing_of}
@@ -23,7 +23,7 @@ facts_in (Refused n r) = []
 
 -- what typing answers of a function behind an empty file, with these declarators whose names are operands of `&`
 abbrev typed : List ℕ → List ℕ → ℕ → FunctionTree → Typing
-typed bytes taken k f = typing_of bytes [] taken (facts_in (function_typed bytes [] taken k (Fits plain) f))
+typed bytes taken k f = typing_of bytes [] taken (facts_in (function_typed bytes [] taken k f))
 
 -- `int f(unsigned char x) { int y = 10 / x; if (x == 0) return 1; return y; }`
 abbrev share_tree : FunctionTree
