@@ -1,0 +1,6 @@
+//! Laws of declarations. Each is a function that does nothing, and whose contract is the law; the program builds none of them.
+#![tactic(auto)]
+
+mod entries;
+
+pub use entries::adds_few_entries;
