@@ -1,0 +1,4 @@
+pub mod Marks
+pub mod Tables
+pub mod Recording
+pub mod Queries
