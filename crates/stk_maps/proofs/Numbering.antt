@@ -33,7 +33,7 @@ truth_residue (suc zero) h = refl
 truth_residue (suc (suc n)) h = absurd (omega (arith, h))
 
 -- a residue's number has it
-residue_wrap : (k : IntKind) (q : ℕ) → q < 2 ^ width_of k → residue (width_of k) (wrap k (pos q)) ≡ q
+pub residue_wrap : (k : IntKind) (q : ℕ) → q < 2 ^ width_of k → residue (width_of k) (wrap k (pos q)) ≡ q
 residue_wrap k q = by_bool (λ j. q < 2 ^ width_of j → residue (width_of j) (wrap j (pos q)) ≡ q) k (λ other h. wrap_congruent k (pos q) other ∙ mod-eq_of_lt h) (truth_residue q)
 
 truth_back : (z : ℤ) → fits kind.Bool z ≡ true → wrap kind.Bool (pos (residue 1 z)) ≡ z
@@ -51,7 +51,7 @@ wrap_residue k z = by_bool (λ j. fits j z ≡ true → wrap j (pos (residue (wi
 
 -- ---- the highest digit of a number, and the rest
 
-first_below : (P D n : ℕ) → 0 < D → n < P * D → n / D < P
+pub first_below : (P D n : ℕ) → 0 < D → n < P * D → n / D < P
 first_below P D n positive h = (div-lt_iff_lt-mul positive).1 h
 
 joined_below : (P D q m : ℕ) → q < P → m < D → q * D + m < P * D
@@ -86,7 +86,7 @@ lower_rest D m n same h =
 
 -- ---- maps
 
-within : (w b n : ℕ) → n < 2 ^ (w + b) → n < 2 ^ w * 2 ^ b
+pub within : (w b n : ℕ) → n < 2 ^ (w + b) → n < 2 ^ w * 2 ^ b
 within w b n h = subst (λ u. n < u) (pow-add 2 w b) h
 
 covers : (ks : List IntKind) (n : ℕ) → n < 2 ^ bits_in ks → Covers ks (map_at ks n)
