@@ -1,0 +1,36 @@
+//! Options of a run of the checker.
+
+use stk_numbers::Kinds;
+
+/// What the words on the command line ask for.
+#[derive(Clone, Copy, Debug, PartialEq, Eq)]
+pub struct Options {
+    /// The records are JSON objects, one a line, and not texts.
+    pub json: bool,
+    /// The most learned clauses of a query, from 1 to 200,000.
+    pub budget: u32,
+    /// The kinds of undefined behaviour that don't count.
+    pub without: Kinds,
+}
+
+/// The words aren't legal.
+#[derive(Clone, Copy, Debug, PartialEq, Eq)]
+pub enum WordsFault {
+    Bad,
+}
+
+/// One item of the words.
+#[derive(Clone, Copy, Debug, PartialEq, Eq)]
+pub(crate) enum Item {
+    Json,
+    Budget(u32),
+    Without(Kinds),
+}
+
+/// The items so far: each may come once.
+#[derive(Clone, Copy, Debug, PartialEq, Eq)]
+pub(crate) struct Seen {
+    pub json: bool,
+    pub budget: Option<u32>,
+    pub without: Option<Kinds>,
+}
