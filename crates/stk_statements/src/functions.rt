@@ -14,11 +14,9 @@ ghost use Rattle.stk_body_parts.specs.Places.{body_in};
 ghost use Rattle.stk_bodies.specs.Functions.{body_typed, function_typed, head_typed};
 ghost use Rattle.stk_body_parts.specs.Rows.{AnyFact, IsHeaded};
 
-use stk_body_parts::Place;
-use stk_body_parts::by_nothing;
-use stk_body_parts::storage_rule;
 use crate::statements::{parts, statement};
 use std::alloc::Global;
+use stk_body_parts::{Place, by_nothing, storage_rule};
 use stk_ctype::CType;
 use stk_declarators::{File, scope, tail, tail_type};
 use stk_facts::{NodeFact, Untyped, fact, own};

@@ -13,12 +13,9 @@ ghost use Rattle.stk_bodies.specs.Sections.{Labelled, section_rule, unlabelled};
 ghost use Rattle.stk_bodies.specs.Statements.{maybe_statement_typed, part_typed, parts_typed, section_typed, sections_typed, start_typed, statement_typed, statements_typed};
 ghost use Rattle.stk_body_parts.specs.Rows.{AnyFact, AnyLabels, AreLocals, IsLabelled, IsStarted, Nothing};
 
-use stk_body_parts::Place;
-use stk_body_parts::{by_for, by_leave, by_nothing, by_switch, by_test, discarded, optional, returned, test};
-use stk_body_parts::{Labels, put_labels};
-use stk_body_parts::declaration;
 use std::alloc::Global;
 use stk_base::Boxed;
+use stk_body_parts::{Labels, Place, by_for, by_leave, by_nothing, by_switch, by_test, declaration, discarded, optional, put_labels, returned, test};
 use stk_ctype::IntKind;
 use stk_facts::{NodeFact, Untyped, fact, own};
 use stk_rules::kind_of;

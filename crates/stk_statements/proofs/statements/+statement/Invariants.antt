@@ -10,7 +10,7 @@ use Rattle.stk_body_parts.specs.Places.{Begins, body_in}
 use Rattle.stk_bodies.specs.Sections.{Labelled}
 use Rattle.stk_bodies.specs.Statements.{parts_typed, sections_typed, statements_typed}
 use Rattle.stk_body_parts.specs.Rows.{IsLabelled, Nothing}
-use Rattle.stk_statements.proofs.Turns.{Labels_are}
+use Rattle.stk_body_parts.proofs.Turns.{Labels_are}
 use Rattle.stk_statements.proofs.statements.+statement.Given as goal
 
 -- what completes the rest completes the whole
