@@ -1,5 +1,5 @@
 -- What is known of a node, and what runs ask of typing.
-use Rattle.std.specs.Prelude.{ℕ, Bool, true, false, not, ◌&&◌, ◌||◌, List, get_or, Option, Some, None, ℤ}
+use Rattle.std.specs.Prelude.{ℕ, Bool, true, false, not, ◌&&◌, ◌||◌, get_or, Option, Some, None, ℤ}
 use Rattle.stk_base.specs.declared.span.Span.{Span}
 use Rattle.stk_ctype.specs.Types.{TypeTree}
 use Rattle.stk_tree.specs.View.{view_unit}
@@ -7,7 +7,7 @@ use Rattle.stk_tree.specs.Unlaid.{no_node}
 use Rattle.stk_tree_nodes.specs.Rows.{unit_row}
 use Rattle.stk_facts.specs.declared.facts.Role.{Role}
 use Rattle.stk_facts.specs.declared.facts.Role.TheVariants.{Plain, Value, Declares, Names}
-use Rattle.stk_facts.specs.Facts.{Fact, fact_at}
+use Rattle.stk_facts.specs.Facts.{fact_at}
 use Rattle.stk_rules.specs.Types.{is_scalar}
 use Rattle.stk_runs.specs.Typings.{Typing, typing_of, is_among}
 use Rattle.stk_function_types.specs.Units.{TypedUnit, facts_of, unit_taken, unit_statics}

@@ -1,5 +1,5 @@
 -- Function definitions and what typing gives of their nodes (C11 6.9.1).
-use Rattle.std.specs.Prelude.{ℕ, Bool, List, []}
+use Rattle.std.specs.Prelude.{ℕ, List, []}
 use Rattle.stk_ctype.specs.declared.symbol.NameEntry.{NameEntry}
 use Rattle.stk_tree.specs.declared.unit.Unit.{Unit}
 use Rattle.stk_tree.specs.Syntax.{UnitTree}
