@@ -12,4 +12,6 @@ pub use expressions::expression_sites;
 pub use initialisers::initialiser_sites;
 pub use roles::{Role, Use, accesses};
 pub use sites::{Site, SiteForm};
-pub use statements::{function_sites, statement_form_sites, statement_sites, turn_sites};
+pub use statements::{
+    declaration_sites, function_sites, statement_form_sites, statement_sites, turn_sites,
+};
