@@ -1,5 +1,5 @@
 -- Nodes without a type, numbers of cases, and sets of them.
-use Rattle.std.proofs.Common.{ℕ, zero, suc, ◌≡◌, ◌≤◌, ◌<◌, ◌+◌, ◌++◌, ◌∙◌, List, [], ◌∷◌, Option, ℤ, length, map, take, drop, set, refl, sym, ap, subst, append_assoc, length-append, arith}
+use Rattle.std.proofs.Common.{ℕ, zero, suc, ◌≡◌, ◌≤◌, ◌<◌, ◌+◌, ◌++◌, ◌∙◌, List, [], ◌∷◌, Option, ℤ, length, map, drop, set, refl, sym, ap, subst, append_assoc, length-append, arith}
 use Rattle.std.proofs.lemmas.List.{take-append-drop, length-map, map-append}
 use Rattle.stk_facts.specs.declared.facts.NodeFact.{NodeFact}
 use Rattle.stk_facts.specs.Facts.{Fact, fact_of, fact_at, plain}

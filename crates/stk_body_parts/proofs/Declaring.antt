@@ -7,7 +7,7 @@ use Rattle.stk_tree.specs.declared.declaration.Declr.{Declr, out-Declr, fold_out
 use Rattle.stk_tree.specs.declared.declaration.Init.{Init}
 use Rattle.stk_tree.specs.Syntax.{BaseFormTree, DesigTree, DimensionTree, InitTree, TailTree, ExprFormTree, BaseTree, DeclrTree, DeclrTrees, EnumrTree, ItemTree, MemberTree, ParamTree, TypeNameTree, ExprTree, MaybeInitTree}
 use Rattle.stk_tree.specs.Syntax as s
-use Rattle.stk_tree.specs.View.{base_form_step, designator_step, dimension_step, initialiser_step, tail_step, expression_form_step, base_step, declarator_step, enumerator_step, item_step, member_step, parameter_step, type_name_step, expression_step, members, enumerators, declarators, maybe_initialiser, given_expression, view_base, view_base_form, view_declarator, view_enumerator, view_initialiser, view_member, view_tail}
+use Rattle.stk_tree.specs.View.{base_form_step, designator_step, dimension_step, initialiser_step, tail_step, expression_form_step, base_step, declarator_step, enumerator_step, item_step, member_step, parameter_step, type_name_step, expression_step, maybe_initialiser, view_declarator, view_initialiser, view_tail}
 use Rattle.stk_facts.specs.declared.untyped.Untyped.{Untyped}
 use Rattle.stk_facts.specs.declared.untyped.Broken.{Broken}
 use Rattle.stk_facts.specs.declared.facts.NodeFact.{NodeFact}

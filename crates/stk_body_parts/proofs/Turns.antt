@@ -1,15 +1,12 @@
 -- How the answers of parts make the answer of a statement, and one turn of each loop.
-use Rattle.std.proofs.Common.{ℕ, ◌≡◌, ◌≤◌, ◌<◌, ◌+◌, ◌++◌, ◌∙◌, Bool, true, false, List, [], ◌∷◌, Option, Some, None, if◌then◌else◌, Result, Ok, Err, length, map, refl, sym, ap, subst, append_assoc, length-append, arith}
+use Rattle.std.proofs.Common.{ℕ, ◌≡◌, ◌<◌, ◌++◌, ◌∙◌, Bool, false, List, [], ◌∷◌, Option, Some, None, if◌then◌else◌, Result, Ok, Err, length, map, refl, sym, ap, subst, append_assoc}
 use Rattle.stk_ctype.specs.declared.kind.IntKind.{IntKind}
 use Rattle.stk_ctype.specs.Structs.{Structs}
 use Rattle.stk_scope.specs.declared.arrays.Size.{Size}
 use Rattle.stk_scope.specs.Arrays.{declared_type}
-use Rattle.stk_ctype.specs.declared.ctype.CType.{CType}
 use Rattle.stk_ctype.specs.Types.{TypeTree, type_of, void_type}
-use Rattle.stk_declarators.specs.declared.tails.Tailed.{Tailed}
 use Rattle.stk_declarators.specs.Counting.{given_count}
-use Rattle.stk_declarators.specs.Tails.{TailShape, are_scalars, counted_sizes}
-use Rattle.stk_declarators.specs.Rows.{IsShape, IsTail, locals_in}
+use Rattle.stk_declarators.specs.Tails.{are_scalars, counted_sizes}
 use Rattle.stk_tree.specs.Syntax.{DeclrTree, DeclrTrees, MaybeInitTree, LabelTree, LabelTrees, PartTree, PartTrees, SectionTree, SectionTrees, StmtTree, StmtTrees}
 use Rattle.stk_tree.specs.Syntax as s
 use Rattle.stk_facts.specs.declared.untyped.Untyped.{Untyped}
@@ -18,7 +15,7 @@ use Rattle.stk_facts.specs.declared.untyped.Broken.{Broken}
 use Rattle.stk_facts.specs.declared.untyped.Broken.TheVariants as broken
 use Rattle.stk_facts.specs.Facts.{Fact, Ruled, Breaks, Fits, fact_at, fact_of, plain}
 use Rattle.stk_facts.specs.Outcome.{Outcome, Good, Refused, and_then, finish, IsAt, Gives, MakesFact}
-use Rattle.stk_facts.proofs.Steps.{goes, stays, stops}
+use Rattle.stk_facts.proofs.Steps.{goes}
 use Rattle.stk_scope.specs.declared.locals.LocalName.{LocalName}
 use Rattle.std.proofs.lemmas.List.{map-append}
 use Rattle.stk_ctype.specs.Sound.{IsSound}
@@ -26,7 +23,7 @@ use Rattle.stk_facts.specs.declared.untyped.Untyped.TheVariants.{Rule, NoMemory}
 use Rattle.stk_declarators.proofs.Rows.{local_pushed}
 use Rattle.stk_scope.specs.Locals.{AreSoundLocals, Local, local_of}
 use Rattle.stk_scope.specs.Scope.{Scope}
-use Rattle.stk_typing.proofs.Turns.{mapped, nil, weaker}
+use Rattle.stk_typing.proofs.Turns.{mapped, nil}
 use Rattle.stk_initialisers.specs.declared.leaves.Leaves.{Leaves}
 use Rattle.stk_body_parts.specs.declared.labels.Labels.{Labels}
 use Rattle.stk_body_parts.specs.declared.places.Place.{Place}
@@ -34,8 +31,7 @@ use Rattle.stk_bodies.specs.Bodies.{Body, with_more}
 use Rattle.stk_body_parts.specs.Places.{body_in, scope_owned}
 use Rattle.stk_bodies.specs.Locals.{complete_rule, counted_rule, declared_rule, initial_scope, is_register, lacks_size, local_by, local_declared, local_rule, locals_declared, own_type}
 use Rattle.stk_bodies.specs.Sections.{Labelled, label_typed, labels_typed}
-use Rattle.stk_bodies.specs.Statements.{Started, for_rule, part_typed, parts_typed, section_typed, sections_typed, statement_typed, statements_typed}
-use Rattle.stk_body_parts.specs.Rows.{AnyFact, Nothing, AreLocals, IsBelow, IsHeaded, IsKnown, IsStarted, IsLabelled, known_at}
+use Rattle.stk_body_parts.specs.Rows.{AnyFact, AreLocals, IsLabelled}
 
 -- ---- where more locals are in force
 pub more_body : (p : Place) (ls now : List LocalName) (more : List Local) → map local_of now ≡ map local_of ls ++ more → body_in p now ≡ with_more (body_in p ls) more

@@ -1,10 +1,10 @@
 -- How the code shows what typing a statement gives.
-use Rattle.std.specs.Prelude.{ℕ, ◌≡◌, ◌<◌, Bool, List, ◌++◌, length, map, Option, Some, None, ℤ}
+use Rattle.std.specs.Prelude.{ℕ, ◌≡◌, ◌<◌, Bool, List, ◌++◌, length, Option, Some, None, ℤ}
 use Rattle.std.specs.BTreeSet.{BTreeSet, contains_by}
 use Rattle.std.specs.Ordering.{int_cmp}
 use Rattle.stk_ctype.specs.declared.ctype.CType.{CType}
 use Rattle.stk_ctype.specs.Types.{type_of}
-use Rattle.stk_facts.specs.Facts.{Fact, Ruled, Breaks, Fits, plain, fact_at}
+use Rattle.stk_facts.specs.Facts.{Fact, fact_at}
 use Rattle.stk_scope.specs.Locals.{Local}
 use Rattle.stk_body_parts.specs.declared.labels.Labels.{Labels}
 use Rattle.stk_bodies.specs.Sections.{Labelled, has_case}

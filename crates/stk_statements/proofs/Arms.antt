@@ -1,5 +1,5 @@
 -- How the answers of parts make the answer of each form of statement, and of a section.
-use Rattle.std.proofs.Common.{ℕ, ◌≡◌, ◌<◌, ◌++◌, List, [], Option, Some, Result, Ok, Err, length, sym, subst, arith}
+use Rattle.std.proofs.Common.{ℕ, ◌≡◌, ◌<◌, ◌++◌, List, [], Option, Some, Result, Ok, Err, length, subst, arith}
 use Rattle.stk_ctype.specs.declared.kind.IntKind.{IntKind}
 use Rattle.stk_tree.specs.Syntax.{ExprTree, MaybeExprTree, MaybeStmtTree, PartTrees, SectionTrees, StartTree, StmtTree}
 use Rattle.stk_tree.specs.Syntax as s
@@ -10,7 +10,7 @@ use Rattle.stk_facts.proofs.Steps.{goes, stops}
 use Rattle.stk_rules.specs.Types.{kind_of}
 use Rattle.stk_scope.specs.Locals.{Local}
 use Rattle.stk_typing.specs.Typing.{expression_typed}
-use Rattle.stk_typing.proofs.Turns.{below, longer, mapped}
+use Rattle.stk_typing.proofs.Turns.{longer, mapped}
 use Rattle.stk_bodies.specs.Bodies.{Body, with_more, opened, looped, switched}
 use Rattle.stk_bodies.specs.Sections.{Labelled, section_rule, unlabelled}
 use Rattle.stk_bodies.specs.Statements.{Started, for_rule, form_typed, maybe_statement_typed, maybe_typed, parts_typed, sections_typed, start_typed, statement_typed, switch_rule, test_rule}

@@ -15,7 +15,7 @@ use Rattle.stk_scope.specs.Locals.{Local, local_of}
 use Rattle.stk_declarators.specs.Rows.{scope_with}
 use Rattle.stk_typing.specs.Typing.{base_typed}
 use Rattle.stk_bodies.specs.Bodies.{Body}
-use Rattle.stk_bodies.specs.Functions.{Headed, body_of, body_typed, function_typed, head_typed, outside, storage_rule}
+use Rattle.stk_bodies.specs.Functions.{body_of, body_typed, function_typed, head_typed, outside, storage_rule}
 use Rattle.stk_body_parts.specs.Rows.{AnyFact, IsHeaded}
 
 -- whatever is known of a node that has its fact

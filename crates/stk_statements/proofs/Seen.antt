@@ -20,13 +20,12 @@ use Rattle.stk_declarators.specs.Rows.{locals_in}
 use Rattle.stk_tree.specs.Syntax as s
 use Rattle.stk_tree.specs.View.{given_expression, labels, maybe_statement, parts, part_step, sections, section_step, statement_form_step, statement_step, statements, view_expression, view_label, view_part, view_section, view_start, view_statement, view_statement_form}
 use Rattle.stk_facts.specs.Facts.{Fits, plain}
-use Rattle.stk_facts.specs.Outcome.{Outcome, Good, and_then, finish}
-use Rattle.stk_facts.specs.Facts.{Fact}
+use Rattle.stk_facts.specs.Outcome.{Good, and_then, finish}
 use Rattle.stk_rules.specs.Types.{kind_of}
 use Rattle.stk_typing.specs.Typing.{expression_typed}
 use Rattle.stk_bodies.specs.Bodies.{Body, with_more, opened, looped, switched}
 use Rattle.stk_bodies.specs.Sections.{unlabelled}
-use Rattle.stk_bodies.specs.Functions.{Headed, body_typed, head_typed}
+use Rattle.stk_bodies.specs.Functions.{body_typed, head_typed}
 use Rattle.stk_bodies.specs.Statements.{for_rule, maybe_statement_typed, maybe_typed, parts_typed, sections_typed, start_typed, statement_typed, switch_rule, test_rule}
 
 seen : (x : Stmt) (f : StmtForm) (t : StmtFormTree) → (out-Stmt x).form ≡ f → view_statement_form f ≡ t → view_statement x ≡ s.statement (out-Stmt x).node t

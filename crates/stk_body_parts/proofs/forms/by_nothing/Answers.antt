@@ -1,8 +1,6 @@
-use Rattle.std.proofs.Common.{◌≡◌, Result, Err, map, sym, subst, rules}
-use Rattle.stk_facts.specs.declared.untyped.Untyped.{Untyped}
+use Rattle.std.proofs.Common.{◌≡◌, Err, map, rules}
 use Rattle.stk_facts.specs.Facts.{Fits, fact_of, plain}
-use Rattle.stk_facts.specs.Outcome.{Gives, finish}
-use Rattle.stk_body_parts.specs.Rows.{AnyFact}
+use Rattle.stk_facts.specs.Outcome.{finish}
 use Rattle.stk_body_parts.proofs.Turns.{any_err}
 use Rattle.stk_body_parts.proofs.forms.by_nothing.Goals as goal
 

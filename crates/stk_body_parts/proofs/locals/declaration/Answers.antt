@@ -1,5 +1,4 @@
 use Rattle.std.proofs.Common.{◌∙◌, List, Ok, map, ap, subst}
-use Rattle.stk_ctype.specs.declared.ctype.CType.{CType}
 use Rattle.stk_ctype.specs.Types.{type_of}
 use Rattle.stk_tree.specs.declared.declaration.Declr.{Declr}
 use Rattle.stk_tree.specs.View.{declarators, view_base, view_declarator}

@@ -1,4 +1,4 @@
-use Rattle.std.proofs.Common.{◌≡◌, ◌+◌, map, drop}
+use Rattle.std.proofs.Common.{◌+◌, map, drop}
 use Rattle.stk_ctype.specs.Types.{type_of}
 use Rattle.stk_tree.specs.View.{declarators, view_declarator}
 use Rattle.stk_facts.specs.Facts.{fact_of}

@@ -1,4 +1,4 @@
-use Rattle.std.proofs.Common.{◌≡◌, ◌∙◌, Bool, List, Err, false, refl, sym, ap, rules}
+use Rattle.std.proofs.Common.{◌≡◌, ◌∙◌, Bool, List, Err, refl, sym, ap, rules}
 use Rattle.std.specs.Option.{option_map}
 use Rattle.stk_ctype.specs.Structs.{structs_of}
 use Rattle.stk_ctype.specs.Types.{type_of}

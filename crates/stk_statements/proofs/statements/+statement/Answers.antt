@@ -1,24 +1,22 @@
-use Rattle.std.proofs.Common.{◌≡◌, ◌∙◌, ◌+◌, ◌<◌, List, [], Err, Ok, Option, map, drop, length, sym, ap, subst, arith, rules}
+use Rattle.std.proofs.Common.{◌≡◌, ◌∙◌, ◌+◌, ◌<◌, List, [], Err, Ok, map, drop, length, sym, ap, arith, rules}
 use Rattle.std.specs.Option.{option_map}
 use Rattle.std.proofs.lemmas.List.{drop_all, length-map}
-use Rattle.stk_ctype.specs.declared.ctype.CType.{CType}
-use Rattle.stk_ctype.specs.Types.{TypeTree, type_of}
 use Rattle.stk_tree.specs.declared.statement.Part.{Part}
 use Rattle.stk_tree.specs.declared.statement.Section.{Section, out-Section}
 use Rattle.stk_tree.specs.declared.statement.Stmt.{Stmt, out-Stmt}
 use Rattle.stk_tree.specs.declared.statement.Label.{Label}
 use Rattle.stk_tree.specs.View.{given_expression, labels, maybe_statement, parts, sections, statements, view_expression, view_label, view_part, view_section, view_start, view_statement}
-use Rattle.stk_facts.specs.Facts.{Fact, fact_at, fact_of}
-use Rattle.stk_facts.specs.Outcome.{Gives, IsAt}
+use Rattle.stk_facts.specs.Facts.{Fact, fact_of}
+use Rattle.stk_facts.specs.Outcome.{IsAt}
 use Rattle.stk_facts.proofs.Steps.{stops}
 use Rattle.stk_rules.specs.Types.{kind_of}
-use Rattle.stk_scope.specs.Locals.{Local, local_of}
+use Rattle.stk_scope.specs.Locals.{local_of}
 use Rattle.stk_scope.specs.declared.locals.LocalName.{LocalName}
 use Rattle.stk_typing.specs.Typing.{expression_typed}
 use Rattle.stk_typing.proofs.Turns.{below, next_of, nil}
 use Rattle.stk_bodies.specs.Bodies.{Body, looped, opened, switched, with_more}
 use Rattle.stk_bodies.specs.Sections.{carried, labels_typed, unlabelled}
-use Rattle.stk_bodies.specs.Statements.{maybe_statement_typed, maybe_typed, parts_typed, section_typed, sections_typed, start_typed, statement_typed, statements_typed}
+use Rattle.stk_bodies.specs.Statements.{maybe_statement_typed, parts_typed, section_typed, sections_typed, start_typed, statement_typed, statements_typed}
 use Rattle.stk_body_parts.specs.Places.{body_in}
 use Rattle.stk_body_parts.specs.Rows.{AnyFact, AnyLabels, IsKnown, IsStarted, Nothing}
 use Rattle.stk_body_parts.proofs.Counts.{begins_then}
