@@ -47,10 +47,10 @@ pub sized_is : (b : Body) (static : Bool) (name given : List ℕ) (k : ℕ) (who
 sized_is b static name given k whole init sizes parts twice v made before mid now result a m c same all in_block stay typed ruled put =
     let rule : Leaves → Ruled = λ z. declared_rule b.scope.bytes (structs_in b.scope) (is_in_block b name) static init whole sizes z in
     let typed_so = subst (λ (z : List ℕ). Gives AreLeaves (initial_typed b static (own_local (structs_in b.scope) z k whole sizes) init) (Ok v) a m) same
-        (subst (λ (z : List Size). Gives AreLeaves (initial_typed b static (own_local (structs_in b.scope) given k whole z) init) (Ok v) a m) all typed) in
+    (subst (λ (z : List Size). Gives AreLeaves (initial_typed b static (own_local (structs_in b.scope) given k whole z) init) (Ok v) a m) all typed) in
     let ruled_so = subst (λ (z : Bool). MakesFact (declared_rule b.scope.bytes (structs_in b.scope) z static init whole sizes v) made) in_block ruled in
     let put_so = subst (λ (z : List ℕ). Gives (AreLocals before now) (and_then (finish k (rule v)) (λ x. Good (local_by z k x) [])) result m c) same
-        (subst (λ (z : List Local). Gives (AreLocals z now) (and_then (finish k (rule v)) (λ x. Good (local_by given k x) [])) result m c) stay (put (rule v) ruled_so)) in
+    (subst (λ (z : List Local). Gives (AreLocals z now) (and_then (finish k (rule v)) (λ x. Good (local_by given k x) [])) result m c) stay (put (rule v) ruled_so)) in
     sized_gives (initial_typed b static (own_local (structs_in b.scope) name k whole sizes) init) rule k name v before now result a m c typed_so put_so
 
 -- the sizes of a declarator's array parts, then the rest

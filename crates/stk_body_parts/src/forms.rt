@@ -87,11 +87,7 @@ pub fn by_leave(facts: &mut Vec<NodeFact>, node: u32, can: bool) -> Result<(), U
 }
 
 // An expression as a statement.
-fn by_discarded(
-    facts: &mut Vec<NodeFact>,
-    node: u32,
-    at: Option<usize>,
-) -> Result<(), Untyped>
+fn by_discarded(facts: &mut Vec<NodeFact>, node: u32, at: Option<usize>) -> Result<(), Untyped>
     requires { IsBelow (length (map fact_of facts.old.items)) at }
     ensures gives { Gives AnyFact (finish node (discarded_rule (known_at (map fact_of facts.old.items) at))) result (map fact_of facts.old.items) (map fact_of facts.new.items) }
     ensures sound { (structs : Structs) → AreSoundFacts structs (map fact_of facts.old.items) → OnOk result (AreSoundFacts structs (map fact_of facts.new.items)) }

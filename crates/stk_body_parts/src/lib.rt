@@ -12,7 +12,9 @@ mod locals;
 mod places;
 mod rules;
 
-pub use forms::{by_for, by_leave, by_nothing, by_switch, by_test, discarded, optional, returned, test};
+pub use forms::{
+    by_for, by_leave, by_nothing, by_switch, by_test, discarded, optional, returned, test,
+};
 pub use labels::{Labels, put_labels};
 pub use locals::declaration;
 pub use places::Place;

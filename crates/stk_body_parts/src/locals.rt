@@ -297,5 +297,12 @@ pub fn declaration(
     let s = scope(p.file.alloc, p.file.bytes, p.file.names, locals);
     let at = base(&s, facts, &d.base)?;
     let ty = fact(facts, at).ty.copy(p.file.alloc)?;
-    declarators(p, locals, facts, is_static(d.storage), &ty, d.list.as_slice())
+    declarators(
+        p,
+        locals,
+        facts,
+        is_static(d.storage),
+        &ty,
+        d.list.as_slice(),
+    )
 }

@@ -37,12 +37,7 @@ pub fn unless(refused: bool, rule: u8) -> Result<NodeFact, Broken>
 }
 
 /// A node without a type, or one that the first of two rules refuses that does.
-pub fn unless_two(
-    refused: bool,
-    rule: u8,
-    too: bool,
-    second: u8,
-) -> Result<NodeFact, Broken>
+pub fn unless_two(refused: bool, rule: u8, too: bool, second: u8) -> Result<NodeFact, Broken>
     ensures fact { MakesFact (if refused then Breaks rule else (if too then Breaks second else Fits plain)) result }
     ensures sound { (structs : Structs) → IfOk result (λ f. IsSound structs (type_of f.ty)) }
 {

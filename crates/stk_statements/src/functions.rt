@@ -49,12 +49,7 @@ fn head(
 }
 
 // Types the body of a function.
-fn body(
-    p: &Place,
-    locals: &mut Locals,
-    facts: &mut Vec<NodeFact>,
-    x: &Stmt,
-) -> Result<(), Untyped>
+fn body(p: &Place, locals: &mut Locals, facts: &mut Vec<NodeFact>, x: &Stmt) -> Result<(), Untyped>
     requires locals { AreSoundLocals (structs_of p.now.file.names.now) (map local_of locals.old) }
     requires sound { AreSoundFacts (structs_of p.now.file.names.now) (map fact_of facts.old.items) }
     ensures gives { Gives AnyFact (body_typed (body_in p.now locals.old) (view_statement x.now)) result (map fact_of facts.old.items) (map fact_of facts.new.items) }
@@ -78,7 +73,12 @@ fn body(
 }
 
 // The type that a function's base names.
-fn base_type(f: &File, locals: &Locals, facts: &mut Vec<NodeFact>, x: &Function) -> Result<CType, Untyped>
+fn base_type(
+    f: &File,
+    locals: &Locals,
+    facts: &mut Vec<NodeFact>,
+    x: &Function,
+) -> Result<CType, Untyped>
     requires locals { AreSoundLocals (structs_of f.now.names.now) (map local_of locals.now) }
     requires sound { AreSoundFacts (structs_of f.now.names.now) (map fact_of facts.old.items) }
     ensures gives { Gives (λ y t. type_of t ≡ y.ty) (base_typed (file_scope f.now locals.now) (view_base x.now.base)) result (map fact_of facts.old.items) (map fact_of facts.new.items) }

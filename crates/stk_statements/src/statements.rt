@@ -15,7 +15,10 @@ ghost use Rattle.stk_body_parts.specs.Rows.{AnyFact, AnyLabels, AreLocals, IsLab
 
 use std::alloc::Global;
 use stk_base::Boxed;
-use stk_body_parts::{Labels, Place, by_for, by_leave, by_nothing, by_switch, by_test, declaration, discarded, optional, put_labels, returned, test};
+use stk_body_parts::{
+    Labels, Place, by_for, by_leave, by_nothing, by_switch, by_test, declaration, discarded,
+    optional, put_labels, returned, test,
+};
 use stk_ctype::IntKind;
 use stk_facts::{NodeFact, Untyped, fact, own};
 use stk_rules::kind_of;
@@ -176,12 +179,7 @@ fn statements(
 
 // Types a part of a block, and brings its names into force.
 #[cycle(statement)]
-fn part(
-    p: &Place,
-    locals: &mut Locals,
-    facts: &mut Vec<NodeFact>,
-    x: &Part,
-) -> Result<(), Untyped>
+fn part(p: &Place, locals: &mut Locals, facts: &mut Vec<NodeFact>, x: &Part) -> Result<(), Untyped>
     requires locals { AreSoundLocals (structs_of p.now.file.names.now) (map local_of locals.old) }
     requires sound { AreSoundFacts (structs_of p.now.file.names.now) (map fact_of facts.old.items) }
     ensures gives { Gives (AreLocals (map local_of locals.old) (map local_of locals.new)) (part_typed (body_in p.now locals.old) (view_part x.now)) result (map fact_of facts.old.items) (map fact_of facts.new.items) }

@@ -2,21 +2,28 @@
 //! stands the lowest rule that refuses this node. A function without an `@` is accepted, and has 0 beside it.
 
 /// What is declared before each function.
-pub(crate) static FIRST: &str = "int one(int); void none(void); int many(); struct point { int x; char mark; int at[2]; struct point *next; }; struct hidden; struct hidden *veiled; struct point here; extern int row[]; enum shade { DARK, PALE }; typedef int count; ";
+pub(crate) static FIRST: &str =
+    "int one(int); void none(void); int many(); struct point { int x; char mark; int at[2]; struct point *next; }; struct hidden; struct hidden *veiled; struct point here; extern int row[]; enum shade { DARK, PALE }; typedef int count; ";
 
 /// Names, types and objects.
 pub(crate) static DECLARED: [(&str, u8); 46] = [
     // names that aren't declared, or no longer
     ("int f(int a) { return @b; }", 1),
     ("int f(int a) { { int b; } return @b; }", 1),
-    ("int f(void) { for (int i = 0; i < 2; i++) ; return @i; }", 1),
+    (
+        "int f(void) { for (int i = 0; i < 2; i++) ; return @i; }",
+        1,
+    ),
     ("int f(int a) { return @later(a); }", 1),
     ("int f(int a) { return (@struct nowhere *) 0 == 0; }", 1),
     ("int f(count a) { count *p = &a; return *p; }", 0),
     // a register in its own initialiser, and an object that is none
     ("int f(void) { int b = @b; return b; }", 1),
     ("int f(void) { int b = sizeof b; return b; }", 0),
-    ("int f(void) { int *b = &b == 0 ? 0 : 0; return b == 0; }", 0),
+    (
+        "int f(void) { int *b = &b == 0 ? 0 : 0; return b == 0; }",
+        0,
+    ),
     // words that name no type
     ("int f(int a) { @short long b; return a; }", 2),
     ("int f(int a) { return (@signed unsigned) a; }", 2),
@@ -26,7 +33,10 @@ pub(crate) static DECLARED: [(&str, u8); 46] = [
     ("int f(void) { int b; char @b; return 1; }", 3),
     ("int f(void) { int b, @b; return 1; }", 3),
     ("int f(int a) { { int a = 2; return a; } }", 0),
-    ("int f(int a) { for (int a = 0; a; ) { int a = 1; return a; } return a; }", 0),
+    (
+        "int f(int a) { for (int a = 0; a; ) { int a = 1; return a; } return a; }",
+        0,
+    ),
     ("int f(void) { int f = 1; return f; }", 0),
     // types that aren't complete
     ("int f(void *p) { return @*p; }", 4),
@@ -47,8 +57,14 @@ pub(crate) static DECLARED: [(&str, u8); 46] = [
     ("int f(void) { int @b[0]; return 1; }", 5),
     ("int f(int a) { return sizeof(@int[a]); }", 5),
     ("int f(int a) { switch (a) { @case a: ; } return 0; }", 5),
-    ("int f(int a) { switch (a) { @case 1 / 0: ; } return 0; }", 5),
-    ("int f(int a) { switch (a) { case sizeof(int) + PALE: return 1; } return 0; }", 0),
+    (
+        "int f(int a) { switch (a) { @case 1 / 0: ; } return 0; }",
+        5,
+    ),
+    (
+        "int f(int a) { switch (a) { case sizeof(int) + PALE: return 1; } return 0; }",
+        0,
+    ),
     // initialisers
     ("int f(void) { int @b = { 1 }; return b; }", 16),
     ("int f(void) { int @b[2] = 1; return 1; }", 16),
@@ -56,7 +72,10 @@ pub(crate) static DECLARED: [(&str, u8); 46] = [
     ("int f(void) { static int @b = { 1 }; return b; }", 16),
     ("int f(void) { struct point @b = 1; return 1; }", 16),
     ("int f(void) { char b[3] = { \"ab\" }; return 1; }", 0),
-    ("int f(void) { struct point b = { 1, 2, { 3, 4 }, 0 }; return b.x; }", 0),
+    (
+        "int f(void) { struct point b = { 1, 2, { 3, 4 }, 0 }; return b.x; }",
+        0,
+    ),
     ("int f(int *p) { int b[2] = { *p, p[1] }; return b[0]; }", 0),
     ("int f(void) { static int b = elsewhere; return b; }", 0),
 ];
@@ -93,7 +112,10 @@ pub(crate) static EXPRESSIONS: [(&str, u8); 44] = [
     ("int f(int a) { return one(one(a)); }", 0),
     ("int f(int a) { return many(1, 2, &a); }", 0),
     // structs as values
-    ("int f(struct point *p) { struct point @b = *p; return 1; }", 9),
+    (
+        "int f(struct point *p) { struct point @b = *p; return 1; }",
+        9,
+    ),
     ("int f(struct point *p) { @here = *p; return 1; }", 9),
     ("int f(struct point *p) { return @many(*p); }", 9),
     ("int f(struct point *p) { return (*p).x + p->at[1]; }", 0),
@@ -111,7 +133,10 @@ pub(crate) static EXPRESSIONS: [(&str, u8); 44] = [
     ("int f(void) { return @1uu; }", 11),
     ("int f(void) { return @18446744073709551616u == 0; }", 11),
     ("int f(void) { return 18446744073709551615u == 0; }", 0),
-    ("int f(void) { return 0x7fLL + 017 + 'x' + \"\\377\"[0]; }", 0),
+    (
+        "int f(void) { return 0x7fLL + 017 + 'x' + \"\\377\"[0]; }",
+        0,
+    ),
     ("int f(int a) { return (a, a); }", 0),
 ];
 
@@ -134,25 +159,67 @@ pub(crate) static STATEMENTS: [(&str, u8); 45] = [
     ("int f(struct point *p) { @return *p; }", 9),
     ("int f(struct point *p) { (*p).x; ; return 1; }", 0),
     // labels that stand twice
-    ("int f(int a) { switch (a) { @case 1: case 1: ; } return a; }", 12),
-    ("int f(int a) { switch (a) { case 1: ; @case 1: ; } return a; }", 12),
-    ("int f(int a) { switch (a) { default: ; @default: ; } return a; }", 12),
-    ("int f(unsigned a) { switch (a) { case -1: ; @case 4294967295: ; } return 0; }", 12),
-    ("int f(_Bool a) { switch (a) { case 7: ; @case 3 + 4: ; } return 0; }", 12),
-    ("int f(int a) { switch (a) { case 2: case 1: ; default: case 3: ; @case 0: default: ; } return 0; }", 12),
-    ("int f(unsigned char a) { switch (a) { case 1: ; case 257: ; } return 0; }", 0),
-    ("int f(long a) { switch (a) { case -1: ; case 0xffffffff: ; } return 0; }", 0),
-    ("int f(int a) { switch (a) { case 1: switch (a) { case 1: ; default: ; } default: ; } return 0; }", 0),
+    (
+        "int f(int a) { switch (a) { @case 1: case 1: ; } return a; }",
+        12,
+    ),
+    (
+        "int f(int a) { switch (a) { case 1: ; @case 1: ; } return a; }",
+        12,
+    ),
+    (
+        "int f(int a) { switch (a) { default: ; @default: ; } return a; }",
+        12,
+    ),
+    (
+        "int f(unsigned a) { switch (a) { case -1: ; @case 4294967295: ; } return 0; }",
+        12,
+    ),
+    (
+        "int f(_Bool a) { switch (a) { case 7: ; @case 3 + 4: ; } return 0; }",
+        12,
+    ),
+    (
+        "int f(int a) { switch (a) { case 2: case 1: ; default: case 3: ; @case 0: default: ; } return 0; }",
+        12,
+    ),
+    (
+        "int f(unsigned char a) { switch (a) { case 1: ; case 257: ; } return 0; }",
+        0,
+    ),
+    (
+        "int f(long a) { switch (a) { case -1: ; case 0xffffffff: ; } return 0; }",
+        0,
+    ),
+    (
+        "int f(int a) { switch (a) { case 1: switch (a) { case 1: ; default: ; } default: ; } return 0; }",
+        0,
+    ),
     // a label that isn't constant beside one that stands twice
-    ("int f(int a) { switch (a) { case 1: ; @case a: case 1: ; } return 0; }", 5),
+    (
+        "int f(int a) { switch (a) { case 1: ; @case a: case 1: ; } return 0; }",
+        5,
+    ),
     // nothing to leave
     ("int f(int a) { @break; return a; }", 13),
     ("int f(int a) { @continue; return a; }", 13),
     ("int f(int a) { if (a) @break; return 1; }", 13),
-    ("int f(int a) { switch (a) { case 1: @continue; } return 1; }", 13),
-    ("int f(int a) { while (a) { break; } @continue; return a; }", 13),
-    ("int f(int a) { while (a) { switch (a) { case 1: continue; default: break; } } return 1; }", 0),
-    ("int f(int a) { do { if (a) break; else continue; } while (a); for (;;) { break; continue; } return 1; }", 0),
+    (
+        "int f(int a) { switch (a) { case 1: @continue; } return 1; }",
+        13,
+    ),
+    (
+        "int f(int a) { while (a) { break; } @continue; return a; }",
+        13,
+    ),
+    (
+        "int f(int a) { while (a) { switch (a) { case 1: continue; default: break; } } return 1; }",
+        0,
+    ),
+    (
+        "int f(int a) { do { if (a) break; else continue; } while (a); for (;;) { break; continue; } return 1; }",
+        0,
+    ),
     // results
     ("void f(int a) { @return a; }", 14),
     ("int f(int a) { @return; }", 14),
