@@ -116,7 +116,7 @@ pub(crate) static EXPRESSIONS: [(&str, u8); 44] = [
         "int f(struct point *p) { struct point @b = *p; return 1; }",
         9,
     ),
-    ("int f(struct point *p) { @here = *p; return 1; }", 9),
+    ("int f(struct point *p) { @here = *p; return 1; }", 6),
     ("int f(struct point *p) { return @many(*p); }", 9),
     ("int f(struct point *p) { return (*p).x + p->at[1]; }", 0),
     ("int f(struct point *p) { return sizeof *p == 24; }", 0),
