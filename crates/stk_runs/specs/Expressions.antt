@@ -81,14 +81,14 @@ address_of w (in_kept q) k = w.address k
 address_of w (in_object o) k = w.address k
 address_of w unnamed k = w.address k
 
--- a name: an enumerator's number, or a place (C11 6.5.1p2)
+-- a name: an enumerator's number in its type, which holds it, or a place (C11 6.5.1p2)
 abbrev pub name_meaning : {S : Type 0} → Setting → World S → ℕ → ExprFormTree → ℕ → Option ℤ → Meaning S
-name_meaning g w k f object (Some z) = only (gives z)
+name_meaning g w k f object (Some z) = only (gives (converted (g.typing.type_at k) z))
 name_meaning g w k f object None = at_place g w k f (λ b. gives (address_of w (target_at g object) object))
 
--- the number that a node has by itself: a constant's, or that of a `sizeof`
+-- the number that a node has by itself: a constant's, or that of a `sizeof`, in its type, which holds it (C11 6.4.4, 6.5.3.4)
 abbrev pub own_number : {S : Type 0} → Setting → ℕ → Meaning S
-own_number g k = only (gives (unwrap_or (g.typing.number_at k) (pos 0)))
+own_number g k = only (gives (converted (g.typing.type_at k) (unwrap_or (g.typing.number_at k) (pos 0))))
 
 -- whether a form is a comparison
 abbrev pub compares : Sort → Bool

@@ -1,0 +1,61 @@
+//! Where a statement of a function stands.
+
+ghost use Rattle.std.specs.Prelude.{◌≡◌, List, length};
+ghost use Rattle.stk_scope.specs.declared.locals.LocalName.{LocalName};
+ghost use Rattle.stk_bodies.specs.Bodies.{looped, switched, opened};
+ghost use Rattle.stk_body_parts.specs.Places.{body_in};
+
+use stk_ctype::CType;
+use stk_declarators::File;
+use stk_scope::Locals;
+use stk_taken::NodeSet;
+
+/// Where a statement stands: the input with the names of file scope, the declarators whose names are operands of `&`, what the
+/// function returns, how many locals stand outside of the block at hand, and whether there is something for `break` and for
+/// `continue` to leave.
+#[derive(Clone, Copy)]
+pub struct Place<'a> {
+    pub file: File<'a>,
+    pub taken: &'a NodeSet,
+    pub returns: &'a CType,
+    pub outer: usize,
+    pub can_break: bool,
+    pub can_continue: bool,
+}
+
+impl<'a> Place<'a> {
+    // The body of a loop.
+    pub fn looped(&self) -> Place<'a>
+        ensures is { (ls : List LocalName) → body_in result ls ≡ looped (body_in self.now ls) }
+        ensures names { result.file.names.now ≡ self.now.file.names.now }
+    {
+        Place {
+            can_break: true,
+            can_continue: true,
+            ..*self
+        }
+    }
+
+    // The body of a `switch`.
+    pub fn switched(&self) -> Place<'a>
+        ensures is { (ls : List LocalName) → body_in result ls ≡ switched (body_in self.now ls) }
+        ensures names { result.file.names.now ≡ self.now.file.names.now }
+    {
+        Place {
+            can_break: true,
+            ..*self
+        }
+    }
+
+    // A block of its own, which begins behind these locals.
+    pub fn opened(&self, locals: &Locals) -> Place<'a>
+        ensures is { body_in result locals.now ≡ opened (body_in self.now locals.now) }
+        ensures outer { result.outer ≡ length locals.now }
+        ensures names { result.file.names.now ≡ self.now.file.names.now }
+    {
+        Place {
+            outer: locals.count(),
+            ..*self
+        }
+    }
+}

@@ -1,0 +1,8 @@
+//! The call that types a function definition whole.
+#![tactic(auto)]
+
+mod typing;
+mod untyped;
+
+pub use typing::types_of;
+pub use untyped::Untyped;
