@@ -1,0 +1,2 @@
+//! Laws that the laws over runs rest on.
+#![tactic(auto)]
