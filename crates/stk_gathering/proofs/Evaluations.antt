@@ -1,16 +1,12 @@
 -- Path runs show what executions do, by cases on the expression.
-use Rattle.std.proofs.Common.{◌≡◌, ℕ, zero, suc, ◌+◌, ◌^◌, ◌%◌, ◌<◌, ◌⊎◌, Bool, true, false, ◌||◌, List, [], ◌∷◌, ◌++◌, ℤ, pos, negsuc, Option, Some, None, refl, sym, ap, ◌∙◌, subst, inl, inr, arith}
-use Rattle.std.specs.Prelude.{if◌then◌else◌, get_or, length, not, ◌-ℤ◌, unwrap_or}
+use Rattle.std.proofs.Common.{◌≡◌, ℕ, ◌+◌, ◌^◌, ◌<◌, Bool, true, false, List, [], ◌∷◌, ℤ, pos, negsuc, Option, Some, None, refl, sym, ap, ◌∙◌, subst, inl, arith}
+use Rattle.std.specs.Prelude.{if◌then◌else◌, get_or, not, ◌-ℤ◌, unwrap_or}
 use Rattle.std.proofs.Math.Nat.{mod-eq_of_lt}
-use Rattle.std.specs.Option.{is_some}
 use Rattle.stk_base.specs.declared.span.Span.{Span}
-use Rattle.stk_ctype.specs.declared.kind.IntKind.{IntKind}
 use Rattle.stk_ctype.specs.Types.{TypeTree, void_type, integer_type, pointer_type, array_type, struct_type, function_type, TypeTrees}
 use Rattle.stk_tree.specs.declared.node.Node.{Node}
 use Rattle.stk_tree.specs.declared.expression.UnaryOp.{UnaryOp}
 use Rattle.stk_tree.specs.declared.expression.UnaryOp.TheVariants as unary
-use Rattle.stk_tree.specs.declared.expression.BinaryOp.{BinaryOp}
-use Rattle.stk_tree.specs.declared.expression.BinaryOp.TheVariants as binary
 use Rattle.stk_tree.specs.declared.expression.AssignOp.{AssignOp}
 use Rattle.stk_tree.specs.declared.expression.AssignOp.TheVariants as assign
 use Rattle.stk_tree.specs.declared.expression.StepOp.{StepOp}
@@ -18,34 +14,27 @@ use Rattle.stk_tree.specs.Syntax.{ExprTree, ExprTrees, ExprFormTree}
 use Rattle.stk_tree.specs.Syntax as s
 use Rattle.stk_numbers.specs.declared.operators.ArithOp.TheVariants as arith_op
 use Rattle.stk_numbers.specs.declared.operators.ShiftOp.TheVariants as shift_op
-use Rattle.stk_numbers.specs.declared.operators.CompareOp.{CompareOp}
-use Rattle.stk_numbers.specs.declared.operators.CompareOp.TheVariants as compare_op
 use Rattle.stk_numbers.specs.Kinds.{wrap, promote}
 use Rattle.stk_numbers.specs.Values.{moved, absolute}
-use Rattle.stk_rules.specs.Types.{is_scalar, is_void}
+use Rattle.stk_rules.specs.Types.{is_scalar}
 use Rattle.stk_runs.specs.declared.entry.Entry.{Entry}
-use Rattle.stk_runs.specs.declared.entry.Entry.TheVariants.{Ub, Enter, Seen}
-use Rattle.stk_runs.specs.Typings.{Typing, node_of, type_in, number_kind, is_array, bare, converted, stride_in, pointed}
-use Rattle.stk_runs.specs.Operations.{Operator, Operation, arithmetic, shifting, comparing, in_kind, Sort, operates, joins, or_else, and_also, sort_of, assigned_operator, operation_of, step_operation, operated, truth, bit, gives_old, to_address}
-use Rattle.stk_runs.specs.Replacements.{Replaced, replacement}
-use Rattle.stk_runs.specs.Places.{Setting, Target, in_register, in_kept, in_object, unnamed, object_named, target_at, target_of, form_target, member_target}
+use Rattle.stk_runs.specs.Typings.{node_of, type_in, number_kind, is_array, converted, stride_in, pointed}
+use Rattle.stk_runs.specs.Operations.{Operation, arithmetic, shifting, in_kind, assigned_operator, operation_of, step_operation, operated, truth, bit, gives_old, to_address}
+use Rattle.stk_runs.specs.Places.{Target, in_register, in_kept, in_object, unnamed, target_of, member_target}
 use Rattle.stk_runs.specs.Libraries.{Library, absolute_in, copy_bytes, called_library, called_signature, parameters_in, result_in, never_returns}
-use Rattle.stk_runs.specs.Visits.{Use, read, accessed, taken, Role, reading, accessing, taking, as_arm, as_test, accesses, inner_role, indexed_role, unary_role, left_role, right_role, assigned_role, Site, at_expression, Visits, no_visit, visit, both_visits, collected, expression_visits, form_visits, arguments_visits, type_name_visits}
-use Rattle.stk_runs.specs.Changes.{Spot, is_any_kept, call_changes, changes}
-use Rattle.stk_runs.specs.Worlds.{Ran, Went, Cut, World, after, and_then, gives, entered, answered, written}
-use Rattle.stk_runs.specs.Expressions.{Sides, Meaning, alone, only, breaks, number_in, stored_at, place_value, at_place, address_of, name_meaning, own_number, seen, controlled, replaced_by, operate, operator_meaning, operator_sides, comparison_value, right_operand, and_value, or_value, branch_value, binary_meaning, unary_meaning, indexed_from, index_place, step_value, plain_assigned, compound_assigned, assigned_value, call_value, returned, later_parameters, passed, meaning, form_meaning, arguments_values}
-use Rattle.stk_runs.specs.Keys.{Key, load_key, call_key, KeyInfo, site_keys, mention_keys, load_keys, result_keys, number_info}
+use Rattle.stk_runs.specs.Visits.{Use, read, accessed, taken, reading, accessing, taking, as_arm, as_test, inner_role, indexed_role, Site, at_expression, Visits, no_visit, visit, both_visits, expression_visits, arguments_visits, type_name_visits}
+use Rattle.stk_runs.specs.Changes.{call_changes}
+use Rattle.stk_runs.specs.Worlds.{Ran, Went, Cut, and_then, gives}
+use Rattle.stk_runs.specs.Expressions.{Meaning, only, breaks, at_place, controlled, branch_value, unary_meaning, indexed_from, index_place, step_value, plain_assigned, compound_assigned, assigned_value, call_value, returned, later_parameters, passed, meaning, form_meaning, arguments_values}
+use Rattle.stk_runs.specs.Keys.{call_key, result_keys, number_info}
 use Rattle.stk_runs.specs.Paths.{InputMap, KeptNumbers, path_world}
 use Rattle.stk_runs.specs.Executions.{Outside}
-use Rattle.stk_run_laws.specs.Sites.{IsIn}
-use Rattle.stk_run_laws.proofs.Nodes.{Stands, in_right}
-use Rattle.stk_gathering.specs.TypedTree.{kept_node, kept_kind, offset_in, IsStored, IsReadWhole, IsObject, MeansWell, IsTypedName}
-use Rattle.stk_gathering.proofs.Maps.{Ground, IsListed, Good, good_left, good_right}
-use Rattle.stk_gathering.proofs.Join.{EndsIn}
-use Rattle.stk_gathering.proofs.Parts.{Part, Reframes, part_as, part_if, part_then, part_seq, part_tail, part_went, part_cut, part_choose, reframes_left, reframes_right, reframes_then}
-use Rattle.stk_gathering.proofs.Leaves.{real, part_address, part_call, part_write, part_store, ChangesAll}
-use Rattle.stk_gathering.proofs.Frames.{inner_visits, outer_visits, reframes_refl, reframes_first, reframes_second, reframes_grouped, reframes_crossed, reframes_inner, reframes_arm, reframes_test, part_after, part_keep}
-use Rattle.stk_gathering.proofs.Places.{is_register_place, ends_map, ends_then, ends_all, AddressIs, target_address, load_listed, listed_in, PlaceIs, stores_well, ReadsWell, read_scalar, part_place, part_update}
+use Rattle.stk_gathering.specs.TypedTree.{offset_in}
+use Rattle.stk_gathering.proofs.Maps.{Ground, IsListed, Good, good_left}
+use Rattle.stk_gathering.proofs.Parts.{Part, part_as, part_if, part_then, part_seq, part_tail, part_went, part_cut, part_choose, reframes_left, reframes_right}
+use Rattle.stk_gathering.proofs.Leaves.{real, part_address, part_call, part_write, part_store}
+use Rattle.stk_gathering.proofs.Frames.{inner_visits, reframes_first, reframes_crossed, reframes_inner, part_after}
+use Rattle.stk_gathering.proofs.Places.{ends_map, ends_then, ends_all, AddressIs, listed_in, PlaceIs, stores_well, part_update}
 use Rattle.stk_gathering.proofs.Expressions.{plainly, IsSound, only_sound, place_whole, inner_part, at_place_sound, own_reads, own_place, name_sound, arm_part, test_part, whole_sound, binary_sound}
 
 module _ (c : Ground) (n : ℕ) where

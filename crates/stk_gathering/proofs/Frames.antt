@@ -1,22 +1,20 @@
 -- Parts that are visited in another order, or in another role.
-use Rattle.std.proofs.Common.{◌≡◌, ℕ, ◌⊎◌, Bool, true, false, ◌||◌, List, [], ◌∷◌, ◌++◌, ℤ, pos, refl, sym, ap, ◌∙◌, subst, inl, inr}
+use Rattle.std.proofs.Common.{◌≡◌, ℕ, Bool, true, false, ◌||◌, List, ℤ, refl, inl, inr}
 use Rattle.stk_tree.specs.Syntax.{ExprTree, ExprFormTree, StmtTree}
 use Rattle.stk_tree.specs.Syntax as s
 use Rattle.stk_runs.specs.declared.entry.Entry.{Entry}
-use Rattle.stk_runs.specs.declared.entry.Entry.TheVariants.{Enter}
-use Rattle.stk_runs.specs.Typings.{Typing, node_of, bare, statement_node}
-use Rattle.stk_runs.specs.Visits.{Role, reading, as_arm, as_test, inside, Site, at_expression, at_statement, Visits, no_visit, visit, both_visits, scope, collected, expression_visits, form_visits, statement_visits}
-use Rattle.stk_runs.specs.Changes.{Spot, changes}
-use Rattle.stk_runs.specs.Worlds.{Ran, Went, Cut, after, and_then, entered}
-use Rattle.stk_runs.specs.Keys.{KeyInfo, site_keys}
+use Rattle.stk_runs.specs.Typings.{Typing, node_of, bare}
+use Rattle.stk_runs.specs.Visits.{Role, reading, as_arm, as_test, inside, at_expression, Visits, no_visit, visit, both_visits, collected, expression_visits, form_visits, statement_visits}
+use Rattle.stk_runs.specs.Changes.{changes}
+use Rattle.stk_runs.specs.Worlds.{Ran, Went, Cut, after, and_then}
+use Rattle.stk_runs.specs.Keys.{site_keys}
 use Rattle.stk_runs.specs.Paths.{InputMap, KeptNumbers}
 use Rattle.stk_runs.specs.Executions.{Outside}
-use Rattle.stk_run_laws.specs.Sites.{IsIn}
-use Rattle.stk_run_laws.proofs.Nodes.{Stands, Apart, in_left, in_right, in_either}
+use Rattle.stk_run_laws.proofs.Nodes.{Stands, Apart, in_either}
 use Rattle.stk_gathering.proofs.Maps.{Ground, Good, good_left, good_right}
 use Rattle.stk_gathering.proofs.Join.{EndsIn}
 use Rattle.stk_gathering.proofs.Same.{or_left, or_right}
-use Rattle.stk_gathering.proofs.Parts.{Part, Reframes, part_as, part_then, part_seq, part_tail, part_went, part_equal, reframes_left, reframes_right, reframes_then}
+use Rattle.stk_gathering.proofs.Parts.{Part, Reframes, part_as, part_then, part_went, reframes_left, reframes_then}
 
 -- the nodes strictly inside an expression, parentheses aside, and those of the expression and its parentheses
 abbrev pub inner_visits : Typing → Role → ExprTree → Visits

@@ -1,27 +1,26 @@
 -- What runs of a function rest on, from what is asked of the function and of a start.
-use Rattle.std.proofs.Common.{◌≡◌, ℕ, zero, suc, ◌+◌, ◌-◌, ◌^◌, ◌<◌, ◌≤◌, ◌==◌, ◌⊎◌, Bool, true, false, not, ◌&&◌, ◌||◌, List, [], ◌∷◌, ◌++◌, length, ℤ, pos, Option, Some, None, refl, sym, ap, ◌∙◌, subst, inl, inr, arith, get_or, take}
+use Rattle.std.proofs.Common.{◌≡◌, ℕ, ◌+◌, ◌-◌, ◌^◌, ◌<◌, ◌≤◌, ◌==◌, Bool, true, false, not, ◌&&◌, ◌||◌, List, [], ◌∷◌, ◌++◌, length, refl, sym, ap, ◌∙◌, subst, inl, inr, arith, get_or}
 use Rattle.std.proofs.lemmas.Grind.{common_steps}
-use Rattle.std.specs.Prelude.{if◌then◌else◌, filter, map, nat_le, nat_lt, unwrap_or}
+use Rattle.std.specs.Prelude.{filter, map, nat_le, nat_lt, unwrap_or}
 use Rattle.std.specs.Option.{is_some}
 use Rattle.std.specs.List.{list_all}
 use Rattle.stk_ctype.specs.Kinds.{bytes_of}
-use Rattle.stk_ctype.specs.Types.{TypeTree}
 use Rattle.stk_tree.specs.Syntax.{DeclrTree, FunctionTree}
 use Rattle.stk_tree.specs.Syntax as s
 use Rattle.stk_numbers.specs.declared.conditions.Kinds.{Kinds}
 use Rattle.stk_rules.specs.Types.{is_scalar, is_struct}
 use Rattle.stk_runs.specs.Typings.{Typing, number_kind, declarator_node, is_among, object_size}
-use Rattle.stk_runs.specs.Visits.{Visits, both_visits, collected, head_visits, statement_visits}
-use Rattle.stk_runs.specs.Keys.{Key, address_key, KeyInfo, site_keys, parameter_info, memory_info, register_parameters, memory_parameters, is_register, parameters_of, head_of, body_of, function_visits, Object, object_of, objects_in, first_setting, keys_of, objects_of, kept_of, setting_of}
+use Rattle.stk_runs.specs.Visits.{collected, head_visits, statement_visits}
+use Rattle.stk_runs.specs.Keys.{address_key, KeyInfo, site_keys, parameter_info, memory_info, register_parameters, memory_parameters, is_register, parameters_of, head_of, body_of, function_visits, Object, first_setting, keys_of, objects_of, kept_of, setting_of}
 use Rattle.stk_runs.specs.Executions.{Start}
-use Rattle.stk_runs.specs.Maps.{lies_in_memory, shares_byte, stands_apart, are_valid, IsValidStart}
+use Rattle.stk_runs.specs.Maps.{lies_in_memory, shares_byte, stands_apart, IsValidStart}
 use Rattle.stk_run_laws.specs.Sites.{IsIn, Ascends, nodes_of}
-use Rattle.stk_run_laws.specs.Held.{Held, IsClear, AreHeld}
-use Rattle.stk_run_laws.proofs.Nodes.{in_left, in_right, in_either, ascends_left, ascends_right, ascends_apart, distinct_of}
-use Rattle.stk_gathering.specs.TypedTree.{kept_node, kept_kind, IsPart, IsTypedTree}
-use Rattle.stk_gathering.proofs.Maps.{Ground, held, kind_at, IsListed, IsGround, Good}
+use Rattle.stk_run_laws.specs.Held.{IsClear}
+use Rattle.stk_run_laws.proofs.Nodes.{in_right, in_either, ascends_left, ascends_right, ascends_apart, distinct_of}
+use Rattle.stk_gathering.specs.TypedTree.{IsTypedTree}
+use Rattle.stk_gathering.proofs.Maps.{Ground, held, IsListed, IsGround, Good}
 use Rattle.stk_gathering.proofs.Twins.{keys_same}
-use Rattle.stk_gathering.proofs.KeyLists.{in_map, in_image, in_filter, IsKeyOf, SizeWell, keys_well, object_nodes, nodes_append, IsObjectOf, object_key}
+use Rattle.stk_gathering.proofs.KeyLists.{in_map, in_image, in_filter, IsKeyOf, SizeWell, keys_well, object_nodes, nodes_append, object_key}
 use Rattle.stk_gathering.proofs.Objects.{ascends_append, filter_ascends, take_ascends, in_take, there_in, ascends_apart_at, among_of, visited_nodes, parameter_nodes, memory_nodes}
 
 pub all_at : {A : Type 0} (p : A → Bool) (x : A) (xs : List A) → list_all p xs ≡ true → IsIn x xs → p x ≡ true

@@ -1,14 +1,13 @@
 -- What an execution shows, some path run shows too: how that composes, for any two states and whatever relation they stand in.
-use Rattle.std.proofs.Common.{◌≡◌, ℕ, ◌⊎◌, Bool, true, false, List, [], ◌∷◌, ◌++◌, ℤ, refl, sym, ap, ◌∙◌, subst, inl, inr, append_assoc}
+use Rattle.std.proofs.Common.{◌≡◌, ℕ, ◌⊎◌, List, [], ◌∷◌, ◌++◌, ℤ, refl, sym, ap, ◌∙◌, subst, inl, inr, append_assoc}
 use Rattle.std.proofs.lemmas.List.{append-nil}
-use Rattle.std.specs.Prelude.{if◌then◌else◌}
 use Rattle.stk_runs.specs.declared.entry.Entry.{Entry}
 use Rattle.stk_runs.specs.Visits.{Visits, both_visits}
 use Rattle.stk_runs.specs.Paths.{InputMap}
 use Rattle.stk_runs.specs.Worlds.{Ran, Went, Cut, trace_of, after, and_then}
 use Rattle.stk_run_laws.specs.Sites.{IsIn}
 use Rattle.stk_run_laws.proofs.Nodes.{Stands, Apart, in_left, in_right, in_either}
-use Rattle.stk_gathering.proofs.Maps.{Ground, Agree, Covers, OnlyIn, only_refl, only_wider, only_both, agree_only}
+use Rattle.stk_gathering.proofs.Maps.{Ground, Agree, Covers, OnlyIn, only_wider, only_both, agree_only}
 
 -- ---- entries
 

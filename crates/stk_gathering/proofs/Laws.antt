@@ -1,34 +1,29 @@
 -- The laws.
-use Rattle.std.proofs.Common.{◌≡◌, ℕ, ◌==◌, Bool, true, false, not, ◌&&◌, List, [], ◌∷◌, ◌++◌, length, ℤ, pos, Option, Some, None, refl, sym, ap, ◌∙◌, subst, inl, inr}
+use Rattle.std.proofs.Common.{◌≡◌, ℕ, Bool, true, false, not, ◌&&◌, List, [], ◌∷◌, length, ℤ, pos, None, refl, ap, ◌∙◌, subst, inl, inr}
 use Rattle.std.specs.Prelude.{map, replicate}
-use Rattle.std.specs.List.{list_all}
 use Rattle.stk_tree.specs.Syntax.{FunctionTree}
-use Rattle.stk_numbers.specs.declared.conditions.Candidate.{Candidate}
 use Rattle.stk_numbers.specs.declared.conditions.Condition.{Condition}
 use Rattle.stk_numbers.specs.declared.conditions.Kinds.{Kinds}
 use Rattle.stk_runs.specs.declared.entry.Entry.{Entry}
 use Rattle.stk_runs.specs.Typings.{Typing, declarator_node, statement_node}
 use Rattle.stk_runs.specs.Visits.{Visits, statement_visits}
-use Rattle.stk_runs.specs.Worlds.{Ran, Went, Cut, trace_of, Flow}
-use Rattle.stk_runs.specs.Keys.{parameter_key, Object, keys_of, objects_of, kept_of, setting_of, body_of, register_parameters}
+use Rattle.stk_runs.specs.Worlds.{Ran, Went, trace_of, Flow}
+use Rattle.stk_runs.specs.Keys.{parameter_key, keys_of, kept_of, setting_of, body_of, register_parameters}
 use Rattle.stk_runs.specs.Statements.{statement_run}
 use Rattle.stk_runs.specs.Memory.{Memory}
-use Rattle.stk_runs.specs.Paths.{InputMap, KeptNumbers, path, path_ran, path_world, number_under, start_registers, with_parameters}
-use Rattle.stk_runs.specs.Executions.{Answer, Outside, Start, execution, execution_ran}
-use Rattle.stk_runs.specs.Maps.{IsValid, IsValidStart}
-use Rattle.stk_findings.specs.Hits.{hits, breaks, free_of, HitsFree}
-use Rattle.stk_findings.specs.Sufficient.{IsPathSufficient, IsSufficient}
-use Rattle.stk_run_laws.specs.Sites.{IsIn}
+use Rattle.stk_runs.specs.Paths.{InputMap, KeptNumbers, path_ran, path_world, number_under, start_registers}
+use Rattle.stk_runs.specs.Executions.{Answer, Outside, Start, execution_ran}
+use Rattle.stk_runs.specs.Maps.{IsValidStart}
+use Rattle.stk_findings.specs.Hits.{breaks, free_of}
 use Rattle.stk_run_laws.proofs.Keeping.{agrees_none}
 use Rattle.stk_gathering.specs.TypedTree.{IsTypedTree}
-use Rattle.stk_gathering.specs.Shown.{AreAmong, IsShown, Gathering, EndsAlike, EachEndIsShown, WhatSufficesInPathsSuffices}
-use Rattle.stk_gathering.proofs.Maps.{Ground, held, Changes, OnlyIn}
+use Rattle.stk_gathering.specs.Shown.{AreAmong, Gathering, EndsAlike, EachEndIsShown, WhatSufficesInPathsSuffices}
+use Rattle.stk_gathering.proofs.Maps.{Ground, held, OnlyIn}
 use Rattle.stk_gathering.proofs.Join.{EndsToo, Gathered}
-use Rattle.stk_gathering.proofs.Parts.{sides, Part}
-use Rattle.stk_gathering.proofs.Leaves.{real}
+use Rattle.stk_gathering.proofs.Parts.{sides}
 use Rattle.stk_gathering.proofs.Statements.{statement_part}
 use Rattle.stk_gathering.proofs.Grounds.{ground_of, all_at, body_good}
-use Rattle.stk_gathering.proofs.Starts.{numbers_of, under_is, parameters_same, parameters, base, base_covers, base_parameter, fit_start, valid_of}
+use Rattle.stk_gathering.proofs.Starts.{numbers_of, under_is, parameters_same, base, base_covers, base_parameter, fit_start, valid_of}
 
 module _ (ty : Typing) (without : Kinds) (f : FunctionTree) (h : IsTypedTree ty without f) (start : Start) (v : IsValidStart ty without f start) where
   abbrev c : Ground

@@ -1,5 +1,5 @@
 -- What the outside answers: loads, stores, calls, the writes of the outside, registers without initialiser and addresses.
-use Rattle.std.proofs.Common.{◌≡◌, ℕ, zero, suc, ◌+◌, ◌^◌, ◌<◌, ◌==◌, ◌⊎◌, Bool, true, false, List, [], ◌∷◌, ℤ, pos, Option, Some, None, refl, sym, ap, ◌∙◌, subst, arith, get_or, set, inl, inr}
+use Rattle.std.proofs.Common.{◌≡◌, ℕ, ◌+◌, ◌^◌, ◌<◌, ◌==◌, Bool, true, false, List, [], ◌∷◌, ℤ, pos, Option, Some, None, refl, sym, ap, ◌∙◌, subst, arith, get_or, set}
 use Rattle.std.proofs.lemmas.Grind.{common_steps}
 use Rattle.std.specs.Prelude.{if◌then◌else◌, length}
 use Rattle.stk_ctype.specs.declared.kind.IntKind.{IntKind}
@@ -8,26 +8,25 @@ use Rattle.stk_ctype.specs.Types.{TypeTree}
 use Rattle.stk_numbers.specs.Kinds.{fits, wrap}
 use Rattle.stk_numbers.proofs.Wrapping.{wrap_in_range}
 use Rattle.stk_rules.specs.Types.{is_void}
-use Rattle.stk_runs.specs.declared.entry.Entry.{Entry}
 use Rattle.stk_runs.specs.Typings.{number_kind, is_among, converted}
 use Rattle.stk_runs.specs.Operations.{to_address}
 use Rattle.stk_runs.specs.Places.{Target, in_register, in_kept, in_object, unnamed}
 use Rattle.stk_runs.specs.Visits.{Visits}
-use Rattle.stk_runs.specs.Changes.{Spot, register_spot, kept_spot, is_register_spot, is_kept_spot, is_any_kept, stored_in, changes}
-use Rattle.stk_runs.specs.Worlds.{World, Ran, Went, Cut, and_then, gives, told, answered, written}
+use Rattle.stk_runs.specs.Changes.{Spot, register_spot, kept_spot, is_register_spot, is_any_kept, stored_in, changes}
+use Rattle.stk_runs.specs.Worlds.{World, Ran, Went, and_then, gives, told, answered, written}
 use Rattle.stk_runs.specs.Expressions.{number_in, stored_at}
-use Rattle.stk_runs.specs.Keys.{Key, parameter_key, address_key, unset_key, load_key, call_key, loop_key}
-use Rattle.stk_runs.specs.Memory.{Memory, number_at, stored, put_all}
+use Rattle.stk_runs.specs.Keys.{Key, address_key, unset_key, load_key, call_key}
+use Rattle.stk_runs.specs.Memory.{number_at, stored, put_all}
 use Rattle.stk_runs.specs.Paths.{InputMap, KeptNumbers, kept_or, all_forgotten, path_world}
 use Rattle.stk_runs.specs.Executions.{Answer, Outside, next_answer, next_writes, next_number, real_world}
-use Rattle.stk_run_laws.specs.Held.{IsClear, AreHeld, Agrees, Unmoved}
+use Rattle.stk_run_laws.specs.Held.{IsClear, Agrees, Unmoved}
 use Rattle.stk_run_laws.proofs.Nodes.{Stands}
 use Rattle.stk_run_laws.proofs.Bytes.{number_fits}
-use Rattle.stk_run_laws.proofs.Keeping.{unmoved_refl, unmoved_part, unmoved_all, unmoved_clear, unmoved_store, agrees_unmoved, agrees_store, agrees_read, agrees_drop, agrees_all}
+use Rattle.stk_run_laws.proofs.Keeping.{unmoved_part, unmoved_all, unmoved_clear, unmoved_store, agrees_unmoved, agrees_store, agrees_read, agrees_drop, agrees_all}
 use Rattle.stk_gathering.specs.TypedTree.{kept_node, kept_kind, IsObject}
-use Rattle.stk_gathering.proofs.Maps.{Ground, held, kind_at, Changes, Agree, IsListed, Covers, put, put_here, put_only, only_refl, Good}
-use Rattle.stk_gathering.proofs.Join.{Gathered, gathered_cut, gathered_same, EndsIn}
-use Rattle.stk_gathering.proofs.Same.{Fit, Same, SameBy, same_refl, fit_set, same_set, same_memory}
+use Rattle.stk_gathering.proofs.Maps.{Ground, held, kind_at, Changes, IsListed, put, put_here, put_only, only_refl, Good}
+use Rattle.stk_gathering.proofs.Join.{Gathered, gathered_cut, gathered_same}
+use Rattle.stk_gathering.proofs.Same.{Same, SameBy, same_refl, same_set, same_memory}
 use Rattle.stk_gathering.proofs.Parts.{Right, sides, Part}
 
 -- the path run asks the map for one number

@@ -1,5 +1,5 @@
 -- Memory objects have different nodes, so kept ones do.
-use Rattle.std.proofs.Common.{◌≡◌, ℕ, zero, suc, ◌+◌, ◌<◌, ◌≤◌, ◌==◌, ◌⊎◌, Bool, true, false, not, ◌&&◌, ◌||◌, List, [], ◌∷◌, ◌++◌, length, ℤ, Option, Some, None, refl, sym, ap, ◌∙◌, subst, inl, inr, arith, get_or, take}
+use Rattle.std.proofs.Common.{◌≡◌, ℕ, zero, suc, ◌<◌, ◌==◌, ◌⊎◌, Bool, true, false, ◌||◌, List, [], ◌∷◌, ◌++◌, length, Option, Some, None, refl, sym, ap, ◌∙◌, subst, inl, inr, arith, get_or, take}
 use Rattle.std.proofs.lemmas.Grind.{common_steps}
 use Rattle.std.specs.Prelude.{if◌then◌else◌, filter, map}
 use Rattle.std.specs.Option.{is_some}
@@ -9,13 +9,13 @@ use Rattle.stk_tree.specs.declared.expression.UnaryOp.{UnaryOp}
 use Rattle.stk_tree.specs.declared.expression.UnaryOp.TheVariants as unary
 use Rattle.stk_tree.specs.Syntax.{ExprTree, ExprFormTree, DeclrTree, MaybeInitTree}
 use Rattle.stk_tree.specs.Syntax as s
-use Rattle.stk_rules.specs.Types.{is_scalar, is_void}
-use Rattle.stk_runs.specs.Typings.{Typing, number_kind, declarator_node, is_among}
+use Rattle.stk_rules.specs.Types.{is_void}
+use Rattle.stk_runs.specs.Typings.{Typing, declarator_node, is_among}
 use Rattle.stk_runs.specs.Libraries.{Library, called_library, called_signature, result_in}
 use Rattle.stk_runs.specs.Places.{Setting, Target, in_register, in_kept, in_object, unnamed, target_at, form_target}
-use Rattle.stk_runs.specs.Visits.{Use, Role, Site, at_expression, at_declarator, at_statement, at_section, Visits, no_visit, visit, both_visits, scope, unevaluated, collected}
+use Rattle.stk_runs.specs.Visits.{Role, Site, at_expression, at_declarator, at_statement, at_section, Visits, no_visit, visit, both_visits, scope, unevaluated, collected}
 use Rattle.stk_runs.specs.Changes.{assigned_in}
-use Rattle.stk_runs.specs.Keys.{Key, load_key, call_key, loop_key, KeyInfo, address_info, number_info, is_loaded, load_keys, mention_keys, result_keys, unary_keys, form_keys, unset_keys, declarator_keys, loop_keys, site_keys, parameter_info, memory_info, Object, objects_in}
+use Rattle.stk_runs.specs.Keys.{load_key, call_key, address_info, number_info, is_loaded, load_keys, mention_keys, result_keys, unary_keys, form_keys, unset_keys, declarator_keys, loop_keys, site_keys, parameter_info, memory_info}
 use Rattle.stk_run_laws.specs.Sites.{site_node, IsBelow, IsIn, Ascends, nodes_of}
 use Rattle.stk_run_laws.proofs.Nodes.{in_left, in_right, in_either, ascends_left, ascends_right, ascends_apart}
 use Rattle.stk_gathering.proofs.KeyLists.{object_nodes, nodes_append}

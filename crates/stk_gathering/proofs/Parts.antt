@@ -1,19 +1,18 @@
 -- A part of a function: what its path runs ask, what its executions leave, and that path runs show what executions do; and how parts are composed.
-use Rattle.std.proofs.Common.{◌≡◌, ℕ, zero, suc, ◌⊎◌, Bool, true, false, ◌||◌, List, [], ◌∷◌, ◌++◌, ℤ, pos, Option, Some, None, refl, sym, ap, ◌∙◌, subst, inl, inr}
-use Rattle.std.proofs.lemmas.List.{append-nil}
+use Rattle.std.proofs.Common.{◌≡◌, ℕ, Bool, true, false, ◌||◌, List, [], ℤ, refl, sym, ap, ◌∙◌, subst, inl, inr}
 use Rattle.std.specs.Prelude.{if◌then◌else◌}
 use Rattle.stk_runs.specs.declared.entry.Entry.{Entry}
 use Rattle.stk_runs.specs.Visits.{Visits, no_visit, both_visits, collected}
 use Rattle.stk_runs.specs.Changes.{Spot, changes}
-use Rattle.stk_runs.specs.Worlds.{Ran, Went, Cut, after, and_then, gives}
+use Rattle.stk_runs.specs.Worlds.{Ran, Went, Cut, after, and_then}
 use Rattle.stk_runs.specs.Keys.{site_keys}
 use Rattle.stk_runs.specs.Paths.{InputMap, KeptNumbers}
 use Rattle.stk_runs.specs.Executions.{Outside}
 use Rattle.stk_run_laws.specs.Held.{Agrees}
 use Rattle.stk_run_laws.proofs.Nodes.{Stands, in_either}
 use Rattle.stk_gathering.proofs.Maps.{Ground, held, Agree, agree_wider, Covers, only_refl, Good, good_left, good_right}
-use Rattle.stk_gathering.proofs.Join.{Sides, Framed, Gathered, gathered_wider, gathered_as, gathered_cut, gathered_same, EndsIn, FitBy, gathered_then}
-use Rattle.stk_gathering.proofs.Same.{Fit, Same, SameBy, same_refl, or_left, or_right, by_part, by_after, by_from}
+use Rattle.stk_gathering.proofs.Join.{Sides, Gathered, gathered_wider, gathered_as, gathered_cut, gathered_same, EndsIn, FitBy, gathered_then}
+use Rattle.stk_gathering.proofs.Same.{Fit, SameBy, same_refl, or_left, or_right, by_part, by_after, by_from}
 
 -- kept numbers are what the execution's memory gives
 abbrev pub Right : Ground → KeptNumbers → Outside → Type 0

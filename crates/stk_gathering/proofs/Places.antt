@@ -1,35 +1,30 @@
 -- Places: where those by name lie, and loads and stores of them.
-use Rattle.std.proofs.Common.{◌≡◌, ℕ, zero, suc, ◌+◌, ◌^◌, ◌%◌, ◌<◌, ◌==◌, ◌⊎◌, Bool, true, false, not, ◌||◌, List, [], ◌∷◌, ◌++◌, ℤ, pos, Option, Some, None, refl, sym, ap, ◌∙◌, subst, inl, inr, arith, get_or}
+use Rattle.std.proofs.Common.{◌≡◌, ℕ, zero, suc, ◌+◌, ◌^◌, ◌<◌, ◌==◌, Bool, true, false, ◌||◌, List, [], ◌∷◌, ℤ, pos, Option, Some, None, refl, sym, ap, ◌∙◌, subst, inl, arith, get_or}
 use Rattle.std.proofs.lemmas.Grind.{common_steps}
 use Rattle.std.specs.Prelude.{if◌then◌else◌, length}
-use Rattle.std.specs.Option.{is_some}
-use Rattle.stk_ctype.specs.declared.kind.IntKind.{IntKind}
 use Rattle.stk_ctype.specs.Kinds.{bytes_of}
-use Rattle.stk_ctype.specs.Types.{TypeTree, void_type, integer_type, pointer_type, array_type, struct_type, function_type}
+use Rattle.stk_ctype.specs.Types.{TypeTree}
 use Rattle.stk_tree.specs.Syntax.{ExprTree, ExprFormTree}
-use Rattle.stk_tree.specs.Syntax as s
-use Rattle.stk_numbers.specs.Kinds.{fits, wrap}
+use Rattle.stk_numbers.specs.Kinds.{fits}
 use Rattle.stk_numbers.proofs.Wrapping.{wrap_in_range, wrap_twice}
 use Rattle.stk_rules.specs.Types.{is_scalar}
 use Rattle.stk_runs.specs.declared.entry.Entry.{Entry}
-use Rattle.stk_runs.specs.Typings.{Typing, node_of, type_in, number_kind, is_array, bare, is_among, converted}
-use Rattle.stk_runs.specs.Places.{Setting, Target, in_register, in_kept, in_object, unnamed, position_behind, object_target, target_at, target_of, form_target}
-use Rattle.stk_runs.specs.Visits.{Use, read, Role, reading, Site, at_expression, Visits, visit, both_visits, collected, expression_visits, form_visits}
-use Rattle.stk_runs.specs.Changes.{Spot, stored_in, changes, form_changes}
-use Rattle.stk_runs.specs.Worlds.{Ran, Went, Cut, World, after, and_then, gives}
+use Rattle.stk_runs.specs.Typings.{node_of, type_in, number_kind, is_array, bare, is_among, converted}
+use Rattle.stk_runs.specs.Places.{Target, in_register, in_kept, in_object, unnamed, position_behind, object_target, target_at, target_of, form_target}
+use Rattle.stk_runs.specs.Visits.{read, reading, Site, at_expression, Visits, visit, both_visits, collected, expression_visits}
+use Rattle.stk_runs.specs.Changes.{Spot, stored_in, changes}
+use Rattle.stk_runs.specs.Worlds.{Ran, Went, Cut, after, and_then, gives}
 use Rattle.stk_runs.specs.Expressions.{number_in, stored_at, place_value, address_of}
-use Rattle.stk_runs.specs.Keys.{Key, load_key, KeyInfo, is_loaded, load_keys, site_keys, number_info, Object}
+use Rattle.stk_runs.specs.Keys.{Key, load_key, is_loaded, load_keys, site_keys, number_info}
 use Rattle.stk_runs.specs.Paths.{InputMap, KeptNumbers, path_world}
 use Rattle.stk_runs.specs.Executions.{Outside}
-use Rattle.stk_run_laws.specs.Sites.{IsIn}
 use Rattle.stk_run_laws.specs.Held.{IsClear}
-use Rattle.stk_run_laws.proofs.Nodes.{Stands, in_left}
-use Rattle.stk_gathering.specs.TypedTree.{kept_node, kept_kind, offset_in, IsPart, Suits, IsStored, IsReadWhole}
+use Rattle.stk_gathering.specs.TypedTree.{kept_node, kept_kind, offset_in, Suits, IsStored, IsReadWhole}
 use Rattle.stk_gathering.proofs.Maps.{Ground, held, IsListed, IsGround, Good, good_left, good_right}
 use Rattle.stk_gathering.proofs.Join.{EndsIn}
-use Rattle.stk_gathering.proofs.Parts.{Part, Reframes, part_as, part_if, part_then, part_tail, part_went, part_choose, reframes_left, reframes_then}
+use Rattle.stk_gathering.proofs.Parts.{Part, part_as, part_if, part_then, part_tail, reframes_left, reframes_then}
 use Rattle.stk_gathering.proofs.Leaves.{real, LoadsWell, part_load, StoresWell, part_store}
-use Rattle.stk_gathering.proofs.Frames.{inner_visits, outer_visits, reframes_first, reframes_second, reframes_grouped, reframes_split, bare_stands, part_after, part_keep}
+use Rattle.stk_gathering.proofs.Frames.{inner_visits, outer_visits, reframes_first, reframes_grouped, reframes_split, bare_stands, part_after, part_keep}
 
 -- a place is by the name of a register
 abbrev pub is_register_place : Target → Bool

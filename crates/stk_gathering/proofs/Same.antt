@@ -1,15 +1,13 @@
 -- An execution of a part changes no register and no kept object that the part passes over, and registers stay in range.
-use Rattle.std.proofs.Common.{◌≡◌, ℕ, zero, suc, ◌<◌, ◌≤◌, Bool, true, false, not, ◌&&◌, ◌||◌, ◌==◌, List, [], ◌∷◌, length, ℤ, pos, Option, Some, None, refl, sym, ap, ◌∙◌, subst, arith, get_or, set}
+use Rattle.std.proofs.Common.{◌≡◌, ℕ, zero, suc, Bool, true, false, ◌||◌, List, [], ◌∷◌, length, ℤ, pos, refl, ap, ◌∙◌, subst, get_or, set}
 use Rattle.std.proofs.Math.ListN.{length-set}
 use Rattle.std.proofs.lemmas.List.{get_or-set_other}
-use Rattle.std.proofs.lemmas.Grind.{common_steps}
-use Rattle.std.specs.Prelude.{if◌then◌else◌}
 use Rattle.stk_ctype.specs.declared.kind.IntKind.{IntKind}
 use Rattle.stk_numbers.specs.Kinds.{fits}
 use Rattle.stk_runs.specs.declared.entry.Entry.{Entry}
 use Rattle.stk_runs.specs.Typings.{number_kind, is_among}
 use Rattle.stk_runs.specs.Changes.{Spot, register_spot, kept_spot}
-use Rattle.stk_runs.specs.Worlds.{Ran, Went, Cut, after, and_then}
+use Rattle.stk_runs.specs.Worlds.{Ran, Went, Cut, after}
 use Rattle.stk_runs.specs.Executions.{Outside}
 use Rattle.stk_run_laws.specs.Held.{Unmoved}
 use Rattle.stk_run_laws.proofs.Keeping.{unmoved_refl, unmoved_trans, unmoved_part}

@@ -1,8 +1,7 @@
 -- Maps for a start of an execution, and the numbers of a map.
-use Rattle.std.proofs.Common.{◌≡◌, ℕ, zero, suc, ◌+◌, ◌-◌, ◌^◌, ◌%◌, ◌<◌, ◌≤◌, ◌==◌, ◌⊎◌, Bool, true, false, not, ◌&&◌, ◌||◌, List, [], ◌∷◌, ◌++◌, length, ℤ, pos, Option, Some, None, refl, sym, ap, ◌∙◌, subst, inl, inr, arith, get_or, set}
+use Rattle.std.proofs.Common.{◌≡◌, ℕ, zero, suc, ◌+◌, ◌-◌, ◌^◌, ◌<◌, ◌==◌, Bool, true, false, not, ◌&&◌, ◌||◌, List, [], ◌∷◌, ℤ, pos, refl, sym, ap, ◌∙◌, subst, inl, inr, arith, get_or, set}
 use Rattle.std.proofs.Math.Path.{fun_ext}
 use Rattle.std.proofs.Math.Nat.{mod-eq_of_lt}
-use Rattle.std.proofs.lemmas.Grind.{common_steps}
 use Rattle.std.specs.Prelude.{if◌then◌else◌, map, replicate, nat_le, nat_lt}
 use Rattle.std.specs.List.{list_all}
 use Rattle.stk_ctype.specs.declared.kind.IntKind.{IntKind}
@@ -14,13 +13,13 @@ use Rattle.stk_numbers.specs.Kinds.{fits}
 use Rattle.stk_numbers.proofs.Wrapping.{wrap_in_range}
 use Rattle.stk_runs.specs.Typings.{Typing, number_kind, declarator_node, is_among}
 use Rattle.stk_runs.specs.Operations.{to_address}
-use Rattle.stk_runs.specs.Keys.{Key, parameter_key, address_key, unset_key, load_key, call_key, loop_key, KeyInfo, parameter_info, memory_info, register_parameters, memory_parameters, Object, keys_of, objects_of, kept_of}
+use Rattle.stk_runs.specs.Keys.{Key, parameter_key, address_key, unset_key, load_key, call_key, loop_key, KeyInfo, parameter_info, register_parameters, Object, keys_of, objects_of, kept_of}
 use Rattle.stk_runs.specs.Paths.{InputMap, same_key, number_under, with_parameters}
 use Rattle.stk_runs.specs.Executions.{Start}
 use Rattle.stk_runs.specs.Maps.{lies_in_memory, shares_byte, stands_apart, are_valid, AreInRange, addresses_in, IsValid, IsValidStart}
 use Rattle.stk_run_laws.specs.Sites.{IsIn}
 use Rattle.stk_run_laws.proofs.Nodes.{in_left}
-use Rattle.stk_gathering.specs.TypedTree.{IsObject, IsTypedTree}
+use Rattle.stk_gathering.specs.TypedTree.{IsTypedTree}
 use Rattle.stk_gathering.proofs.Maps.{Ground, kind_at, IsListed, Covers, same_is, key_itself}
 use Rattle.stk_gathering.proofs.Same.{Fit, fit_set}
 use Rattle.stk_gathering.proofs.KeyLists.{in_map, in_image, IsKeyOf}

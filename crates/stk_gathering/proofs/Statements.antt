@@ -1,34 +1,28 @@
 -- Path runs show what executions do: statements.
-use Rattle.std.proofs.Common.{◌≡◌, ℕ, zero, suc, ◌⊎◌, Bool, true, false, not, ◌&&◌, ◌||◌, List, [], ◌∷◌, ◌++◌, ℤ, pos, Option, Some, None, refl, sym, ap, ◌∙◌, subst, inl, inr, set}
+use Rattle.std.proofs.Common.{◌≡◌, ℕ, zero, suc, Bool, true, false, not, ◌&&◌, ◌||◌, List, [], ◌∷◌, ℤ, Option, Some, None, refl, sym, ap, ◌∙◌, subst, inl, inr}
 use Rattle.std.proofs.lemmas.List.{append-nil}
-use Rattle.std.proofs.lemmas.Grind.{common_steps}
-use Rattle.std.specs.Prelude.{if◌then◌else◌, ◌==◌}
+use Rattle.std.specs.Prelude.{if◌then◌else◌}
 use Rattle.stk_base.specs.declared.span.Span.{Span}
-use Rattle.stk_ctype.specs.declared.kind.IntKind.{IntKind}
 use Rattle.stk_tree.specs.Syntax.{ExprTree, MaybeExprTree, InitTree, MaybeInitTree, ItemTree, ItemTrees, DeclrTree, DeclrTrees, DeclarationTree, StartTree, LabelTrees, StmtTree, StmtTrees, MaybeStmtTree, StmtFormTree, PartTree, PartTrees, SectionTree, SectionTrees}
 use Rattle.stk_tree.specs.Syntax as s
-use Rattle.stk_numbers.specs.Kinds.{fits, wrap, promote}
+use Rattle.stk_numbers.specs.Kinds.{wrap, promote}
 use Rattle.stk_rules.specs.Types.{is_scalar}
-use Rattle.stk_runs.specs.declared.entry.Entry.{Entry}
-use Rattle.stk_runs.specs.declared.entry.Entry.TheVariants.{Ub, Enter, Seen}
+use Rattle.stk_runs.specs.declared.entry.Entry.TheVariants.{Enter}
 use Rattle.stk_runs.specs.Typings.{number_kind, converted, statement_node, type_in, is_among}
 use Rattle.stk_runs.specs.Operations.{truth}
-use Rattle.stk_runs.specs.Places.{Setting, Target, in_register, in_kept, in_object, unnamed, target_at, object_target, position_behind}
-use Rattle.stk_runs.specs.Visits.{reading, as_test, Site, at_declarator, at_statement, at_section, Visits, no_visit, visit, both_visits, scope, collected, expression_visits, maybe_visits, items_visits, item_visits, initialiser_visits, designators_visits, tail_visits, initial_visits, is_static, declarator_visits, declarators_visits, declaration_visits, start_visits, labels_visits, statement_visits, statement_form_visits, maybe_statement_visits, statements_visits, parts_visits, part_visits, sections_visits, section_visits, turn_visits, parts_declare, start_declares}
-use Rattle.stk_runs.specs.Changes.{Spot, register_spot, kept_spot, is_register_spot, is_kept_spot, is_any_kept, stored_in, declarator_changes, initial_changes, is_own, changes, assigned_in, forgotten_in}
-use Rattle.stk_runs.specs.Worlds.{Ran, Went, Cut, World, after, and_then, gives, entered, answered, written, Flow, Normal, Break, Continue, Return, next, give_back, Turned, Another, Ended, repeated, behind_body, left_switch}
-use Rattle.stk_runs.specs.Expressions.{value_of, test_of, meaning, stored_at, address_of}
+use Rattle.stk_runs.specs.Places.{Target, in_register, in_kept, in_object, unnamed, target_at, object_target, position_behind}
+use Rattle.stk_runs.specs.Visits.{reading, as_test, Site, at_declarator, at_statement, at_section, Visits, no_visit, visit, both_visits, scope, expression_visits, maybe_visits, items_visits, item_visits, initialiser_visits, designators_visits, tail_visits, initial_visits, is_static, declarator_visits, declarators_visits, declaration_visits, start_visits, labels_visits, statement_visits, statement_form_visits, maybe_statement_visits, statements_visits, parts_visits, part_visits, sections_visits, section_visits, turn_visits, parts_declare, start_declares}
+use Rattle.stk_runs.specs.Changes.{Spot, is_any_kept, stored_in, declarator_changes, initial_changes, is_own, changes}
+use Rattle.stk_runs.specs.Worlds.{Ran, Went, Cut, and_then, gives, entered, written, Flow, Normal, Break, Continue, Return, next, Turned, Another, Ended, behind_body, left_switch}
+use Rattle.stk_runs.specs.Expressions.{value_of, test_of, stored_at, address_of}
 use Rattle.stk_runs.specs.Declarations.{items_run, item_run, initialiser_run, begun_with, begun_without, automatic_run, declarator_run, declarators_run, declaration_run}
-use Rattle.stk_runs.specs.Statements.{discarded_run, start_run, return_run, chosen, from_chosen, switch_run, loop_run, turned_body, while_turn, do_turn, statement_run, statement_form_run, otherwise_run, statements_run, parts_run, part_run, sections_run, section_run}
-use Rattle.stk_runs.specs.Keys.{Key, unset_key, KeyInfo, declarator_keys, site_keys, number_info}
+use Rattle.stk_runs.specs.Statements.{discarded_run, start_run, return_run, chosen, from_chosen, turned_body, while_turn, do_turn, statement_run, statement_form_run, otherwise_run, statements_run, parts_run, part_run, sections_run, section_run}
+use Rattle.stk_runs.specs.Keys.{unset_key, declarator_keys, number_info}
 use Rattle.stk_runs.specs.Paths.{InputMap, KeptNumbers, path_world}
 use Rattle.stk_runs.specs.Executions.{Outside}
-use Rattle.stk_run_laws.specs.Sites.{IsIn}
-use Rattle.stk_run_laws.proofs.Nodes.{Stands}
 use Rattle.stk_gathering.specs.TypedTree.{Suits}
-use Rattle.stk_gathering.proofs.Maps.{Ground, IsListed, Good, good_left, good_right}
-use Rattle.stk_gathering.proofs.Join.{EndsIn}
-use Rattle.stk_gathering.proofs.Parts.{Part, Reframes, part_as, part_if, part_then, part_seq, part_tail, part_went, part_equal, part_choose, reframes_left, reframes_right, reframes_then}
+use Rattle.stk_gathering.proofs.Maps.{Ground, IsListed, Good}
+use Rattle.stk_gathering.proofs.Parts.{Part, Reframes, part_as, part_seq, part_tail, part_went, part_equal, part_choose, reframes_left, reframes_right, reframes_then}
 use Rattle.stk_gathering.proofs.Leaves.{real, part_write, part_store, part_unset, part_begin}
 use Rattle.stk_gathering.proofs.Frames.{reframes_first, reframes_second, reframes_swapped, reframes_grouped, reframes_alone, reframes_statement, part_after}
 use Rattle.stk_gathering.proofs.Places.{AddressIs, target_address, listed_in, stores_well}

@@ -1,24 +1,24 @@
 -- Loops and scopes: a path run shows what any turn of an execution does.
-use Rattle.std.proofs.Common.{◌≡◌, ℕ, zero, suc, ◌<◌, ◌==◌, ◌⊎◌, Option, None, Bool, true, false, not, ◌&&◌, ◌||◌, List, [], ◌∷◌, ◌++◌, length, ℤ, pos, refl, sym, ap, ◌∙◌, subst, inl, inr, append_assoc, get_or, set}
+use Rattle.std.proofs.Common.{◌≡◌, ℕ, zero, suc, ◌==◌, ◌⊎◌, None, Bool, true, false, not, ◌&&◌, List, [], ◌∷◌, ◌++◌, ℤ, pos, refl, sym, ap, ◌∙◌, subst, inl, inr, append_assoc, get_or}
 use Rattle.std.proofs.lemmas.List.{append-nil}
-use Rattle.std.specs.Prelude.{if◌then◌else◌, filter, map}
+use Rattle.std.specs.Prelude.{if◌then◌else◌}
 use Rattle.stk_numbers.specs.Kinds.{fits}
 use Rattle.stk_tree.specs.Syntax.{StmtFormTree}
 use Rattle.stk_runs.specs.declared.entry.Entry.{Entry}
 use Rattle.stk_runs.specs.Typings.{number_kind, is_among}
-use Rattle.stk_runs.specs.Visits.{Site, at_statement, Visits, visit, both_visits, scope, turn_visits, collected}
-use Rattle.stk_runs.specs.Changes.{Spot, register_spot, kept_spot, is_own, changes, assigned_in, forgotten_in}
-use Rattle.stk_runs.specs.Worlds.{World, Ran, Went, Cut, trace_of, after, Flow, give_back, restored, Turned, Another, Ended, again, repeated}
+use Rattle.stk_runs.specs.Visits.{at_statement, Visits, visit, both_visits, scope, turn_visits}
+use Rattle.stk_runs.specs.Changes.{Spot, register_spot, changes, assigned_in, forgotten_in}
+use Rattle.stk_runs.specs.Worlds.{Ran, Went, Cut, trace_of, after, Flow, give_back, Turned, Another, Ended, again, repeated}
 use Rattle.stk_runs.specs.Statements.{loop_run}
-use Rattle.stk_runs.specs.Keys.{Key, parameter_key, address_key, unset_key, load_key, call_key, loop_key, KeyInfo, loop_keys, number_info, site_keys}
+use Rattle.stk_runs.specs.Keys.{Key, parameter_key, address_key, unset_key, load_key, call_key, loop_key, loop_keys, number_info}
 use Rattle.stk_runs.specs.Paths.{InputMap, KeptNumbers, forgotten, reset_all, path_world}
 use Rattle.stk_runs.specs.Executions.{Outside}
 use Rattle.stk_run_laws.specs.Sites.{IsIn}
 use Rattle.stk_run_laws.proofs.Nodes.{Stands}
 use Rattle.stk_run_laws.proofs.Keeping.{agrees_forget}
-use Rattle.stk_gathering.proofs.Maps.{Ground, held, kind_at, Changes, Agree, agree_wider, IsListed, Covers, OnlyIn, only_refl, only_both, put, put_here, put_there, put_only, Good, good_left, good_right}
-use Rattle.stk_gathering.proofs.Join.{Incl, incl_more, place, EndToo, HitToo, EndsToo, Gathered, gathered_cut, Shows, trace_after}
-use Rattle.stk_gathering.proofs.Same.{Fit, Same, SameBy, same_refl, same_trans, or_left, or_right, by_part, by_after, by_from}
+use Rattle.stk_gathering.proofs.Maps.{Ground, held, Changes, agree_wider, IsListed, Covers, OnlyIn, only_refl, only_both, put, put_here, put_there, put_only, Good, good_left, good_right}
+use Rattle.stk_gathering.proofs.Join.{Incl, incl_more, place, HitToo, EndsToo, Gathered, gathered_cut, Shows, trace_after}
+use Rattle.stk_gathering.proofs.Same.{Fit, Same, SameBy, same_refl, same_trans, or_left, by_part, by_after, by_from}
 use Rattle.stk_gathering.proofs.Parts.{Right, sides, Part}
 use Rattle.stk_gathering.proofs.Leaves.{real}
 use Rattle.stk_gathering.proofs.Registers.{same_at, apart_at, reset_reaches, reset_same, filter_keeps, restored_length, restored_at}

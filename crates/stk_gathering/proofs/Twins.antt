@@ -1,7 +1,7 @@
 -- The keys of a function don't depend on which objects are kept.
 use Rattle.std.proofs.Common.{◌≡◌, ℕ, ◌==◌, Bool, true, false, not, ◌&&◌, ◌||◌, List, [], ◌∷◌, ◌++◌, Option, Some, None, refl, sym, ap, ◌∙◌}
 use Rattle.std.proofs.Math.Path.{fun_ext}
-use Rattle.std.specs.Prelude.{if◌then◌else◌, filter, map}
+use Rattle.std.specs.Prelude.{if◌then◌else◌, filter}
 use Rattle.std.specs.Option.{is_some}
 use Rattle.stk_base.specs.declared.span.Span.{Span}
 use Rattle.stk_ctype.specs.Types.{TypeTree}
@@ -13,8 +13,8 @@ use Rattle.stk_rules.specs.Types.{is_scalar}
 use Rattle.stk_runs.specs.Typings.{is_among}
 use Rattle.stk_runs.specs.Places.{Setting, Target, in_register, in_kept, in_object, unnamed, object_named, position_behind, object_target, target_at, member_target, target_of, form_target}
 use Rattle.stk_runs.specs.Visits.{Use, read, accessed, taken, Role, Site, at_expression, at_declarator, at_statement, at_section, Visits, no_visit, visit, both_visits, scope, unevaluated, collected, turn_visits}
-use Rattle.stk_runs.specs.Changes.{Spot, register_spot, stored_in, form_changes, declarator_changes, initial_changes, site_changes, is_own, changes, assigned_in}
-use Rattle.stk_runs.specs.Keys.{KeyInfo, load_key, address_info, number_info, is_loaded, load_keys, mention_keys, name_keys, unary_keys, form_keys, unset_keys, declarator_keys, loop_keys, site_keys}
+use Rattle.stk_runs.specs.Changes.{register_spot, stored_in, form_changes, declarator_changes, initial_changes, site_changes, is_own, changes, assigned_in}
+use Rattle.stk_runs.specs.Keys.{KeyInfo, load_key, address_info, number_info, is_loaded, load_keys, mention_keys, unary_keys, form_keys, unset_keys, declarator_keys, loop_keys, site_keys}
 
 -- the setting with other kept objects
 abbrev pub with_kept : Setting → List ℕ → Setting

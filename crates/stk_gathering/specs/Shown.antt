@@ -6,7 +6,7 @@ use Rattle.stk_numbers.specs.declared.conditions.Condition.{Condition}
 use Rattle.stk_numbers.specs.declared.conditions.Kinds.{Kinds}
 use Rattle.stk_runs.specs.declared.entry.Entry.{Entry}
 use Rattle.stk_runs.specs.Typings.{Typing}
-use Rattle.stk_runs.specs.Worlds.{Flow, Went, trace_of}
+use Rattle.stk_runs.specs.Worlds.{Flow, Went}
 use Rattle.stk_runs.specs.Keys.{keys_of, setting_of}
 use Rattle.stk_runs.specs.Memory.{Memory, number_at}
 use Rattle.stk_runs.specs.Paths.{KeptNumbers, path, path_ran, number_under}

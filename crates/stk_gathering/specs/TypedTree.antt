@@ -2,9 +2,7 @@
 -- tree: what a name means is a register, an enumerator or an object, what is read is a scalar or an array, and what is stored to is a scalar
 -- that lies in its object (C11 6.3.2.1, 6.5.2.4, 6.5.16).
 use Rattle.std.specs.Prelude.{ℕ, ◌+◌, ◌≤◌, ◌≡◌, ◌||◌, Bool, true, false, List, ◌++◌, map, Option, Some, None, ℤ, get_or}
-use Rattle.stk_base.specs.declared.span.Span.{Span}
 use Rattle.stk_ctype.specs.declared.kind.IntKind.{IntKind}
-use Rattle.stk_ctype.specs.declared.kind.IntKind.TheVariants as kind
 use Rattle.stk_ctype.specs.Kinds.{bytes_of}
 use Rattle.stk_ctype.specs.Types.{TypeTree}
 use Rattle.stk_tree.specs.declared.expression.UnaryOp.{UnaryOp}

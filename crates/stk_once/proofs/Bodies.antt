@@ -1,27 +1,27 @@
 -- What the runs of statements make, by cases on the statement.
-use Rattle.std.proofs.Common.{◌≡◌, ℕ, zero, suc, ◌⊎◌, Bool, true, false, List, [], ◌∷◌, ◌++◌, ℤ, pos, Option, Some, None, refl, sym, ap, ◌∙◌, subst, inl, inr}
+use Rattle.std.proofs.Common.{◌≡◌, ℕ, zero, suc, Bool, true, false, List, [], ℤ, Option, Some, None, refl, sym, subst, inl, inr}
 use Rattle.std.specs.Prelude.{if◌then◌else◌, set}
 use Rattle.stk_tree.specs.Syntax.{ExprTree, MaybeExprTree, InitTree, MaybeInitTree, ItemTree, ItemTrees, DeclrTree, DeclrTrees, DeclarationTree, StartTree, LabelTrees, StmtTree, StmtTrees, MaybeStmtTree, StmtFormTree, PartTree, PartTrees, SectionTree, SectionTrees}
 use Rattle.stk_tree.specs.Syntax as s
 use Rattle.stk_rules.specs.Types.{is_scalar}
 use Rattle.stk_runs.specs.declared.entry.Entry.{Entry}
 use Rattle.stk_runs.specs.declared.entry.Entry.TheVariants.{Ub, Enter, Seen}
-use Rattle.stk_runs.specs.Typings.{number_kind, converted, statement_node, type_in}
+use Rattle.stk_runs.specs.Typings.{number_kind, converted, statement_node}
 use Rattle.stk_runs.specs.Operations.{truth}
 use Rattle.stk_runs.specs.Places.{Setting, Target, in_register, in_kept, in_object, unnamed, target_at}
-use Rattle.stk_runs.specs.Visits.{reading, as_test, Site, at_declarator, at_statement, at_section, Visits, no_visit, visit, both_visits, scope, expression_visits, maybe_visits, items_visits, item_visits, initialiser_visits, designators_visits, tail_visits, initial_visits, is_static, declarator_visits, declarators_visits, declaration_visits, start_visits, labels_visits, statement_visits, statement_form_visits, maybe_statement_visits, statements_visits, parts_visits, part_visits, sections_visits, section_visits, parts_declare, start_declares}
+use Rattle.stk_runs.specs.Visits.{reading, as_test, at_declarator, at_statement, at_section, Visits, no_visit, visit, both_visits, expression_visits, maybe_visits, items_visits, item_visits, initialiser_visits, designators_visits, tail_visits, initial_visits, is_static, declarator_visits, declarators_visits, declaration_visits, start_visits, labels_visits, statement_visits, statement_form_visits, maybe_statement_visits, statements_visits, parts_visits, part_visits, sections_visits, section_visits, parts_declare, start_declares}
 use Rattle.stk_runs.specs.Changes.{assigned_in, forgotten_in}
-use Rattle.stk_runs.specs.Worlds.{Ran, Went, Cut, World, trace_of, and_then, gives, entered, answered, written, Flow, Normal, Break, Continue, Return, next, give_back, Turned, Another, Ended, repeated, behind_body, left_switch}
-use Rattle.stk_runs.specs.Expressions.{value_of, test_of, meaning, stored_at, address_of}
+use Rattle.stk_runs.specs.Worlds.{Ran, World, trace_of, and_then, gives, entered, answered, Flow, Normal, Turned, Ended}
+use Rattle.stk_runs.specs.Expressions.{value_of, test_of, stored_at, address_of}
 use Rattle.stk_runs.specs.Declarations.{items_run, item_run, initialiser_run, begun_with, begun_without, automatic_run, declarator_run, declarators_run, declaration_run}
-use Rattle.stk_runs.specs.Statements.{discarded_run, start_run, return_run, chosen, from_chosen, switch_run, loop_run, turned_body, while_turn, do_turn, statement_run, statement_form_run, otherwise_run, statements_run, parts_run, part_run, sections_run, section_run}
+use Rattle.stk_runs.specs.Statements.{discarded_run, start_run, return_run, chosen, from_chosen, loop_run, turned_body, while_turn, do_turn, statement_run, statement_form_run, otherwise_run, statements_run, parts_run, part_run, sections_run, section_run}
 use Rattle.stk_run_laws.specs.Sites.{EachSite}
-use Rattle.stk_run_laws.proofs.Nodes.{Stands, Distinct}
+use Rattle.stk_run_laws.proofs.Nodes.{Distinct}
 use Rattle.stk_once.specs.TypedOperands.{SiteHasScalarOperand}
-use Rattle.stk_once.proofs.Traces.{SameEvent, Says, says_stands, Traced, traced_as}
+use Rattle.stk_once.proofs.Traces.{SameEvent, Says, says_stands, Traced}
 use Rattle.stk_once.proofs.Faces.{Makes, makes_then, makes_as, makes_left, makes_right, makes_none, makes_if, makes_front, makes_tail}
 use Rattle.stk_once.proofs.Expressions.{makes_test}
-use Rattle.stk_once.proofs.Values.{sound, each_role, answered_none, written_none, stored_none}
+use Rattle.stk_once.proofs.Values.{sound, each_role, written_none}
 use Rattle.stk_once.proofs.Statements.{makes_next, makes_body, makes_scope, left_trace, makes_repeated, makes_entered, makes_entered_then}
 
 module _ (g : Setting) (One : Type 0) (S : Type 0) (w : World S) (only : One → w.turns ≡ 1) where

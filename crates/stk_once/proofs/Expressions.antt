@@ -1,31 +1,20 @@
 -- What evaluations of expressions make.
-use Rattle.std.proofs.Common.{◌≡◌, ℕ, zero, suc, ◌⊎◌, Bool, true, false, List, [], ◌∷◌, ◌++◌, ℤ, pos, Option, Some, None, refl, sym, ap, ◌∙◌, subst, inl, inr}
+use Rattle.std.proofs.Common.{◌≡◌, ℕ, Bool, true, false, List, [], ◌∷◌, ◌++◌, ℤ, None, refl, sym, subst, inl, inr}
 use Rattle.std.proofs.lemmas.List.{append-nil}
-use Rattle.std.specs.Prelude.{if◌then◌else◌, get_or, option_map}
-use Rattle.stk_ctype.specs.Types.{TypeTree, TypeTrees}
-use Rattle.stk_tree.specs.declared.expression.UnaryOp.{UnaryOp}
-use Rattle.stk_tree.specs.declared.expression.UnaryOp.TheVariants as unary
-use Rattle.stk_tree.specs.declared.expression.BinaryOp.{BinaryOp}
-use Rattle.stk_tree.specs.declared.expression.AssignOp.{AssignOp}
-use Rattle.stk_tree.specs.declared.expression.StepOp.{StepOp}
+use Rattle.std.specs.Prelude.{if◌then◌else◌}
 use Rattle.stk_tree.specs.Syntax.{ExprTree, ExprTrees, MaybeExprTree, ExprFormTree}
 use Rattle.stk_tree.specs.Syntax as s
-use Rattle.stk_numbers.specs.declared.operators.CompareOp.{CompareOp}
 use Rattle.stk_runs.specs.declared.entry.Entry.{Entry}
 use Rattle.stk_runs.specs.declared.entry.Entry.TheVariants.{Ub, Enter, Seen}
-use Rattle.stk_runs.specs.Typings.{Typing, node_of, type_in, number_kind, is_array, bare, bare_form}
-use Rattle.stk_runs.specs.Operations.{Operator, Operation, arithmetic, shifting, comparing, Sort, operates, joins, or_else, and_also, sort_of, assigned_operator, truth}
-use Rattle.stk_runs.specs.Replacements.{Replaced, replacement}
-use Rattle.stk_runs.specs.Places.{Setting, Target, in_register, in_kept, in_object, unnamed}
-use Rattle.stk_runs.specs.Libraries.{Library, absolute_in, copy_bytes, called_library, called_signature, parameters_in, result_in, never_returns}
-use Rattle.stk_runs.specs.Visits.{Use, read, accessed, taken, Role, reading, accessing, taking, as_arm, as_test, inside, accesses, inner_role, indexed_role, unary_role, left_role, right_role, assigned_role, Site, at_expression, Visits, no_visit, visit, both_visits, expression_visits, form_visits, arguments_visits}
-use Rattle.stk_runs.specs.Worlds.{Ran, Went, Cut, World, trace_of, after, and_then, gives, entered, answered, written}
-use Rattle.stk_runs.specs.Expressions.{Sides, Meaning, alone, only, breaks, number_in, stored_at, place_value, at_place, name_meaning, own_number, compares, form_compares, is_comparison, seen, controlled, replaced_by, operate, operator_meaning, operator_sides, comparison_value, right_operand, and_value, or_value, branch_value, binary_meaning, unary_meaning, indexed_from, index_place, step_value, plain_assigned, compound_assigned, assigned_value, call_value, returned, later_parameters, meaning, form_meaning, arguments_values}
-use Rattle.stk_run_laws.specs.Sites.{EachSite}
+use Rattle.stk_runs.specs.Typings.{node_of, bare}
+use Rattle.stk_runs.specs.Operations.{arithmetic, shifting, comparing, Sort, operates, joins, or_else, and_also, sort_of, truth}
+use Rattle.stk_runs.specs.Places.{Setting}
+use Rattle.stk_runs.specs.Visits.{reading, as_arm, as_test, at_expression, visit, both_visits, expression_visits, form_visits}
+use Rattle.stk_runs.specs.Worlds.{Ran, Went, Cut, trace_of, entered}
+use Rattle.stk_runs.specs.Expressions.{compares, form_compares, is_comparison, controlled}
 use Rattle.stk_run_laws.proofs.Nodes.{Stands, Distinct}
-use Rattle.stk_once.specs.TypedOperands.{SiteHasScalarOperand}
-use Rattle.stk_once.proofs.Traces.{entry_node, SameEvent, OtherSeen, sort_sees, form_sees, Says, says_stands, Traced, traced_nil, traced_as}
-use Rattle.stk_once.proofs.Faces.{Makes, makes_then, makes_swapped, makes_as, makes_left, makes_right, makes_none, makes_if, makes_grouped, makes_two, traced_behind, makes_front, breaks_traced, trace_after}
+use Rattle.stk_once.proofs.Traces.{SameEvent, sort_sees, form_sees, Says, says_stands, Traced, traced_as}
+use Rattle.stk_once.proofs.Faces.{Makes, traced_behind, makes_front}
 
 -- ---- branches and controlling expressions: the role of the whole changes, and nothing in it
 

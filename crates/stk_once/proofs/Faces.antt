@@ -1,5 +1,5 @@
 -- How what runs make is composed.
-use Rattle.std.proofs.Common.{◌≡◌, ℕ, zero, suc, ◌<◌, ◌⊎◌, Bool, true, false, List, [], ◌∷◌, ◌++◌, ℤ, Option, Some, None, refl, sym, ap, ◌∙◌, subst, inl, inr, arith}
+use Rattle.std.proofs.Common.{◌≡◌, ℕ, ◌<◌, ◌⊎◌, Bool, true, false, List, [], ◌∷◌, ◌++◌, ℤ, refl, sym, ap, ◌∙◌, subst, inl, inr, arith}
 use Rattle.std.proofs.lemmas.List.{append-nil}
 use Rattle.std.specs.Prelude.{if◌then◌else◌, not, filter}
 use Rattle.stk_tree.specs.Syntax.{ExprFormTree}
@@ -10,13 +10,13 @@ use Rattle.stk_runs.specs.declared.entry.Entry.TheVariants.{Ub, Enter, Seen}
 use Rattle.stk_runs.specs.Operations.{Test}
 use Rattle.stk_runs.specs.Conditions.{tests_at, conditions_of, violated, form_tests}
 use Rattle.stk_runs.specs.Places.{Setting}
-use Rattle.stk_runs.specs.Visits.{accesses, Role, Site, at_expression, Visits, no_visit, visit, both_visits, scope}
-use Rattle.stk_runs.specs.Worlds.{Ran, Went, Cut, trace_of, after, and_then, entered, Flow, Normal, Break, Continue, Return, next, give_back, Turned, Another, Ended, again, repeated, behind_body, left_switch}
+use Rattle.stk_runs.specs.Visits.{accesses, Role, Site, at_expression, Visits, visit, both_visits}
+use Rattle.stk_runs.specs.Worlds.{Ran, Went, Cut, trace_of, after, and_then, entered}
 use Rattle.stk_runs.specs.Expressions.{breaks}
-use Rattle.stk_run_laws.specs.Sites.{site_node, IsIn}
-use Rattle.stk_run_laws.proofs.Nodes.{Stands, Apart, Distinct, in_left, in_right, in_either}
+use Rattle.stk_run_laws.specs.Sites.{IsIn}
+use Rattle.stk_run_laws.proofs.Nodes.{Distinct, in_either}
 use Rattle.stk_once.proofs.Tests.{AreAbove, Ascend, tests_ascend}
-use Rattle.stk_once.proofs.Traces.{entry_node, SameEvent, IsNew, AreOnce, once_append, SiteSays, Says, says_stands, Traced, traced_nil, traced_both, traced_swapped, traced_as, traced_left, traced_right}
+use Rattle.stk_once.proofs.Traces.{SameEvent, AreOnce, once_append, SiteSays, Says, Traced, traced_nil, traced_both, traced_swapped, traced_as, traced_left, traced_right}
 
 pub trace_after : {A S : Type 0} (t : List Entry) (x : Ran A S) → trace_of (after t x) ≡ t ++ trace_of x
 trace_after t (Went x r m u) = refl

@@ -1,18 +1,17 @@
 -- The laws.
-use Rattle.std.proofs.Common.{◌≡◌, ◌≢◌, ℕ, ◌==◌, Bool, true, false, List, [], ◌∷◌, ◌++◌, ℤ, Option, refl, sym, ap, ◌∙◌, subst, inl, inr, arith}
-use Rattle.std.specs.Prelude.{◌&&◌, replicate, None, length}
+use Rattle.std.proofs.Common.{◌≡◌, ℕ, ◌==◌, Bool, true, false, List, [], ◌∷◌, ◌++◌, ℤ, Option, refl, sym, ◌∙◌, subst, inl, inr}
+use Rattle.std.specs.Prelude.{replicate, None, length}
 use Rattle.stk_tree.specs.Syntax.{FunctionTree}
 use Rattle.stk_numbers.specs.declared.conditions.CandKind.{CandKind}
 use Rattle.stk_numbers.specs.declared.conditions.CandKind.TheVariants.{Arm, AlwaysTrue, AlwaysFalse, Algebra}
 use Rattle.stk_numbers.specs.declared.conditions.Candidate.{Candidate}
-use Rattle.stk_numbers.specs.declared.conditions.Condition.{Condition}
 use Rattle.stk_numbers.specs.declared.conditions.Kinds.{Kinds}
 use Rattle.stk_runs.specs.declared.entry.Entry.{Entry}
 use Rattle.stk_runs.specs.declared.entry.Entry.TheVariants.{Ub, Enter, Seen}
 use Rattle.stk_runs.specs.Typings.{Typing}
-use Rattle.stk_runs.specs.Visits.{head_visits, statement_visits}
+use Rattle.stk_runs.specs.Visits.{statement_visits}
 use Rattle.stk_runs.specs.Worlds.{World, trace_of}
-use Rattle.stk_runs.specs.Keys.{keys_of, setting_of, head_of, body_of, function_visits, parameter_key}
+use Rattle.stk_runs.specs.Keys.{keys_of, setting_of, body_of, function_visits, parameter_key}
 use Rattle.stk_runs.specs.Paths.{KeptNumbers, path, path_world, start_registers, function_run, number_under}
 use Rattle.stk_runs.specs.Executions.{Outside, real_world}
 use Rattle.stk_findings.specs.Hits.{seen_hits, is_arm, hits, HitsFree}
@@ -21,7 +20,7 @@ use Rattle.stk_run_laws.proofs.Nodes.{distinct_of}
 use Rattle.stk_once.specs.TypedOperands.{HasScalarOperands}
 use Rattle.stk_once.specs.Listed.{IsListed, PathRunsAreListed, ExecutionsAreListed}
 use Rattle.stk_once.specs.Once.{IsOnce, EachNodeIsEvaluatedOnce, ASufficientSetHasAMember}
-use Rattle.stk_once.proofs.Traces.{SameEvent, AreOnce, Says, Traced}
+use Rattle.stk_once.proofs.Traces.{SameEvent, AreOnce, Traced}
 use Rattle.stk_once.proofs.Lists.{violated_in, hit_in, same_of, and_right}
 use Rattle.stk_once.proofs.Bodies.{statement_makes}
 

@@ -1,7 +1,7 @@
 -- What entries speak of is in the lists, and the lists are in order.
-use Rattle.std.proofs.Common.{◌≡◌, ◌≢◌, ℕ, zero, suc, ◌<◌, ◌==◌, ◌⊎◌, Bool, true, false, List, [], ◌∷◌, ◌++◌, ℤ, Option, Some, None, refl, sym, ap, ◌∙◌, subst, inl, inr, arith}
+use Rattle.std.proofs.Common.{◌≡◌, ℕ, ◌<◌, ◌==◌, Bool, true, false, List, [], ◌∷◌, ◌++◌, Option, Some, None, refl, sym, ap, ◌∙◌, subst, inl, inr, arith}
 use Rattle.std.proofs.lemmas.Grind.{common_steps}
-use Rattle.std.specs.Prelude.{◌&&◌, not, map}
+use Rattle.std.specs.Prelude.{◌&&◌}
 use Rattle.stk_tree.specs.Syntax.{ExprTree, ExprFormTree, FunctionTree}
 use Rattle.stk_tree.specs.Syntax as s
 use Rattle.stk_numbers.specs.declared.conditions.CandKind.{CandKind}
@@ -15,14 +15,14 @@ use Rattle.stk_runs.specs.declared.entry.Entry.TheVariants.{Ub, Enter, Seen}
 use Rattle.stk_runs.specs.Typings.{Typing}
 use Rattle.stk_runs.specs.Operations.{arithmetic, shifting, comparing, Sort, operates, joins, or_else, and_also, sort_of, Test}
 use Rattle.stk_runs.specs.Replacements.{Replaced, replacement}
-use Rattle.stk_runs.specs.Conditions.{conditions_of, tests_at}
-use Rattle.stk_runs.specs.Visits.{accesses, Site, at_expression, at_declarator, at_statement, at_section, Visits, no_visit, visit, both_visits, scope, unevaluated, collected, head_visits, statement_visits}
-use Rattle.stk_runs.specs.Keys.{function_visits, head_of, body_of}
-use Rattle.stk_runs.specs.Lists.{site_conditions, conditions, candidate, arm_candidates, seen_candidates, replaced_candidates, binary_candidates, form_candidates, site_candidates, candidates}
-use Rattle.stk_findings.specs.Hits.{differs, seen_hits, is_arm, hits}
+use Rattle.stk_runs.specs.Conditions.{conditions_of}
+use Rattle.stk_runs.specs.Visits.{accesses, Site, at_expression, at_declarator, at_statement, at_section, Visits, no_visit, visit, both_visits, scope, unevaluated, collected}
+use Rattle.stk_runs.specs.Keys.{function_visits}
+use Rattle.stk_runs.specs.Lists.{site_conditions, candidate, arm_candidates, seen_candidates, replaced_candidates, binary_candidates, form_candidates, site_candidates}
+use Rattle.stk_findings.specs.Hits.{seen_hits, is_arm, hits}
 use Rattle.stk_run_laws.specs.Sites.{site_node, Ascends, nodes_of, IsIn}
 use Rattle.stk_run_laws.proofs.Nodes.{in_left, in_right, in_either, ascends_left, ascends_right, ascends_apart}
-use Rattle.stk_once.specs.Listed.{IsListed, ConditionBefore, candidate_number, CandidateBefore, IsBeforeAll, AreInOrder, ConditionsAreInOrder, CandidatesAreInOrder}
+use Rattle.stk_once.specs.Listed.{ConditionBefore, CandidateBefore, IsBeforeAll, AreInOrder, ConditionsAreInOrder, CandidatesAreInOrder}
 use Rattle.stk_once.proofs.Tests.{AreAbove, Ascend, tests_ascend}
 use Rattle.stk_once.proofs.Traces.{form_sees, sort_sees, sort_replacement, form_replacement, OtherSeen, site_enters, site_sees, site_replacement, SiteSays, Says}
 

@@ -1,12 +1,11 @@
 -- The tests at a node are in the order of their kinds, so each kind is there once.
-use Rattle.std.proofs.Common.{◌≡◌, ℕ, ◌<◌, Bool, true, false, List, [], ◌∷◌, ◌++◌, Option, Some, None, refl, arith}
+use Rattle.std.proofs.Common.{ℕ, ◌<◌, Bool, true, false, List, [], ◌∷◌, ◌++◌, Option, Some, None, arith}
 use Rattle.std.specs.Prelude.{◌&&◌, if◌then◌else◌, map, not, filter, ℤ, pos}
 use Rattle.stk_ctype.specs.declared.kind.IntKind.{IntKind}
 use Rattle.stk_tree.specs.declared.expression.UnaryOp.{UnaryOp}
 use Rattle.stk_tree.specs.declared.expression.UnaryOp.TheVariants as unary
 use Rattle.stk_tree.specs.Syntax.{ExprFormTree}
 use Rattle.stk_tree.specs.Syntax as s
-use Rattle.stk_numbers.specs.declared.operators.ArithOp.{ArithOp}
 use Rattle.stk_numbers.specs.declared.operators.ArithOp.TheVariants as arith_op
 use Rattle.stk_numbers.specs.declared.conditions.UbKind.TheVariants as ub
 use Rattle.stk_numbers.specs.declared.conditions.Kinds.{Kinds}
@@ -14,9 +13,9 @@ use Rattle.stk_numbers.specs.Conditions.{divides, violates}
 use Rattle.stk_numbers.specs.Kinds.{is_signed, wrap}
 use Rattle.stk_numbers.specs.Taken.{number_of, is_taken}
 use Rattle.stk_runs.specs.Typings.{Typing, type_in, is_array, element_count, stride_in}
-use Rattle.stk_runs.specs.Operations.{Operator, Operation, in_kind, shift_in, compare_in, move, move_behind, measure, Sort, operates, joins, or_else, and_also, sort_of, assigned_operator, step_operation, operation_of, Test, tested, one_if, may_overflow, operation_tests}
+use Rattle.stk_runs.specs.Operations.{Operator, Operation, in_kind, shift_in, compare_in, move, move_behind, measure, Sort, operates, joins, or_else, and_also, sort_of, assigned_operator, step_operation, operation_of, Test, one_if, may_overflow, operation_tests}
 use Rattle.stk_runs.specs.Libraries.{Library, absolute_in, copy_bytes, called_library}
-use Rattle.stk_runs.specs.Conditions.{array_tests, pointer_tests, index_tests, target_tests, unary_tests, binary_tests, assigned_tests, library_tests, form_tests, tests_at}
+use Rattle.stk_runs.specs.Conditions.{array_tests, pointer_tests, target_tests, unary_tests, binary_tests, assigned_tests, library_tests, form_tests, tests_at}
 
 -- kinds with greater numbers
 abbrev pub AreAbove : ℕ → List Test → Type 0

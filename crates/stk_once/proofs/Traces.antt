@@ -1,7 +1,5 @@
 -- The entries of a run of a part: each is one that a site of the part may make, and none is made twice.
-use Rattle.std.proofs.Common.{◌≡◌, ℕ, ◌⊎◌, Bool, true, false, List, [], ◌∷◌, ◌++◌, ℤ, Option, Some, None, refl, sym, ap, ◌∙◌, subst, inl, inr}
-use Rattle.std.proofs.lemmas.List.{append-nil}
-use Rattle.std.specs.Prelude.{◌||◌, if◌then◌else◌, map, not, filter}
+use Rattle.std.proofs.Common.{◌≡◌, ℕ, ◌⊎◌, Bool, true, false, List, [], ◌∷◌, ◌++◌, Option, Some, None, refl, sym, ap, subst, inl, inr}
 use Rattle.stk_tree.specs.Syntax.{ExprTree, ExprFormTree}
 use Rattle.stk_tree.specs.Syntax as s
 use Rattle.stk_numbers.specs.declared.conditions.Condition.{Condition}
@@ -13,11 +11,9 @@ use Rattle.stk_runs.specs.Operations.{arithmetic, shifting, comparing, Sort, ope
 use Rattle.stk_runs.specs.Conditions.{conditions_of}
 use Rattle.stk_runs.specs.Replacements.{Replaced, replacement}
 use Rattle.stk_runs.specs.Visits.{Site, at_expression, at_declarator, at_statement, at_section, Visits, no_visit, visit, both_visits, scope, unevaluated}
-use Rattle.stk_runs.specs.Worlds.{Ran, Went, Cut, trace_of, after, and_then, Flow, Normal, Break, Continue, Return, next, give_back, Turned, Another, Ended, again, repeated, behind_body, left_switch}
-use Rattle.stk_runs.specs.Expressions.{compares}
 use Rattle.stk_runs.specs.Lists.{site_conditions}
 use Rattle.stk_run_laws.specs.Sites.{site_node, IsIn}
-use Rattle.stk_run_laws.proofs.Nodes.{Stands, Apart, Distinct, in_left, in_right, in_either}
+use Rattle.stk_run_laws.proofs.Nodes.{Stands, Apart, Distinct, in_either}
 
 -- ---- what an entry speaks of
 

@@ -1,5 +1,5 @@
 -- What evaluations make, by cases on the expression.
-use Rattle.std.proofs.Common.{◌≡◌, ℕ, zero, suc, ◌⊎◌, Bool, true, false, List, [], ◌∷◌, ◌++◌, ℤ, pos, Option, Some, None, refl, sym, ap, ◌∙◌, subst, inl, inr}
+use Rattle.std.proofs.Common.{◌≡◌, ℕ, Bool, true, false, List, [], ℤ, pos, Option, Some, None, refl, sym, ap, ◌∙◌, subst, inl, inr}
 use Rattle.std.specs.Prelude.{if◌then◌else◌, get_or, option_map}
 use Rattle.stk_ctype.specs.declared.kind.IntKind.{IntKind}
 use Rattle.stk_ctype.specs.Types.{TypeTree, TypeTrees}
@@ -18,22 +18,19 @@ use Rattle.stk_numbers.specs.declared.operators.ArithOp.TheVariants as arith_op
 use Rattle.stk_numbers.specs.declared.operators.ShiftOp.TheVariants as shift_op
 use Rattle.stk_numbers.specs.declared.operators.CompareOp.{CompareOp}
 use Rattle.stk_numbers.specs.declared.operators.CompareOp.TheVariants as compare_op
-use Rattle.stk_runs.specs.declared.entry.Entry.{Entry}
-use Rattle.stk_runs.specs.declared.entry.Entry.TheVariants.{Ub, Enter, Seen}
 use Rattle.stk_runs.specs.Typings.{Typing, node_of, type_in, number_kind, is_array, bare, converted}
-use Rattle.stk_runs.specs.Operations.{Operator, Operation, arithmetic, shifting, comparing, Sort, operates, joins, or_else, and_also, sort_of, assigned_operator, operation_of, operated, truth, bit, gives_old}
+use Rattle.stk_runs.specs.Operations.{Operation, arithmetic, shifting, comparing, operates, sort_of, assigned_operator, operation_of, truth, bit}
 use Rattle.stk_runs.specs.Conditions.{form_tests}
 use Rattle.stk_runs.specs.Replacements.{Replaced, replacement}
 use Rattle.stk_runs.specs.Places.{Setting, Target, in_register, in_kept, in_object, unnamed, object_named, target_of}
 use Rattle.stk_runs.specs.Libraries.{Library, absolute_in, copy_bytes, called_library, called_signature, parameters_in, result_in, never_returns}
-use Rattle.stk_runs.specs.Visits.{Use, read, accessed, taken, Role, reading, accessing, taking, as_arm, as_test, accesses, inner_role, indexed_role, unary_role, left_role, right_role, assigned_role, Site, at_expression, Visits, no_visit, visit, both_visits, expression_visits, form_visits, arguments_visits, type_name_visits}
-use Rattle.stk_runs.specs.Worlds.{Ran, Went, Cut, World, trace_of, after, and_then, gives, entered, answered, written}
-use Rattle.stk_runs.specs.Expressions.{Sides, Meaning, alone, only, breaks, number_in, stored_at, place_value, at_place, name_meaning, own_number, controlled, replaced_by, operate, operator_meaning, operator_sides, comparison_value, right_operand, and_value, or_value, branch_value, binary_meaning, unary_meaning, indexed_from, index_place, step_value, plain_assigned, compound_assigned, assigned_value, call_value, returned, later_parameters, meaning, form_meaning, arguments_values}
+use Rattle.stk_runs.specs.Visits.{Use, read, accessed, taken, Role, reading, accessing, taking, as_arm, as_test, accesses, inner_role, indexed_role, Site, at_expression, Visits, visit, both_visits, expression_visits, arguments_visits, type_name_visits}
+use Rattle.stk_runs.specs.Worlds.{Ran, Cut, World, trace_of, and_then, gives, answered, written}
+use Rattle.stk_runs.specs.Expressions.{Sides, Meaning, alone, only, number_in, stored_at, place_value, at_place, name_meaning, controlled, replaced_by, operate, operator_meaning, comparison_value, right_operand, and_value, or_value, branch_value, binary_meaning, unary_meaning, indexed_from, step_value, plain_assigned, compound_assigned, assigned_value, call_value, returned, later_parameters, meaning, form_meaning, arguments_values}
 use Rattle.stk_run_laws.specs.Sites.{EachSite}
-use Rattle.stk_run_laws.proofs.Nodes.{Stands, Distinct}
 use Rattle.stk_once.specs.TypedOperands.{IsNoArray, SiteHasScalarOperand}
-use Rattle.stk_once.proofs.Traces.{SameEvent, OtherSeen, sort_replacement, sort_sees, Says, Traced, traced_nil}
-use Rattle.stk_once.proofs.Faces.{Makes, makes_then, makes_swapped, makes_as, makes_left, makes_right, makes_none, makes_if, makes_grouped, makes_two, makes_crossed, breaks_traced, makes_tail, makes_entries, makes_went, makes_behind}
+use Rattle.stk_once.proofs.Traces.{OtherSeen, sort_replacement, sort_sees, Says}
+use Rattle.stk_once.proofs.Faces.{Makes, makes_then, makes_left, makes_right, makes_none, makes_if, makes_two, makes_crossed, breaks_traced, makes_tail, makes_entries, makes_went, makes_behind}
 use Rattle.stk_once.proofs.Expressions.{makes_arm, makes_test}
 
 -- a use of a place, in no branch and no test

@@ -5,7 +5,7 @@ use Rattle.stk_tree.specs.Syntax as s
 use Rattle.stk_runs.specs.Typings.{Typing, type_in, is_array, bare}
 use Rattle.stk_runs.specs.Visits.{Site, at_expression, at_declarator, at_statement, at_section}
 use Rattle.stk_runs.specs.Keys.{function_visits}
-use Rattle.stk_run_laws.specs.Sites.{EachSite, IsNumbered}
+use Rattle.stk_run_laws.specs.Sites.{EachSite}
 
 -- an operand that is read or written as a whole is no array
 abbrev pub IsNoArray : Typing → ExprTree → Type 0

@@ -1,13 +1,13 @@
 -- What is written is read back, and nothing else changes.
-use Rattle.std.proofs.Common.{◌≡◌, ℕ, zero, suc, ◌+◌, ◌-◌, ◌*◌, ◌^◌, ◌%◌, ◌/◌, ◌<◌, ◌≤◌, ◌==◌, Bool, true, false, ℤ, pos, negsuc, refl, sym, ap, ◌∙◌, subst, arith}
-use Rattle.std.specs.Prelude.{if◌then◌else◌, nat_lt}
+use Rattle.std.proofs.Common.{◌≡◌, ℕ, zero, suc, ◌+◌, ◌*◌, ◌^◌, ◌%◌, ◌/◌, ◌<◌, ◌≤◌, Bool, true, false, ℤ, pos, refl, sym, ap, ◌∙◌, arith}
+use Rattle.std.specs.Prelude.{if◌then◌else◌}
 use Rattle.std.specs.Ordering.{int_eq}
 use Rattle.std.proofs.lemmas.Grind.{common_steps}
 use Rattle.std.proofs.Math.Nat.{mod-eq_of_lt}
 use Rattle.stk_ctype.specs.declared.kind.IntKind.{IntKind}
 use Rattle.stk_ctype.specs.declared.kind.IntKind.TheVariants as kind
 use Rattle.stk_ctype.specs.Kinds.{bytes_of}
-use Rattle.stk_numbers.specs.Kinds.{width_of, is_signed, is_bool, residue, decoded, wrap, fits}
+use Rattle.stk_numbers.specs.Kinds.{width_of, residue, decoded, wrap, fits}
 use Rattle.stk_numbers.proofs.Residues.{residue_below, residue_decoded}
 use Rattle.stk_numbers.proofs.Wrapping.{wrap_in_range}
 use Rattle.stk_runs.specs.Memory.{Memory, following, put, read_bytes, write_bytes, shown, number_at, stored}

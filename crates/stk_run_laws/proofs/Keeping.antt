@@ -1,5 +1,5 @@
 -- How kept numbers go on agreeing with a memory.
-use Rattle.std.proofs.Common.{◌≡◌, ℕ, zero, suc, ◌+◌, ◌<◌, ◌≤◌, ◌^◌, ◌==◌, ◌⊎◌, inl, inr, Bool, true, false, [], ◌∷◌, ℤ, Option, Some, None, refl, sym, ap, ◌∙◌, subst, arith, get_or, set}
+use Rattle.std.proofs.Common.{◌≡◌, ℕ, zero, suc, ◌+◌, ◌<◌, ◌^◌, ◌==◌, ◌⊎◌, inl, inr, Bool, true, false, [], ◌∷◌, ℤ, Some, None, refl, sym, ap, ◌∙◌, subst, arith, get_or, set}
 use Rattle.std.specs.Prelude.{if◌then◌else◌, replicate}
 use Rattle.std.proofs.lemmas.Grind.{common_steps}
 use Rattle.stk_ctype.specs.declared.kind.IntKind.{IntKind}
@@ -7,7 +7,7 @@ use Rattle.stk_ctype.specs.Kinds.{bytes_of}
 use Rattle.stk_numbers.specs.Kinds.{width_of, residue, wrap}
 use Rattle.stk_runs.specs.Memory.{Memory, shown, number_at, stored}
 use Rattle.stk_runs.specs.Paths.{KeptNumbers, forgotten_from, forgotten}
-use Rattle.stk_run_laws.specs.Held.{Held, IsClear, AreHeld, Agrees, Unmoved}
+use Rattle.stk_run_laws.specs.Held.{Held, IsClear, AreHeld, Agrees, Unmoved, WhatIsStoredIsReadBack, KeptNumbersGoOnAgreeing}
 use Rattle.stk_run_laws.proofs.Bytes.{same_read, untouched, number_stored}
 
 -- ---- kept numbers alone
@@ -135,3 +135,15 @@ agrees_drop h o kept m g = record { is_kept = λ p x e. g.is_kept p x (dropped k
 -- all kept numbers are removed, and the memory is another
 pub agrees_all : (h : Held) (kept : KeptNumbers) (m m' : Memory) → Agrees h kept m → Agrees h (forgotten (λ q. true) kept) m'
 agrees_all h kept m m' g = agrees_forget h (λ q. true) kept m m' g (unmoved_all h (λ q. true) m m' (λ q. refl))
+
+-- ---- the laws
+
+pub what_is_stored_is_read_back : WhatIsStoredIsReadBack
+what_is_stored_is_read_back k a z m h = number_stored k a z m (omega arith)
+
+pub kept_numbers_go_on_agreeing : KeptNumbersGoOnAgreeing
+kept_numbers_go_on_agreeing h kept m v g = record {
+  stored_to = λ q z l. agrees_store h v q z kept m l g;
+  beside = λ k a z fits clear. agrees_unmoved h kept m (stored k a z m) g (unmoved_clear h v a k z (λ q. false) m (omega arith) (λ q l e. clear q l));
+  changed = λ test other u. agrees_forget h test kept m other g u;
+}

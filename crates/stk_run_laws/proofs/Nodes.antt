@@ -1,6 +1,6 @@
 -- Which nodes stand in visits, and that those of two parts are different where numbers ascend.
-use Rattle.std.proofs.Common.{◌≡◌, ℕ, ◌<◌, ◌⊎◌, List, [], ◌∷◌, ◌++◌, refl, sym, subst, inl, inr, arith}
-use Rattle.stk_runs.specs.Visits.{Site, Visits, no_visit, visit, both_visits, scope, unevaluated}
+use Rattle.std.proofs.Common.{◌≡◌, ℕ, ◌<◌, ◌⊎◌, List, [], ◌∷◌, ◌++◌, sym, subst, inl, inr, arith}
+use Rattle.stk_runs.specs.Visits.{Visits, no_visit, visit, both_visits, scope, unevaluated}
 use Rattle.stk_run_laws.specs.Sites.{site_node, IsBelow, IsIn, Ascends, nodes_of}
 
 -- a node stands among what is visited and evaluated

@@ -1,9 +1,8 @@
 -- What is asked of the evaluated nodes of a function: that their numbers ascend, and facts of each of them.
-use Rattle.std.specs.Prelude.{ℕ, ◌<◌, ◌≡◌, ◌⊎◌, Bool, List, [], ◌∷◌, Option}
-use Rattle.stk_base.specs.declared.span.Span.{Span}
-use Rattle.stk_tree.specs.Syntax.{ExprFormTree, MaybeInitTree, StmtFormTree, LabelTrees, FunctionTree}
+use Rattle.std.specs.Prelude.{ℕ, ◌<◌, ◌≡◌, ◌⊎◌, List, [], ◌∷◌}
+use Rattle.stk_tree.specs.Syntax.{FunctionTree}
 use Rattle.stk_runs.specs.Typings.{Typing}
-use Rattle.stk_runs.specs.Visits.{Role, Site, at_expression, at_declarator, at_statement, at_section, Visits, no_visit, visit, both_visits, scope, unevaluated, collected}
+use Rattle.stk_runs.specs.Visits.{Site, at_expression, at_declarator, at_statement, at_section, Visits, no_visit, visit, both_visits, scope, unevaluated, collected}
 use Rattle.stk_runs.specs.Keys.{function_visits}
 
 -- the number of a site's node
