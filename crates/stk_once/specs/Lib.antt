@@ -1,0 +1,3 @@
+pub mod TypedOperands
+pub mod Listed
+pub mod Once
