@@ -232,8 +232,8 @@ module _ (c : Ground) (n : ℕ) where
 
     form_sound : (k : Node) (f : ExprFormTree) → IsSound c n (s.expression k f) (form_meaning c.setting (real c n) k.number f) (λ m. form_meaning c.setting (path_world m) k.number f)
     form_sound k (s.name at) = name_sound c n k at (c.setting.typing.number_at k.number) refl
-    form_sound k (s.number at) = only_sound c n (s.expression k (s.number at)) _ _ (part_went c (Unit {0}) _ (λ r. unwrap_or (c.setting.typing.number_at k.number) (pos 0)) [])
-    form_sound k (s.character at) = only_sound c n (s.expression k (s.character at)) _ _ (part_went c (Unit {0}) _ (λ r. unwrap_or (c.setting.typing.number_at k.number) (pos 0)) [])
+    form_sound k (s.number at) = only_sound c n (s.expression k (s.number at)) _ _ (part_went c (Unit {0}) _ (λ r. converted (c.setting.typing.type_at k.number) (unwrap_or (c.setting.typing.number_at k.number) (pos 0))) [])
+    form_sound k (s.character at) = only_sound c n (s.expression k (s.character at)) _ _ (part_went c (Unit {0}) _ (λ r. converted (c.setting.typing.type_at k.number) (unwrap_or (c.setting.typing.number_at k.number) (pos 0))) [])
     form_sound k (s.text parts) = text_sound k parts
     form_sound k (s.paren e) =
         let h = sound e in
@@ -251,8 +251,8 @@ module _ (c : Ground) (n : ℕ) where
     form_sound k (s.arrow e at) = arrow_sound k e at _ _ (sound e)
     form_sound k (s.step op e) = step_sound k op e _ _ (sound e)
     form_sound k (s.unary op e) = unary_sound k op e _ _ (sound e)
-    form_sound k (s.size_expression e) = only_sound c n (s.expression k (s.size_expression e)) _ _ (part_went c (Unit {0}) _ (λ r. unwrap_or (c.setting.typing.number_at k.number) (pos 0)) [])
-    form_sound k (s.size_name t) = only_sound c n (s.expression k (s.size_name t)) _ _ (part_went c (Unit {0}) _ (λ r. unwrap_or (c.setting.typing.number_at k.number) (pos 0)) [])
+    form_sound k (s.size_expression e) = only_sound c n (s.expression k (s.size_expression e)) _ _ (part_went c (Unit {0}) _ (λ r. converted (c.setting.typing.type_at k.number) (unwrap_or (c.setting.typing.number_at k.number) (pos 0))) [])
+    form_sound k (s.size_name t) = only_sound c n (s.expression k (s.size_name t)) _ _ (part_went c (Unit {0}) _ (λ r. converted (c.setting.typing.type_at k.number) (unwrap_or (c.setting.typing.number_at k.number) (pos 0))) [])
     form_sound k (s.cast t e) =
         let v = type_name_visits c.setting.typing t in
         let w = expression_visits c.setting.typing reading e in

@@ -15,7 +15,7 @@ use Rattle.stk_numbers.specs.declared.operators.CompareOp.{CompareOp}
 use Rattle.stk_numbers.specs.declared.operators.CompareOp.TheVariants as compare_op
 use Rattle.stk_rules.specs.Types.{is_scalar}
 use Rattle.stk_runs.specs.declared.entry.Entry.TheVariants.{Enter, Seen}
-use Rattle.stk_runs.specs.Typings.{node_of, type_in, number_kind, bare}
+use Rattle.stk_runs.specs.Typings.{converted, node_of, type_in, number_kind, bare}
 use Rattle.stk_runs.specs.Operations.{Operation, arithmetic, shifting, comparing, sort_of, operation_of, operated, truth, bit}
 use Rattle.stk_runs.specs.Replacements.{Replaced, replacement}
 use Rattle.stk_runs.specs.Places.{Target, in_register, in_kept, in_object, unnamed, object_named, target_at, form_target}
@@ -119,7 +119,7 @@ module _ (c : Ground) (n : ℕ) where
       (record { info = h.info; among = in_right h.info (mention_keys c.setting k at) (load_keys c.setting k reading (s.name at)) h.among; is = h.is })
 
   pub name_sound : (k : Node) (at : Span) (o : Option ℤ) → c.setting.typing.number_at k.number ≡ o → IsSound (s.expression k (s.name at)) (name_meaning c.setting (real c n) k.number (s.name at) (object_named c.setting k.number at) o) (λ m. name_meaning c.setting (path_world m) k.number (s.name at) (object_named c.setting k.number at) o)
-  name_sound k at (Some z) e = only_sound (s.expression k (s.name at)) _ _ (part_went c (Unit {0}) _ (λ r. z) [])
+  name_sound k at (Some z) e = only_sound (s.expression k (s.name at)) _ _ (part_went c (Unit {0}) _ (λ r. converted (c.setting.typing.type_at k.number) z) [])
   name_sound k at None e =
       let object = object_named c.setting k.number at in
       let site = visit (at_expression k.number reading (s.name at)) in
