@@ -4,14 +4,14 @@ use Rattle.std.specs.Prelude.{if◌then◌else◌, map, unwrap_or}
 use Rattle.std.specs.Option.{is_some}
 use Rattle.stk_base.specs.declared.span.Span.{Span}
 use Rattle.stk_ctype.specs.Kinds.{bytes_of}
-use Rattle.stk_ctype.specs.Types.{TypeTree}
+use Rattle.stk_ctype.specs.Types.{TypeTree, void_type, integer_type, pointer_type, array_type, struct_type, function_type}
 use Rattle.stk_tree.specs.declared.expression.UnaryOp.{UnaryOp}
 use Rattle.stk_tree.specs.declared.expression.UnaryOp.TheVariants as unary
 use Rattle.stk_tree.specs.Syntax.{ExprTree, ExprFormTree, MaybeInitTree, FunctionTree}
 use Rattle.stk_tree.specs.Syntax as s
 use Rattle.stk_numbers.specs.declared.conditions.Kinds.{Kinds}
 use Rattle.stk_rules.specs.Types.{is_scalar, is_struct}
-use Rattle.stk_runs.specs.Typings.{Typing, type_in, number_kind, bare, is_among, declarator_node, object_size}
+use Rattle.stk_runs.specs.Typings.{Typing, type_in, number_kind, bare, is_among, declarator_node, object_size, is_array}
 use Rattle.stk_runs.specs.Places.{Setting, Target, in_register, in_kept, in_object, unnamed, object_named, position_behind, object_target, target_at, member_target, target_of, form_target}
 use Rattle.stk_runs.specs.Visits.{Role, Site, at_expression, at_declarator, at_statement, at_section, Visits, no_visit, visit, both_visits, scope, unevaluated, collected, head_visits, statement_visits}
 use Rattle.stk_runs.specs.Keys.{address_key, KeyInfo, address_info, declarator_keys, site_keys, Object, object_of, key_objects, objects_in, keys_of, objects_of, setting_of, parameters_of, head_of, body_of, function_visits}
@@ -19,6 +19,8 @@ use Rattle.stk_runs.specs.Executions.{Start}
 use Rattle.stk_runs.specs.Maps.{IsValidStart}
 use Rattle.stk_run_laws.specs.Sites.{IsIn, nodes_of, EachSite}
 use Rattle.stk_run_laws.proofs.Nodes.{in_left, in_right, ascends_right, distinct_of}
+use Rattle.stk_once.specs.TypedOperands.{IsNoArray, HasScalarOperand, SiteHasScalarOperand}
+use Rattle.stk_gathering.specs.Shown.{OneConditionServesAll}
 use Rattle.stk_gathering.specs.TypedTree.{kept_node, IsNamedObject, MeansObject, PlaceAgrees, FormAgrees, IsTypedName, IsTypedUnary, IsTypedForm, IsTypedDeclarator, IsTypedSite, IsTypedTree}
 use Rattle.stk_gathering.proofs.WellTyped.{offset_in, form_offset, Suits, IsStored, IsObject, MeansWell, IsWellName, IsWellUnary, IsWellForm, IsWellDeclarator, IsWellSite}
 use Rattle.stk_gathering.proofs.Maps.{Good}
@@ -230,3 +232,40 @@ module _ (ty : Typing) (without : Kinds) (f : FunctionTree) (h : IsTypedTree ty 
     listed = λ x i. body_listed ty without f h x (in_right x (collected (site_keys (setting_of ty without f)) (head_visits ty (head_of f))) (collected (site_keys (setting_of ty without f)) (statement_visits ty false (body_of f))) i);
     typed = (sites_well (function_visits ty f) (λ y i. body_listed ty without f h y i) h.sites).1;
   }
+
+  -- ---- what is asked less
+
+  no_array : (t : TypeTree) → is_scalar t ≡ true → is_array t ≡ false
+  no_array void_type p = refl
+  no_array (integer_type k) p = refl
+  no_array (pointer_type t) p = refl
+  no_array (array_type t count) p = absurd cc
+  no_array (struct_type id) p = refl
+  no_array (function_type x) p = refl
+
+  operand_scalar : (x : ExprTree) → is_scalar (type_in ty x) ≡ true → PlaceAgrees (setting_of ty without f) (objects_of ty without f) x → IsNoArray ty x
+  operand_scalar x scalar a = no_array (type_in ty (bare x)) (subst (λ t. is_scalar t ≡ true) (bare_type x a) scalar)
+
+  form_operand : (k : ℕ) (role : Role) (x : ExprFormTree) → IsTypedForm (setting_of ty without f) (objects_of ty without f) k role x → HasScalarOperand ty x
+  form_operand k role (s.step op e) a = operand_scalar e a.0 a.1
+  form_operand k role (s.assign op x y) a = operand_scalar x a.0 a.1
+  form_operand k role x a = tt
+
+  site_operand : (x : Site) → IsTypedSite (setting_of ty without f) (objects_of ty without f) x → SiteHasScalarOperand ty x
+  site_operand (at_expression k role x) a = form_operand k role x a
+  site_operand (at_declarator k static at init) a = tt
+  site_operand (at_statement k arm x) a = tt
+  site_operand (at_section k ls) a = tt
+
+  operands_scalar : (v : Visits) → EachSite (IsTypedSite (setting_of ty without f) (objects_of ty without f)) v → EachSite (SiteHasScalarOperand ty) v
+  operands_scalar no_visit a = tt
+  operands_scalar (visit x) a = site_operand x a
+  operands_scalar (both_visits v w) a = (operands_scalar v a.0, operands_scalar w a.1)
+  operands_scalar (scope ks v) a = operands_scalar v a
+  operands_scalar (unevaluated v) a = tt
+
+pub one_condition_serves_all : OneConditionServesAll
+one_condition_serves_all ty without f h = record {
+  numbered = ascends_right (map declarator_node (parameters_of f)) (nodes_of (function_visits ty f)) h.numbered;
+  operands = operands_scalar ty without f h (function_visits ty f) h.sites;
+}
