@@ -29,7 +29,7 @@ use Rattle.stk_runs.specs.Expressions.{Meaning, only, breaks, at_place, controll
 use Rattle.stk_runs.specs.Keys.{call_key, result_keys, number_info}
 use Rattle.stk_runs.specs.Paths.{InputMap, KeptNumbers, path_world}
 use Rattle.stk_runs.specs.Executions.{Outside}
-use Rattle.stk_gathering.specs.TypedTree.{offset_in}
+use Rattle.stk_gathering.proofs.WellTyped.{offset_in}
 use Rattle.stk_gathering.proofs.Maps.{Ground, IsListed, Good, good_left}
 use Rattle.stk_gathering.proofs.Parts.{Part, part_as, part_if, part_then, part_seq, part_tail, part_went, part_cut, part_choose, reframes_left, reframes_right}
 use Rattle.stk_gathering.proofs.Leaves.{real, part_address, part_call, part_write, part_store}

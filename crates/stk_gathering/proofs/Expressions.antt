@@ -26,7 +26,8 @@ use Rattle.stk_runs.specs.Keys.{Key, load_key, site_keys, mention_keys, load_key
 use Rattle.stk_runs.specs.Paths.{InputMap, KeptNumbers, path_world}
 use Rattle.stk_runs.specs.Executions.{Outside}
 use Rattle.stk_run_laws.proofs.Nodes.{in_right}
-use Rattle.stk_gathering.specs.TypedTree.{kept_kind, offset_in, IsReadWhole, MeansWell, IsTypedName}
+use Rattle.stk_gathering.specs.TypedTree.{kept_kind, IsReadWhole}
+use Rattle.stk_gathering.proofs.WellTyped.{offset_in, MeansWell, IsWellName}
 use Rattle.stk_gathering.proofs.Maps.{Ground, IsListed, Good, good_right}
 use Rattle.stk_gathering.proofs.Join.{EndsIn}
 use Rattle.stk_gathering.proofs.Parts.{Part, part_as, part_if, part_seq, part_tail, part_went, part_cut, part_choose, reframes_left}
@@ -123,7 +124,7 @@ module _ (c : Ground) (n : ℕ) where
   name_sound k at None e =
       let object = object_named c.setting k.number at in
       let site = visit (at_expression k.number reading (s.name at)) in
-      let typed : (R : Role) → Good c (visit (at_expression k.number R (s.name at))) → MeansWell c.setting c.objects k.number object (target_at c.setting object) × IsReadWhole (c.setting.typing.type_at k.number) R.use_of = λ R h. subst (λ (o : Option ℤ). IsTypedName c.setting c.objects k.number R object o) e h.typed in
+      let typed : (R : Role) → Good c (visit (at_expression k.number R (s.name at))) → MeansWell c.setting c.objects k.number object (target_at c.setting object) × IsReadWhole (c.setting.typing.type_at k.number) R.use_of = λ R h. subst (λ (o : Option ℤ). IsWellName c.setting c.objects k.number R object o) e h.typed in
       at_place_sound k (s.name at) (λ b. gives (address_of (real c n) (target_at c.setting object) object)) (λ m b. gives (address_of (path_world m) (target_at c.setting object) object)) (λ u. refl)
       (λ u b. name_part (Good c (expression_visits c.setting.typing (plainly u) (s.expression k (s.name at)))) no_visit k.number object (target_at c.setting object) (λ q h. (typed (plainly u) (good_right c no_visit (visit (at_expression k.number (plainly u) (s.name at))) q)).0))
       (λ b r st. record {

@@ -10,15 +10,15 @@ use Rattle.stk_tree.specs.Syntax as s
 use Rattle.stk_numbers.specs.declared.conditions.Kinds.{Kinds}
 use Rattle.stk_rules.specs.Types.{is_scalar, is_struct}
 use Rattle.stk_runs.specs.Typings.{Typing, number_kind, declarator_node, is_among, object_size}
-use Rattle.stk_runs.specs.Visits.{collected, head_visits, statement_visits}
-use Rattle.stk_runs.specs.Keys.{address_key, KeyInfo, site_keys, parameter_info, memory_info, register_parameters, memory_parameters, is_register, parameters_of, head_of, body_of, function_visits, Object, first_setting, keys_of, objects_of, kept_of, setting_of}
+use Rattle.stk_runs.specs.Visits.{collected}
+use Rattle.stk_runs.specs.Keys.{address_key, KeyInfo, site_keys, parameter_info, memory_info, register_parameters, memory_parameters, is_register, parameters_of, function_visits, Object, first_setting, keys_of, objects_of, kept_of, setting_of}
 use Rattle.stk_runs.specs.Executions.{Start}
 use Rattle.stk_runs.specs.Maps.{lies_in_memory, shares_byte, stands_apart, IsValidStart}
 use Rattle.stk_run_laws.specs.Sites.{IsIn, Ascends, nodes_of}
 use Rattle.stk_run_laws.specs.Held.{IsClear}
-use Rattle.stk_run_laws.proofs.Nodes.{in_right, in_either, ascends_left, ascends_right, ascends_apart, distinct_of}
+use Rattle.stk_run_laws.proofs.Nodes.{in_right, in_either, ascends_left, ascends_right, ascends_apart}
 use Rattle.stk_gathering.specs.TypedTree.{IsTypedTree}
-use Rattle.stk_gathering.proofs.Maps.{Ground, held, IsListed, IsGround, Good}
+use Rattle.stk_gathering.proofs.Maps.{Ground, held, IsListed, IsGround}
 use Rattle.stk_gathering.proofs.Twins.{keys_same}
 use Rattle.stk_gathering.proofs.KeyLists.{in_map, in_image, in_filter, IsKeyOf, SizeWell, keys_well, object_nodes, nodes_append, object_key}
 use Rattle.stk_gathering.proofs.Objects.{ascends_append, filter_ascends, take_ascends, in_take, there_in, ascends_apart_at, among_of, visited_nodes, parameter_nodes, memory_nodes}
@@ -110,7 +110,7 @@ module _ (ty : Typing) (without : Kinds) (f : FunctionTree) (h : IsTypedTree ty 
   pub listed_object : (o : Object) → IsIn o (objects_of ty without f) → IsListed (keys_of ty without f) (address_key o.node)
   listed_object o i = let a = object_key ty (keys_of ty without f) o i in record { info = a.info; among = a.among; is = a.key }
 
-  object_bytes : (o : Object) → IsIn o (objects_of ty without f) → o.size ≡ object_size ty (ty.type_at o.node)
+  pub object_bytes : (o : Object) → IsIn o (objects_of ty without f) → o.size ≡ object_size ty (ty.type_at o.node)
   object_bytes o i =
       let a = object_key ty (keys_of ty without f) o i in
       ap (λ (z : Object). z.size) a.is ∙ subst (λ key. SizeWell ty key a.info.size) a.key (all_well a.info a.among).size
@@ -233,13 +233,4 @@ module _ (ty : Typing) (without : Kinds) (f : FunctionTree) (h : IsTypedTree ty 
           let at : start.addresses p.object.node ≡ start.addresses o = ap start.addresses p.node in
           let within : offset + size ≤ p.object.size = p.within in
           part_clear q p.object (start.addresses o + offset) size l p.among p.plain (λ e. other (e ∙ p.node)) (omega arith) (omega arith);
-    }
-
-    -- the body is a good part
-    pub body_good : Good (ground_of ty without f start) (statement_visits ty false (body_of f))
-    body_good = record {
-      ground = is_ground;
-      distinct = (distinct_of (function_visits ty f) (ascends_right (map declarator_node (parameters_of f)) (nodes_of (function_visits ty f)) h.numbered)).1;
-      listed = λ x i. body_listed x (in_right x (collected (site_keys (setting_of ty without f)) (head_visits ty (head_of f))) (collected (site_keys (setting_of ty without f)) (statement_visits ty false (body_of f))) i);
-      typed = h.sites.1;
     }

@@ -22,7 +22,8 @@ use Rattle.stk_gathering.proofs.Maps.{Ground, held, OnlyIn}
 use Rattle.stk_gathering.proofs.Join.{EndsToo, Gathered}
 use Rattle.stk_gathering.proofs.Parts.{sides}
 use Rattle.stk_gathering.proofs.Statements.{statement_part}
-use Rattle.stk_gathering.proofs.Grounds.{ground_of, all_at, body_good}
+use Rattle.stk_gathering.proofs.Grounds.{ground_of, all_at}
+use Rattle.stk_gathering.proofs.Agreeing.{body_good}
 use Rattle.stk_gathering.proofs.Starts.{numbers_of, under_is, parameters_same, base, base_covers, base_parameter, fit_start, valid_of}
 
 module _ (ty : Typing) (without : Kinds) (f : FunctionTree) (h : IsTypedTree ty without f) (start : Start) (v : IsValidStart ty without f start) where

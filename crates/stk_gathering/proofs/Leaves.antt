@@ -23,7 +23,8 @@ use Rattle.stk_run_laws.specs.Held.{IsClear, Agrees, Unmoved}
 use Rattle.stk_run_laws.proofs.Nodes.{Stands}
 use Rattle.stk_run_laws.proofs.Bytes.{number_fits}
 use Rattle.stk_run_laws.proofs.Keeping.{unmoved_part, unmoved_all, unmoved_clear, unmoved_store, agrees_unmoved, agrees_store, agrees_read, agrees_drop, agrees_all}
-use Rattle.stk_gathering.specs.TypedTree.{kept_node, kept_kind, IsObject}
+use Rattle.stk_gathering.specs.TypedTree.{kept_node, kept_kind}
+use Rattle.stk_gathering.proofs.WellTyped.{IsObject}
 use Rattle.stk_gathering.proofs.Maps.{Ground, held, kind_at, Changes, IsListed, put, put_here, put_only, only_refl, Good}
 use Rattle.stk_gathering.proofs.Join.{Gathered, gathered_cut, gathered_same}
 use Rattle.stk_gathering.proofs.Same.{Same, SameBy, same_refl, same_set, same_memory}

@@ -1,3 +1,4 @@
+pub mod WellTyped
 pub mod Maps
 pub mod Join
 pub mod Same
@@ -14,5 +15,6 @@ pub mod Twins
 pub mod KeyLists
 pub mod Objects
 pub mod Grounds
+pub mod Agreeing
 pub mod Starts
 pub mod Laws

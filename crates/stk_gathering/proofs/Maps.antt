@@ -14,7 +14,8 @@ use Rattle.stk_runs.specs.Paths.{InputMap, same_key}
 use Rattle.stk_run_laws.specs.Sites.{IsIn, EachSite}
 use Rattle.stk_run_laws.specs.Held.{Held, IsClear, AreHeld}
 use Rattle.stk_run_laws.proofs.Nodes.{Stands, Distinct, in_left, in_right}
-use Rattle.stk_gathering.specs.TypedTree.{kept_node, kept_kind, IsPart, IsObject, IsTypedSite}
+use Rattle.stk_gathering.specs.TypedTree.{kept_node, kept_kind}
+use Rattle.stk_gathering.proofs.WellTyped.{IsPart, IsObject, IsWellSite}
 
 -- what runs rest on here: the setting of a function, its keys and memory objects, and the addresses of an execution
 pub record Ground : Type 0 where
@@ -233,7 +234,7 @@ pub record Good (c : Ground) (v : Visits) : Type 0 where
   pub ground : IsGround c
   pub distinct : Distinct v
   pub listed : (x : KeyInfo) → IsIn x (collected (site_keys c.setting) v) → IsIn x c.keys
-  pub typed : EachSite (IsTypedSite c.setting c.objects) v
+  pub typed : EachSite (IsWellSite c.setting c.objects) v
 
 pub good_left : (c : Ground) (v w : Visits) → Good c (both_visits v w) → Good c v
 good_left c v w h = record { ground = h.ground; distinct = h.distinct.0; listed = λ x i. h.listed x (in_left x (collected (site_keys c.setting) v) (collected (site_keys c.setting) w) i); typed = h.typed.0 }

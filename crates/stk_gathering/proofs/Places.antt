@@ -19,7 +19,8 @@ use Rattle.stk_runs.specs.Keys.{Key, load_key, is_loaded, load_keys, site_keys, 
 use Rattle.stk_runs.specs.Paths.{InputMap, KeptNumbers, path_world}
 use Rattle.stk_runs.specs.Executions.{Outside}
 use Rattle.stk_run_laws.specs.Held.{IsClear}
-use Rattle.stk_gathering.specs.TypedTree.{kept_node, kept_kind, offset_in, Suits, IsStored, IsReadWhole}
+use Rattle.stk_gathering.specs.TypedTree.{kept_node, kept_kind, IsReadWhole}
+use Rattle.stk_gathering.proofs.WellTyped.{offset_in, Suits, IsStored}
 use Rattle.stk_gathering.proofs.Maps.{Ground, held, IsListed, IsGround, Good, good_left, good_right}
 use Rattle.stk_gathering.proofs.Join.{EndsIn}
 use Rattle.stk_gathering.proofs.Parts.{Part, part_as, part_if, part_then, part_tail, reframes_left, reframes_then}
@@ -40,13 +41,13 @@ other_numbers : (a b : ℕ) → a == b ≡ false → a ≡ b → ⊥
 other_numbers a b h e = grind (arith, common_steps)
 
 -- the position of a kept object among the nodes
-record StandsAt (i k : ℕ) (ks : List ℕ) (q : ℕ) : Type 0 where
-  place : ℕ
-  from : q ≡ i + place
-  there : place < length ks
-  is : get_or ks place 0 ≡ k
+pub record StandsAt (i k : ℕ) (ks : List ℕ) (q : ℕ) : Type 0 where
+  pub place : ℕ
+  pub from : q ≡ i + place
+  pub there : place < length ks
+  pub is : get_or ks place 0 ≡ k
 
-position_is : (i k : ℕ) (ks : List ℕ) (q : ℕ) → position_behind i k ks ≡ Some q → StandsAt i k ks q
+pub position_is : (i k : ℕ) (ks : List ℕ) (q : ℕ) → position_behind i k ks ≡ Some q → StandsAt i k ks q
 position_is i k [] q h = absurd cc
 position_is i k (j ∷ js) q h = by (k == j) refl (λ e. position_is (i + 1) k js q e) h
   where

@@ -20,7 +20,7 @@ use Rattle.stk_runs.specs.Statements.{discarded_run, start_run, return_run, chos
 use Rattle.stk_runs.specs.Keys.{unset_key, declarator_keys, number_info}
 use Rattle.stk_runs.specs.Paths.{InputMap, KeptNumbers, path_world}
 use Rattle.stk_runs.specs.Executions.{Outside}
-use Rattle.stk_gathering.specs.TypedTree.{Suits}
+use Rattle.stk_gathering.proofs.WellTyped.{Suits}
 use Rattle.stk_gathering.proofs.Maps.{Ground, IsListed, Good}
 use Rattle.stk_gathering.proofs.Parts.{Part, Reframes, part_as, part_seq, part_tail, part_went, part_equal, part_choose, reframes_left, reframes_right, reframes_then}
 use Rattle.stk_gathering.proofs.Leaves.{real, part_write, part_store, part_unset, part_begin}

@@ -13,7 +13,8 @@ use Rattle.stk_runs.specs.Paths.{KeptNumbers, path, path_ran, number_under}
 use Rattle.stk_runs.specs.Executions.{Answer, Outside, Start, execution, execution_ran}
 use Rattle.stk_runs.specs.Maps.{IsValid, IsValidStart}
 use Rattle.stk_findings.specs.Sufficient.{IsPathSufficient, IsSufficient}
-use Rattle.stk_run_laws.specs.Sites.{IsIn}
+use Rattle.stk_run_laws.specs.Sites.{IsIn, IsNumbered}
+use Rattle.stk_once.specs.TypedOperands.{HasScalarOperands}
 use Rattle.stk_gathering.specs.TypedTree.{kept_node, kept_kind, IsTypedTree}
 
 -- each entry of the first list is one of the second
@@ -62,3 +63,11 @@ EachEndIsShown =
 abbrev pub WhatSufficesInPathsSuffices : Type 0
 WhatSufficesInPathsSuffices =
     (ty : Typing) (without : Kinds) (f : FunctionTree) → IsTypedTree ty without f → (c : Candidate) (set : List Condition) → IsPathSufficient ty without f c set → IsSufficient ty without f c set
+
+-- what is asked here is more than what is asked where conditions and candidates are listed, and where each node is evaluated once
+pub record IsAskedLess (ty : Typing) (f : FunctionTree) : Type 0 where
+  pub numbered : IsNumbered ty f
+  pub operands : HasScalarOperands ty f
+
+abbrev pub OneConditionServesAll : Type 0
+OneConditionServesAll = (ty : Typing) (without : Kinds) (f : FunctionTree) → IsTypedTree ty without f → IsAskedLess ty f

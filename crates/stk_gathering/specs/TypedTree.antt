@@ -1,7 +1,9 @@
 -- What is asked of a function where a path run is to show what an execution does: nodes are numbered children first, and typing agrees with the
--- tree: what a name means is a register, an enumerator or an object, what is read is a scalar or an array, and what is stored to is a scalar
--- that lies in its object (C11 6.3.2.1, 6.5.2.4, 6.5.16).
+-- tree, node by node: a name has the type of the register or object that it means, what is read is a scalar or an array, what is stored to is a
+-- scalar, and members lie within their struct (C11 6.3.2.1, 6.5.1, 6.5.2.3, 6.5.2.4, 6.5.16, 6.7.9p11, p16).
 use Rattle.std.specs.Prelude.{ℕ, ◌+◌, ◌≤◌, ◌≡◌, ◌||◌, Bool, true, false, List, ◌++◌, map, Option, Some, None, ℤ, get_or}
+use Rattle.std.specs.Option.{is_some}
+use Rattle.stk_base.specs.declared.span.Span.{Span}
 use Rattle.stk_ctype.specs.declared.kind.IntKind.{IntKind}
 use Rattle.stk_ctype.specs.Kinds.{bytes_of}
 use Rattle.stk_ctype.specs.Types.{TypeTree}
@@ -10,10 +12,10 @@ use Rattle.stk_tree.specs.declared.expression.UnaryOp.TheVariants as unary
 use Rattle.stk_tree.specs.Syntax.{ExprTree, ExprFormTree, MaybeInitTree, FunctionTree}
 use Rattle.stk_tree.specs.Syntax as s
 use Rattle.stk_numbers.specs.declared.conditions.Kinds.{Kinds}
-use Rattle.stk_rules.specs.Types.{is_scalar}
-use Rattle.stk_runs.specs.Typings.{Typing, type_in, number_kind, is_array, bare, is_among, declarator_node}
+use Rattle.stk_rules.specs.Types.{is_scalar, is_struct}
+use Rattle.stk_runs.specs.Typings.{Typing, type_in, number_kind, is_array, declarator_node, object_size}
 use Rattle.stk_runs.specs.Libraries.{called_signature, result_in}
-use Rattle.stk_runs.specs.Places.{Setting, Target, in_register, in_kept, in_object, unnamed, object_named, target_at, target_of}
+use Rattle.stk_runs.specs.Places.{Setting, Target, in_register, in_kept, in_object, unnamed, object_named, target_at}
 use Rattle.stk_runs.specs.Visits.{Use, read, accessed, taken, Role, Site, at_expression, at_declarator, at_statement, at_section}
 use Rattle.stk_runs.specs.Keys.{Object, parameters_of, objects_of, setting_of, function_visits}
 use Rattle.stk_run_laws.specs.Sites.{IsIn, Ascends, nodes_of, EachSite}
@@ -25,99 +27,89 @@ kept_node g q = get_or g.kept q 0
 abbrev pub kept_kind : Setting → ℕ → IntKind
 kept_kind g q = number_kind (g.typing.type_at (kept_node g q))
 
--- where a place by name begins in its object: behind the offsets of the members that it names
-abbrev mutual
-  pub offset_in : Typing → ExprTree → ℕ
-  offset_in ty (s.expression n f) = form_offset ty f
-
-  pub form_offset : Typing → ExprFormTree → ℕ
-  form_offset ty (s.name at) = 0
-  form_offset ty (s.number at) = 0
-  form_offset ty (s.character at) = 0
-  form_offset ty (s.text parts) = 0
-  form_offset ty (s.paren e) = offset_in ty e
-  form_offset ty (s.index a b) = 0
-  form_offset ty (s.call e es) = 0
-  form_offset ty (s.dot e at) = offset_in ty e + ty.offset_of (type_in ty e) at
-  form_offset ty (s.arrow e at) = 0
-  form_offset ty (s.step op e) = 0
-  form_offset ty (s.unary op e) = 0
-  form_offset ty (s.size_expression e) = 0
-  form_offset ty (s.size_name t) = 0
-  form_offset ty (s.cast t e) = 0
-  form_offset ty (s.binary op a b) = 0
-  form_offset ty (s.choice a b c) = 0
-  form_offset ty (s.assign op a b) = 0
-
--- bytes at an offset lie in a memory object that has a name and a scalar or struct type
-pub record IsPart (objects : List Object) (o offset size : ℕ) : Type 0 where
-  pub object : Object
-  pub among : IsIn object objects
-  pub node : object.node ≡ o
-  pub plain : object.is_plain ≡ true
-  pub within : offset + size ≤ object.size
-
--- a number of a type may be stored to a place: a register or a kept object of its kind, or a part of another object
-abbrev pub Suits : Setting → List Object → Target → ℕ → TypeTree → Type 0
-Suits g objects (in_register i) offset t = number_kind t ≡ number_kind (g.typing.type_at i)
-Suits g objects (in_kept q) offset t = number_kind t ≡ kept_kind g q
-Suits g objects (in_object o) offset t = IsPart objects o offset (bytes_of (number_kind t))
-Suits g objects unnamed offset t = Unit {0}
-
--- an operand that is stored to
-pub record IsStored (g : Setting) (objects : List Object) (e : ExprTree) : Type 0 where
-  pub scalar : is_scalar (type_in g.typing (bare e)) ≡ true
-  pub same : type_in g.typing e ≡ type_in g.typing (bare e)
-  pub suits : Suits g objects (target_of g e) (offset_in g.typing e) (type_in g.typing e)
-
 -- a place that is read is a scalar, or an array, whose address is its value
 abbrev pub IsReadWhole : TypeTree → Use → Type 0
 IsReadWhole t read = (is_scalar t || is_array t) ≡ true
 IsReadWhole t accessed = Unit {0}
 IsReadWhole t taken = Unit {0}
 
--- the number of a memory object's node
-abbrev pub IsObject : List Object → ℕ → Type 0
-IsObject objects k = is_among k (map (λ (o : Object). o.node) objects) ≡ true
+-- a memory object, which has a name where its type is a scalar or a struct
+pub record IsNamedObject (ty : Typing) (objects : List Object) (o : ℕ) : Type 0 where
+  pub object : Object
+  pub among : IsIn object objects
+  pub node : object.node ≡ o
+  pub plain : (is_scalar (ty.type_at o) || is_struct (ty.type_at o)) ≡ true → object.is_plain ≡ true
 
--- a name means a register, or a memory object: a kept one of its kind, or another
-abbrev pub MeansWell : Setting → List Object → ℕ → ℕ → Target → Type 0
-MeansWell g objects k object (in_register i) = Unit {0}
-MeansWell g objects k object (in_kept q) = IsObject objects object × (number_kind (g.typing.type_at k) ≡ kept_kind g q)
-MeansWell g objects k object (in_object o) = IsObject objects object
-MeansWell g objects k object unnamed = IsObject objects object
+abbrev pub MeansObject : Typing → List Object → ℕ → Target → Type 0
+MeansObject ty objects o (in_register i) = Unit {0}
+MeansObject ty objects o (in_kept q) = IsNamedObject ty objects o
+MeansObject ty objects o (in_object p) = IsNamedObject ty objects o
+MeansObject ty objects o unnamed = IsNamedObject ty objects o
+
+-- a name means a register or a memory object, and has its type
+pub record NameAgrees (g : Setting) (objects : List Object) (k o : ℕ) : Type 0 where
+  pub type : g.typing.type_at k ≡ g.typing.type_at o
+  pub means : MeansObject g.typing objects o (target_at g o)
+
+-- a place by name: parentheses have the type of what they hold, and a member lies within its struct
+abbrev mutual
+  pub PlaceAgrees : Setting → List Object → ExprTree → Type 0
+  PlaceAgrees g objects (s.expression n f) = FormAgrees g objects n.number f
+
+  pub FormAgrees : Setting → List Object → ℕ → ExprFormTree → Type 0
+  FormAgrees g objects k (s.name at) = NameAgrees g objects k (object_named g k at)
+  FormAgrees g objects k (s.number at) = Unit {0}
+  FormAgrees g objects k (s.character at) = Unit {0}
+  FormAgrees g objects k (s.text parts) = Unit {0}
+  FormAgrees g objects k (s.paren e) = (g.typing.type_at k ≡ type_in g.typing e) × PlaceAgrees g objects e
+  FormAgrees g objects k (s.index a b) = Unit {0}
+  FormAgrees g objects k (s.call e es) = Unit {0}
+  FormAgrees g objects k (s.dot e at) =
+      (is_struct (type_in g.typing e) ≡ true)
+      × (g.typing.offset_of (type_in g.typing e) at + object_size g.typing (g.typing.type_at k) ≤ object_size g.typing (type_in g.typing e))
+      × PlaceAgrees g objects e
+  FormAgrees g objects k (s.arrow e at) = Unit {0}
+  FormAgrees g objects k (s.step op e) = Unit {0}
+  FormAgrees g objects k (s.unary op e) = Unit {0}
+  FormAgrees g objects k (s.size_expression e) = Unit {0}
+  FormAgrees g objects k (s.size_name t) = Unit {0}
+  FormAgrees g objects k (s.cast t e) = Unit {0}
+  FormAgrees g objects k (s.binary op a b) = Unit {0}
+  FormAgrees g objects k (s.choice a b c) = Unit {0}
+  FormAgrees g objects k (s.assign op a b) = Unit {0}
 
 -- an enumerator's name means its number
 abbrev pub IsTypedName : Setting → List Object → ℕ → Role → ℕ → Option ℤ → Type 0
-IsTypedName g objects k role object (Some z) = Unit {0}
-IsTypedName g objects k role object None = MeansWell g objects k object (target_at g object) × IsReadWhole (g.typing.type_at k) role.use_of
+IsTypedName g objects k role o (Some z) = Unit {0}
+IsTypedName g objects k role o None = NameAgrees g objects k o × IsReadWhole (g.typing.type_at k) role.use_of
 
-abbrev pub IsTypedUnary : Setting → ℕ → Role → UnaryOp → Type 0
-IsTypedUnary g k role unary.Address = Unit {0}
-IsTypedUnary g k role unary.Deref = IsReadWhole (g.typing.type_at k) role.use_of
-IsTypedUnary g k role unary.Plus = Unit {0}
-IsTypedUnary g k role unary.Minus = Unit {0}
-IsTypedUnary g k role unary.Flip = Unit {0}
-IsTypedUnary g k role unary.Not = Unit {0}
+abbrev pub IsTypedUnary : Typing → ℕ → Role → UnaryOp → Type 0
+IsTypedUnary ty k role unary.Address = Unit {0}
+IsTypedUnary ty k role unary.Deref = IsReadWhole (ty.type_at k) role.use_of
+IsTypedUnary ty k role unary.Plus = Unit {0}
+IsTypedUnary ty k role unary.Minus = Unit {0}
+IsTypedUnary ty k role unary.Flip = Unit {0}
+IsTypedUnary ty k role unary.Not = Unit {0}
 
+-- the forms: a string is an array, a call has its function's result, and what `++`, `--` and assignments store to is a scalar
 abbrev pub IsTypedForm : Setting → List Object → ℕ → Role → ExprFormTree → Type 0
 IsTypedForm g objects k role (s.name at) = IsTypedName g objects k role (object_named g k at) (g.typing.number_at k)
 IsTypedForm g objects k role (s.number at) = Unit {0}
 IsTypedForm g objects k role (s.character at) = Unit {0}
-IsTypedForm g objects k role (s.text parts) = (is_array (g.typing.type_at k) ≡ true) × IsObject objects k
+IsTypedForm g objects k role (s.text parts) = is_array (g.typing.type_at k) ≡ true
 IsTypedForm g objects k role (s.paren e) = Unit {0}
 IsTypedForm g objects k role (s.index a b) = IsReadWhole (g.typing.type_at k) role.use_of
 IsTypedForm g objects k role (s.call e es) = g.typing.type_at k ≡ result_in (called_signature g.typing e)
 IsTypedForm g objects k role (s.dot e at) = IsReadWhole (g.typing.type_at k) role.use_of
 IsTypedForm g objects k role (s.arrow e at) = IsReadWhole (g.typing.type_at k) role.use_of
-IsTypedForm g objects k role (s.step op e) = IsStored g objects e
-IsTypedForm g objects k role (s.unary op e) = IsTypedUnary g k role op
+IsTypedForm g objects k role (s.step op e) = (is_scalar (type_in g.typing e) ≡ true) × PlaceAgrees g objects e
+IsTypedForm g objects k role (s.unary op e) = IsTypedUnary g.typing k role op
 IsTypedForm g objects k role (s.size_expression e) = Unit {0}
 IsTypedForm g objects k role (s.size_name t) = Unit {0}
 IsTypedForm g objects k role (s.cast t e) = Unit {0}
 IsTypedForm g objects k role (s.binary op a b) = Unit {0}
 IsTypedForm g objects k role (s.choice a b c) = Unit {0}
-IsTypedForm g objects k role (s.assign op a b) = IsStored g objects a
+IsTypedForm g objects k role (s.assign op a b) = (is_scalar (type_in g.typing a) ≡ true) × PlaceAgrees g objects a
 
 -- braces initialise an array or a struct
 abbrev pub IsBracedWell : TypeTree → MaybeInitTree → Type 0
@@ -125,14 +117,14 @@ IsBracedWell t s.no_initialiser = Unit {0}
 IsBracedWell t (s.some_initialiser (s.plain e)) = Unit {0}
 IsBracedWell t (s.some_initialiser (s.braces items comma)) = is_scalar t ≡ false
 
--- a scalar object that is declared suits its own type
-abbrev pub IsTypedDeclarator : Setting → List Object → Bool → ℕ → MaybeInitTree → Type 0
-IsTypedDeclarator g objects true k init = Unit {0}
-IsTypedDeclarator g objects false k init = (is_scalar (g.typing.type_at k) ≡ true → Suits g objects (target_at g k) 0 (g.typing.type_at k)) × IsBracedWell (g.typing.type_at k) init
+-- a local object has a name
+abbrev pub IsTypedDeclarator : Typing → ℕ → Bool → Option Span → MaybeInitTree → Type 0
+IsTypedDeclarator ty k true at init = Unit {0}
+IsTypedDeclarator ty k false at init = (is_some at ≡ true) × IsBracedWell (ty.type_at k) init
 
 abbrev pub IsTypedSite : Setting → List Object → Site → Type 0
 IsTypedSite g objects (at_expression k role f) = IsTypedForm g objects k role f
-IsTypedSite g objects (at_declarator k static at init) = IsTypedDeclarator g objects static k init
+IsTypedSite g objects (at_declarator k static at init) = IsTypedDeclarator g.typing k static at init
 IsTypedSite g objects (at_statement k arm f) = Unit {0}
 IsTypedSite g objects (at_section k ls) = Unit {0}
 

@@ -4,4 +4,7 @@
 
 mod showing;
 
-pub use showing::{each_end_is_shown, each_place_is_shown, what_suffices_in_paths_suffices};
+pub use showing::{
+    each_end_is_shown, each_place_is_shown, one_condition_serves_all,
+    what_suffices_in_paths_suffices,
+};

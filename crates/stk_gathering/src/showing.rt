@@ -1,6 +1,6 @@
 //! Laws over path runs and executions. Each is a function that does nothing, and whose contract is the law.
 
-ghost use Rattle.stk_gathering.specs.Shown.{EachEndIsShown, Gathering, WhatSufficesInPathsSuffices};
+ghost use Rattle.stk_gathering.specs.Shown.{EachEndIsShown, Gathering, OneConditionServesAll, WhatSufficesInPathsSuffices};
 
 /// For each place of an execution there is a valid input map whose path run makes the same entry, and what stands before it
 /// there stands before that place in the execution. This holds for every start, memory, list of answers, bound on the turns of
@@ -20,4 +20,10 @@ pub fn each_end_is_shown()
 /// A set of conditions that suffices for a candidate in path runs suffices for it in every execution.
 pub fn what_suffices_in_paths_suffices()
     ensures { WhatSufficesInPathsSuffices }
+{}
+
+/// What these laws ask of a function is enough for those on lists of conditions and candidates, and for the one that each node
+/// is evaluated once.
+pub fn one_condition_serves_all()
+    ensures { OneConditionServesAll }
 {}
