@@ -14,7 +14,7 @@ pub use checks::{
     unary_checks,
 };
 pub use libraries::{Library, library_named};
-pub use operating::{absolute, flipped, moved_by, operated, replaced_truth};
+pub use operating::{absolute, flipped, moved_address, operated, replaced_truth};
 pub use operators::{
     Operation, Operator, Sort, assigned_operator, gives_old, operation_of, sort_of, step_operator,
 };

@@ -67,10 +67,10 @@ fn shifted(op: ShiftOp, kind: IntKind, left: Word, count: Word) -> Word
 }
 
 /// The address so many elements of a size before or behind the address that a number is, modulo 2^64 (C11 6.5.6).
-pub fn moved_by(base: Word, step: Word, size: Stride, minus: bool) -> Word
-    ensures { result ≡ pos (moved (to_address base) step size minus) }
+pub fn moved_address(base: Word, step: Word, size: Stride, minus: bool) -> u64
+    ensures { result ≡ moved (to_address base) step size minus }
 {
-    Word::address(moved(base.to_address(), step.number(), size.bytes(), minus))
+    moved(base.to_address(), step.number(), size.bytes(), minus)
 }
 
 // How many elements of a size one address is behind another (C11 6.5.6p9); 0 where the size is 0.
@@ -84,20 +84,20 @@ fn measured(left: Word, right: Word, size: Stride) -> Word
 }
 
 /// The value of an operation on two numbers, also where it violates a condition (C11 6.5.5 to 6.5.12).
-pub fn operated(operation: Operation, left: Word, right: Word) -> Word
-    ensures { result ≡ operated (operation_shown operation) left right }
+pub fn operated(operation: &Operation, left: Word, right: Word) -> Word
+    ensures { result ≡ operated (operation_shown operation.now) left right }
 {
     match operation {
-        Operation::InKind(op, kind) => in_kind(op, kind, left, right),
-        Operation::ShiftIn(op, kind) => shifted(op, kind, left, right),
+        Operation::InKind(op, kind) => in_kind(*op, *kind, left, right),
+        Operation::ShiftIn(op, kind) => shifted(*op, *kind, left, right),
         Operation::CompareIn(op, kind) => {
-            let left = wrap(kind, left.number());
-            let right = wrap(kind, right.number());
-            Word::bit(compared(op, left, right))
+            let left = wrap(*kind, left.number());
+            let right = wrap(*kind, right.number());
+            Word::bit(compared(*op, left, right))
         }
-        Operation::Move(minus, size) => moved_by(left, right, size, minus),
-        Operation::MoveBehind(size) => moved_by(right, left, size, false),
-        Operation::Measure(size) => measured(left, right, size),
+        Operation::Move(minus, size) => Word::address(moved_address(left, right, *size, *minus)),
+        Operation::MoveBehind(size) => Word::address(moved_address(right, left, *size, false)),
+        Operation::Measure(size) => measured(left, right, *size),
     }
 }
 

@@ -91,6 +91,13 @@ impl Word {
         }
     }
 
+    /// The number converted to a kind.
+    pub fn to_kind(self, kind: IntKind) -> Word
+        ensures { result ≡ wrap kind self }
+    {
+        Word::wrapped(kind, self.number)
+    }
+
     /// 1 for true and 0 for false (C11 6.5.8p6).
     pub fn bit(truth: bool) -> Word
         ensures { result ≡ bit truth }
