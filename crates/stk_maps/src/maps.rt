@@ -8,7 +8,7 @@ use std::alloc::Global;
 use stk_base::{List, NoMemory};
 use stk_numbers::{Inputs, IntKind, width, wrap};
 
-/// How many bits a map for keys of these kinds has: the sum of their widths; 65,536 or more where they have so many.
+/// How many bits a map for keys of these kinds has: the sum of their widths, which is below 2^32.
 pub fn total_bits(kinds: &[IntKind]) -> u32
     requires { bits_in kinds.now < 2 ^ 32 }
     ensures { result ≡ bits_in kinds.now }

@@ -1,0 +1,137 @@
+// Words that are legal, with what they ask for, and words that aren't.
+use std::alloc::Global;
+use std::test::Fail;
+use stk_base::NoMemory;
+use stk_numbers::{Kinds, UbKind};
+use stk_options::{Options, WordsFault, words};
+
+/// Words with single blanks between them, and what they ask for: whether the records are JSON, the budget, and the kinds that don't
+/// count.
+struct Legal {
+    text: &'static str,
+    json: bool,
+    budget: u32,
+    without: &'static [UbKind],
+}
+
+const fn legal(text: &'static str, json: bool, budget: u32, without: &'static [UbKind]) -> Legal {
+    Legal {
+        text,
+        json,
+        budget,
+        without,
+    }
+}
+
+static LEGAL: [Legal; 11] = [
+    legal("", false, 20_000, &[]),
+    legal("--json", true, 20_000, &[]),
+    legal("--budget 1", false, 1, &[]),
+    legal("--budget=200000", false, 200_000, &[]),
+    legal("--budget 00000000000000000007", false, 7, &[]),
+    legal("--without null", false, 20_000, &[UbKind::Null]),
+    legal(
+        "--without=overflow,zero,shift,null,pointer,bounds,abs,copy",
+        false,
+        20_000,
+        &[
+            UbKind::Overflow,
+            UbKind::Zero,
+            UbKind::Shift,
+            UbKind::Null,
+            UbKind::Pointer,
+            UbKind::Bounds,
+            UbKind::AbsValue,
+            UbKind::Overlap,
+        ],
+    ),
+    legal(
+        "--without copy,abs",
+        false,
+        20_000,
+        &[UbKind::AbsValue, UbKind::Overlap],
+    ),
+    legal("--json --budget 5 --without zero", true, 5, &[UbKind::Zero]),
+    legal("--without zero --budget 5 --json", true, 5, &[UbKind::Zero]),
+    legal("--without=zero --json --budget=5", true, 5, &[UbKind::Zero]),
+];
+
+static BAD: [&str; 22] = [
+    "--help",
+    "-json",
+    "--json=",
+    "--JSON",
+    "--json --json",
+    "json",
+    "--budget",
+    "--budget 0",
+    "--budget=",
+    "--budget 200001",
+    "--budget 000000000000000000007",
+    "--budget 18446744073709551617",
+    "--budget -1",
+    "--budget +1",
+    "--budget 1 --budget 1",
+    "--without",
+    "--without=",
+    "--without null,",
+    "--without ,null",
+    "--without null,null",
+    "--without nul",
+    "--without null zero",
+];
+
+/// The words of a text.
+fn split(alloc: Global, text: &str) -> Result<Vec<String>, NoMemory> {
+    let mut list = Vec::new(alloc);
+    let mut word = String::new(alloc);
+    for letter in text.chars() {
+        if letter == ' ' {
+            list.push(word)?;
+            word = String::new(alloc);
+        } else {
+            word.push(letter)?;
+        }
+    }
+    if !word.is_empty() {
+        list.push(word)?;
+    }
+    Ok(list)
+}
+
+/// The kinds of a list.
+fn kinds_of(list: &[UbKind]) -> Kinds {
+    Kinds {
+        overflow: list.contains(&UbKind::Overflow),
+        zero: list.contains(&UbKind::Zero),
+        shift: list.contains(&UbKind::Shift),
+        null: list.contains(&UbKind::Null),
+        pointer: list.contains(&UbKind::Pointer),
+        bounds: list.contains(&UbKind::Bounds),
+        abs: list.contains(&UbKind::AbsValue),
+        copy: list.contains(&UbKind::Overlap),
+    }
+}
+
+#[test]
+fn legal_words_ask_for_options(rt: HostRuntime) -> Result<(), Fail> {
+    for case in &LEGAL {
+        let wanted = Options {
+            json: case.json,
+            budget: case.budget,
+            without: kinds_of(case.without),
+        };
+        let list = split(rt.alloc(), case.text)?;
+        assert!(rt; words(list.as_slice()) == Ok(wanted), "{:?}", case.text);
+    }
+    Ok(())
+}
+
+#[test]
+fn other_words_are_bad(rt: HostRuntime) -> Result<(), Fail> {
+    for text in &BAD {
+        let list = split(rt.alloc(), text)?;
+        assert!(rt; words(list.as_slice()) == Err(WordsFault::Bad), "{text:?}");
+    }
+    Ok(())
+}
