@@ -18,3 +18,4 @@ pub mod Grounds
 pub mod Agreeing
 pub mod Starts
 pub mod Laws
+mod Examples
