@@ -13,11 +13,7 @@ use stk_numbers::{CandKind, Candidate, Condition, IntKind, UbKind};
 use stk_runs::Entry;
 
 /// An entry of the runs of a function of one key, and the numbers of the key from which a run makes it, from the first up to the last.
-struct Step {
-    entry: Entry,
-    first: i128,
-    last: i128,
-}
+type Step = (Entry, i128, i128);
 
 /// The entries of a function's runs in order, the map number without a run, a candidate, and what is found for it: nothing, or the start
 /// that hits it and the members of the set, each with its start.
@@ -53,47 +49,31 @@ const SAME: Candidate = Candidate {
     kind: CandKind::Algebra,
 };
 
-const fn step(entry: Entry, first: i128, last: i128) -> Step {
-    Step { entry, first, last }
-}
-
 static UNSIGNED: [Case; 8] = [
     // each run that enters overflows before
     Case {
-        steps: &[
-            step(Entry::Ub(OVERFLOW), 156, 255),
-            step(Entry::Enter(5), 156, 255),
-        ],
+        steps: &[(Entry::Ub(OVERFLOW), 156, 255), (Entry::Enter(5), 156, 255)],
         invalid: 256,
         candidate: ARM,
         found: Some((156, &[(OVERFLOW, 156)])),
     },
     // one enters without it
     Case {
-        steps: &[
-            step(Entry::Ub(OVERFLOW), 156, 255),
-            step(Entry::Enter(5), 155, 255),
-        ],
+        steps: &[(Entry::Ub(OVERFLOW), 156, 255), (Entry::Enter(5), 155, 255)],
         invalid: 256,
         candidate: ARM,
         found: None,
     },
     // none enters
     Case {
-        steps: &[
-            step(Entry::Ub(OVERFLOW), 0, 255),
-            step(Entry::Enter(6), 0, 255),
-        ],
+        steps: &[(Entry::Ub(OVERFLOW), 0, 255), (Entry::Enter(6), 0, 255)],
         invalid: 256,
         candidate: ARM,
         found: None,
     },
     // the condition is violated behind the branch alone
     Case {
-        steps: &[
-            step(Entry::Enter(5), 0, 255),
-            step(Entry::Ub(OVERFLOW), 0, 255),
-        ],
+        steps: &[(Entry::Enter(5), 0, 255), (Entry::Ub(OVERFLOW), 0, 255)],
         invalid: 256,
         candidate: ARM,
         found: None,
@@ -101,9 +81,9 @@ static UNSIGNED: [Case; 8] = [
     // the second condition is violated where the first one is
     Case {
         steps: &[
-            step(Entry::Ub(OVERFLOW), 0, 9),
-            step(Entry::Ub(NULL), 0, 4),
-            step(Entry::Enter(5), 0, 9),
+            (Entry::Ub(OVERFLOW), 0, 9),
+            (Entry::Ub(NULL), 0, 4),
+            (Entry::Enter(5), 0, 9),
         ],
         invalid: 256,
         candidate: ARM,
@@ -112,9 +92,9 @@ static UNSIGNED: [Case; 8] = [
     // each of both conditions is needed; one map has no run
     Case {
         steps: &[
-            step(Entry::Ub(OVERFLOW), 3, 5),
-            step(Entry::Ub(NULL), 6, 7),
-            step(Entry::Enter(5), 3, 7),
+            (Entry::Ub(OVERFLOW), 3, 5),
+            (Entry::Ub(NULL), 6, 7),
+            (Entry::Enter(5), 3, 7),
         ],
         invalid: 3,
         candidate: ARM,
@@ -123,9 +103,9 @@ static UNSIGNED: [Case; 8] = [
     // a test that is false only behind an overflow
     Case {
         steps: &[
-            step(Entry::Ub(OVERFLOW), 200, 255),
-            step(Entry::Seen(4, true, None), 0, 199),
-            step(Entry::Seen(4, false, None), 200, 255),
+            (Entry::Ub(OVERFLOW), 200, 255),
+            (Entry::Seen(4, true, None), 0, 199),
+            (Entry::Seen(4, false, None), 200, 255),
         ],
         invalid: 256,
         candidate: TRUE,
@@ -134,9 +114,9 @@ static UNSIGNED: [Case; 8] = [
     // a comparison that differs from its replacement only behind an overflow
     Case {
         steps: &[
-            step(Entry::Ub(OVERFLOW), 128, 255),
-            step(Entry::Seen(4, true, Some(true)), 0, 127),
-            step(Entry::Seen(4, false, Some(true)), 128, 255),
+            (Entry::Ub(OVERFLOW), 128, 255),
+            (Entry::Seen(4, true, Some(true)), 0, 127),
+            (Entry::Seen(4, false, Some(true)), 128, 255),
         ],
         invalid: 256,
         candidate: SAME,
@@ -146,10 +126,7 @@ static UNSIGNED: [Case; 8] = [
 
 /// Numbers with a sign come in the order of their bits: 0 to 127, and then -128 to -1.
 static SIGNED: [Case; 1] = [Case {
-    steps: &[
-        step(Entry::Ub(OVERFLOW), -128, -1),
-        step(Entry::Enter(5), -128, -1),
-    ],
+    steps: &[(Entry::Ub(OVERFLOW), -128, -1), (Entry::Enter(5), -128, -1)],
     invalid: 256,
     candidate: ARM,
     found: Some((-128, &[(OVERFLOW, -128)])),
@@ -158,9 +135,9 @@ static SIGNED: [Case; 1] = [Case {
 /// The run of a function from a number of its key.
 fn run_of(alloc: Global, steps: &[Step], key: i128) -> Result<Vec<Entry>, NoMemory> {
     let mut trace = Vec::new(alloc);
-    for step in steps {
-        if step.first <= key && key <= step.last {
-            trace.push(step.entry)?;
+    for (entry, first, last) in steps {
+        if *first <= key && key <= *last {
+            trace.push(*entry)?;
         }
     }
     Ok(trace)
@@ -189,7 +166,7 @@ fn are_needs(needs: &[Need], wanted: &[(Condition, i128)]) -> bool {
                 && need
                     .shown
                     .as_ref()
-                    .is_some_and(|shown| shown.numbers.as_slice() == &[*start])
+                    .is_some_and(|shown| shown.numbers.as_slice() == [*start].as_slice())
         })
 }
 
@@ -198,7 +175,7 @@ fn is_found(finding: &Finding, wanted: Option<(i128, &[(Condition, i128)])>) -> 
     match (finding, wanted) {
         (Finding::Clear, None) => true,
         (Finding::Unstable { start, needs }, Some((first, set))) => {
-            start.numbers.as_slice() == &[first] && are_needs(needs.as_slice(), set)
+            start.numbers.as_slice() == [first].as_slice() && are_needs(needs.as_slice(), set)
         }
         _ => false,
     }

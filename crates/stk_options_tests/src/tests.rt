@@ -7,30 +7,16 @@ use stk_options::{Options, WordsFault, words};
 
 /// Words with single blanks between them, and what they ask for: whether the records are JSON, the budget, and the kinds that don't
 /// count.
-struct Legal {
-    text: &'static str,
-    json: bool,
-    budget: u32,
-    without: &'static [UbKind],
-}
-
-const fn legal(text: &'static str, json: bool, budget: u32, without: &'static [UbKind]) -> Legal {
-    Legal {
-        text,
-        json,
-        budget,
-        without,
-    }
-}
+type Legal = (&'static str, bool, u32, &'static [UbKind]);
 
 static LEGAL: [Legal; 11] = [
-    legal("", false, 20_000, &[]),
-    legal("--json", true, 20_000, &[]),
-    legal("--budget 1", false, 1, &[]),
-    legal("--budget=200000", false, 200_000, &[]),
-    legal("--budget 00000000000000000007", false, 7, &[]),
-    legal("--without null", false, 20_000, &[UbKind::Null]),
-    legal(
+    ("", false, 20_000, &[]),
+    ("--json", true, 20_000, &[]),
+    ("--budget 1", false, 1, &[]),
+    ("--budget=200000", false, 200_000, &[]),
+    ("--budget 00000000000000000007", false, 7, &[]),
+    ("--without null", false, 20_000, &[UbKind::Null]),
+    (
         "--without=overflow,zero,shift,null,pointer,bounds,abs,copy",
         false,
         20_000,
@@ -45,15 +31,15 @@ static LEGAL: [Legal; 11] = [
             UbKind::Overlap,
         ],
     ),
-    legal(
+    (
         "--without copy,abs",
         false,
         20_000,
         &[UbKind::AbsValue, UbKind::Overlap],
     ),
-    legal("--json --budget 5 --without zero", true, 5, &[UbKind::Zero]),
-    legal("--without zero --budget 5 --json", true, 5, &[UbKind::Zero]),
-    legal("--without=zero --json --budget=5", true, 5, &[UbKind::Zero]),
+    ("--json --budget 5 --without zero", true, 5, &[UbKind::Zero]),
+    ("--without zero --budget 5 --json", true, 5, &[UbKind::Zero]),
+    ("--without=zero --json --budget=5", true, 5, &[UbKind::Zero]),
 ];
 
 static BAD: [&str; 22] = [
@@ -115,14 +101,14 @@ fn kinds_of(list: &[UbKind]) -> Kinds {
 
 #[test]
 fn legal_words_ask_for_options(rt: HostRuntime) -> Result<(), Fail> {
-    for case in &LEGAL {
+    for (text, json, budget, without) in &LEGAL {
         let wanted = Options {
-            json: case.json,
-            budget: case.budget,
-            without: kinds_of(case.without),
+            json: *json,
+            budget: *budget,
+            without: kinds_of(without),
         };
-        let list = split(rt.alloc(), case.text)?;
-        assert!(rt; words(list.as_slice()) == Ok(wanted), "{:?}", case.text);
+        let list = split(rt.alloc(), text)?;
+        assert!(rt; words(list.as_slice()) == Ok(wanted), "{text:?}");
     }
     Ok(())
 }
