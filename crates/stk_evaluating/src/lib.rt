@@ -9,3 +9,4 @@ mod steps;
 pub use asked::{PathSetting, Replacement, Target};
 pub use expressions::{tested, value};
 pub use state::{Flow, Sides, State, put_kept, put_word};
+pub use steps::node_of;
