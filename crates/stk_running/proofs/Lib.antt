@@ -1,0 +1,4 @@
+pub mod Chosen
+pub mod Flowing
+pub mod Saving
+pub mod StatementViews
