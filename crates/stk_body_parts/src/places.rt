@@ -24,7 +24,7 @@ pub struct Place<'a> {
 }
 
 impl<'a> Place<'a> {
-    // The body of a loop.
+    /// The place of the body of a loop, which `break` and `continue` leave (C11 6.8.5, 6.8.6).
     pub fn looped(&self) -> Place<'a>
         ensures is { (ls : List LocalName) → body_in result ls ≡ looped (body_in self.now ls) }
         ensures names { result.file.names.now ≡ self.now.file.names.now }
@@ -36,7 +36,7 @@ impl<'a> Place<'a> {
         }
     }
 
-    // The body of a `switch`.
+    /// The place of the body of a `switch`, which `break` leaves (C11 6.8.4.2, 6.8.6.3).
     pub fn switched(&self) -> Place<'a>
         ensures is { (ls : List LocalName) → body_in result ls ≡ switched (body_in self.now ls) }
         ensures names { result.file.names.now ≡ self.now.file.names.now }
@@ -47,7 +47,7 @@ impl<'a> Place<'a> {
         }
     }
 
-    // A block of its own, which begins behind these locals.
+    /// The place of a block of its own, which begins behind these locals (C11 6.8.2).
     pub fn opened(&self, locals: &Locals) -> Place<'a>
         ensures is { body_in result locals.now ≡ opened (body_in self.now locals.now) }
         ensures outer { result.outer ≡ length locals.now }
