@@ -1,0 +1,4 @@
+pub mod Mentioned
+pub mod Filters
+pub mod Changing
+pub mod Flat
