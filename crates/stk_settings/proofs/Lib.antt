@@ -2,3 +2,4 @@ pub mod Mentioned
 pub mod Filters
 pub mod Changing
 pub mod Flat
+pub mod Listing

@@ -3,6 +3,7 @@ use Rattle.std.specs.Prelude.{ℕ, List, [], ◌∷◌, ◌++◌}
 use Rattle.stk_base.specs.Text.{text_of}
 use Rattle.stk_numbers.specs.declared.conditions.Kinds.{Kinds}
 use Rattle.stk_runs.specs.Places as places
+use Rattle.stk_runs.specs.Keys.{KeyInfo}
 use Rattle.stk_function_types.specs.Units.{TypedUnit}
 use Rattle.stk_function_types.specs.Nodes.{typing_in}
 use Rattle.stk_settings.specs.declared.targets.Target.{Target}
@@ -10,13 +11,14 @@ use Rattle.stk_settings.specs.declared.targets.Target.TheVariants as target
 use Rattle.stk_settings.specs.declared.mentions.Mention.{Mention}
 
 -- The types of a function; the kinds of conditions that are taken out; the declarators of its registers, in order; its mentions of
--- objects of file scope, in order; and its kept objects, each by the node of its address, in order.
+-- objects of file scope, in order; its kept objects, each by the node of its address, in order; and its keys, in order.
 pub record FunctionPlaces : Type 0 where
   pub types : TypedUnit
   pub without : Kinds
   pub registers : List ℕ
   pub mentions : List places.Mention
   pub kept : List ℕ
+  pub keys : List KeyInfo
 
 -- what the runs of the function rest on
 abbrev pub setting_in : FunctionPlaces → places.Setting

@@ -1,35 +1,25 @@
 //! The registers of a function.
 
-ghost use Rattle.std.specs.Prelude.{◌≡◌, ◌++◌, [], ◌∷◌, if◌then◌else◌, OnOk, IfOk, map, filter};
-ghost use Rattle.stk_tree.specs.View.{view_declarator, view_parameter, view_function, parameters};
+ghost use Rattle.std.specs.Prelude.{◌≡◌, ◌++◌, [], ◌∷◌, if◌then◌else◌, OnOk, IfOk, map};
+ghost use Rattle.stk_tree.specs.View.{view_parameter, parameters};
 ghost use Rattle.stk_function_types.specs.Nodes.{typing_in};
-ghost use Rattle.stk_runs.specs.Typings.{declarator_node};
-ghost use Rattle.stk_runs.specs.Keys.{is_register, site_registers, head_parameters, parameters_of, parameter_declarators};
+ghost use Rattle.stk_runs.specs.Keys.{is_register, site_registers};
 ghost use Rattle.stk_sites.specs.Sites.{met_of};
 ghost use Rattle.stk_sites.specs.Gathered.{given, gathered};
+ghost use Rattle.stk_settings.specs.Listed.{parameters_registers};
 
 use std::alloc::Global;
 use stk_base::NoMemory;
 use stk_function_types::FunctionTypes;
 use stk_rules::is_scalar;
 use stk_sites::{Site, SiteForm};
-use stk_tree::{Declr, Function, Param, Tail};
+use stk_tree::Param;
 
 /// Whether the object of a declarator is a register, where it is automatic: a scalar whose name is no operand of `&`.
 pub(crate) fn is_register(types: &FunctionTypes, node: u32) -> bool
     ensures { result ≡ is_register (typing_in types.now) node }
 {
     is_scalar(types.type_at(node)) && !types.is_taken(node)
-}
-
-/// The parameters that a declarator of a function has.
-pub(crate) fn parameters_of(d: &Declr) -> &[Param]
-    ensures { parameter_declarators (parameters (map view_parameter result.now)) ≡ head_parameters (view_declarator d.now) }
-{
-    match &d.tail {
-        Tail::Params(list, _) => list.as_slice(),
-        Tail::Arrays(_) | Tail::Unspecified | Tail::NoParams => &[],
-    }
 }
 
 // Notes a declarator, where its object is a register.
@@ -43,13 +33,12 @@ fn note_register(types: &FunctionTypes, node: u32, out: &mut Vec<u32>) -> Result
 }
 
 // Notes the parameters that are registers.
-#[tactic(auto, using(crate::proofs::Filters::filtered))]
-fn parameter_registers(
+fn parameters_registers(
     types: &FunctionTypes,
     list: &[Param],
     out: &mut Vec<u32>,
 ) -> Result<(), NoMemory>
-    ensures { OnOk result (out.new.items ≡ out.old.items ++ filter (λ k. is_register (typing_in types.now) k) (map declarator_node (parameter_declarators (parameters (map view_parameter list.now))))) }
+    ensures { OnOk result (out.new.items ≡ out.old.items ++ parameters_registers (typing_in types.now) (parameters (map view_parameter list.now))) }
 {
     for p in list {
         note_register(types, p.declr.node.number, out)?;
@@ -76,17 +65,17 @@ fn site_registers(types: &FunctionTypes, site: &Site, out: &mut Vec<u32>) -> Res
     }
 }
 
-/// The declarators of the registers of a function with these sites, parameters first.
+/// The declarators of the registers of a function with these parameters and sites, parameters first.
 pub(crate) fn registers_among(
     alloc: Global,
     types: &FunctionTypes,
-    f: &Function,
+    list: &[Param],
     sites: &[Site],
 ) -> Result<Vec<u32>, NoMemory>
-    ensures { IfOk result (λ out. out.items ≡ filter (λ k. is_register (typing_in types.now) k) (map declarator_node (parameters_of (view_function f.now))) ++ gathered (site_registers (typing_in types.now)) (map met_of sites.now)) }
+    ensures { IfOk result (λ out. out.items ≡ parameters_registers (typing_in types.now) (parameters (map view_parameter list.now)) ++ gathered (site_registers (typing_in types.now)) (map met_of sites.now)) }
 {
     let mut out = Vec::new(alloc);
-    parameter_registers(types, parameters_of(&f.declr), &mut out)?;
+    parameters_registers(types, list, &mut out)?;
     for site in sites {
         site_registers(types, site, &mut out)?;
     }

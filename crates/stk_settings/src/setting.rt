@@ -1,11 +1,12 @@
 //! What the runs of a function rest on.
 
-ghost use Rattle.std.specs.Prelude.{◌≡◌, ◌≤◌, length};
+ghost use Rattle.std.specs.Prelude.{◌≡◌, ◌≤◌, length, map};
 ghost use Rattle.stk_tree.specs.View.{view_expression, view_expression_form};
 ghost use Rattle.stk_runs.specs.Places.{mentioned_in, object_named, target_at, target_of, form_target, kept_at, position_behind, member_target};
+ghost use Rattle.stk_settings.specs.Infos.{info_in};
 ghost use Rattle.stk_settings.specs.Settings.{setting_in, target_in};
 
-use crate::{Mention, Target};
+use crate::{KeyInfo, Mention, Target};
 use std::marker::Model;
 use stk_base::Span;
 use stk_ctype::Index;
@@ -27,6 +28,7 @@ pub struct Setting<'a> {
     pub(crate) mentions: Vec<Mention>,
     pub(crate) index: Index<u32>,
     pub(crate) kept: Vec<u32>,
+    pub(crate) keys: Vec<KeyInfo>,
 }
 
 impl<'a> Model for Setting<'a> {
@@ -53,13 +55,14 @@ impl<'a> Model for Setting<'a> {
     ghost use Rattle.stk_tree.specs.contracts.statement.StmtForm as stmt_form;
     ghost use Rattle.stk_tree.specs.contracts.statement.Part as part;
     ghost use Rattle.stk_tree.specs.contracts.statement.Section as section;
+    ghost use Rattle.stk_settings.specs.Infos.{info_in};
     ghost use Rattle.stk_settings.specs.Settings.{FunctionPlaces, mention_in, words_behind};
 
     ghost Value = { FunctionPlaces };
 
     ghost coded = { Prim.hlevel (codes, ctype.the_row.coded, signature.the_row.coded, expr.the_row.coded, expr_form.the_row.coded, base.the_row.coded, base_form.the_row.coded, member.the_row.coded, enumr.the_row.coded, declr.the_row.coded, tail.the_row.coded, dimension.the_row.coded, param.the_row.coded, type_name.the_row.coded, init.the_row.coded, item.the_row.coded, desig.the_row.coded, stmt.the_row.coded, stmt_form.the_row.coded, part.the_row.coded, section.the_row.coded) };
 
-    ghost view = { λ s. record { types = s.types.now; without = s.without; registers = s.registers.items; mentions = map (mention_in s.types.now.bytes) s.mentions.items; kept = s.kept.items } };
+    ghost view = { λ s. record { types = s.types.now; without = s.without; registers = s.registers.items; mentions = map (mention_in s.types.now.bytes) s.mentions.items; kept = s.kept.items; keys = map info_in s.keys.items } };
 
     ghost invariant = { λ s. (s.marks ≡ s.registers.items) × IsIndexOf s.index (words_behind (map (mention_in s.types.now.bytes) s.mentions.items)) × (length s.kept.items ≤ 32) };
 }
@@ -117,6 +120,13 @@ impl<'a> Setting<'a> {
         ensures few { length result.now ≤ 32 }
     {
         self.kept.as_slice()
+    }
+
+    /// The keys of the function, in order: what a path run takes from an input map.
+    pub fn keys(&self) -> &[KeyInfo]
+        ensures { map info_in result.now ≡ self.now.keys }
+    {
+        self.keys.as_slice()
     }
 
     /// The node at which a name of file scope is first mentioned, where an evaluated part of the function mentions it.
