@@ -132,3 +132,8 @@ registers-listed (change.AnyKept ∷ cs) k = registers-listed cs k
 -- the registers that are changed, in order
 pub filter-changed : (g : Setting) (v : Visits) (ks : List ℕ) → filter (λ k. is_listed k (registers_changed (change_list g v))) ks ≡ filter (λ k. changes g v (register_spot k)) ks
 filter-changed g v ks = filter-same _ _ ks (λ k. registers-listed (change_list g v) k ∙ changes-list g v (register_spot k))
+
+-- what is assigned, from the list of changes
+pub assigned_from : (g : Setting) (v : Visits) (set registers : List ℕ) (list : List Change) → set ≡ registers_changed list → list ≡ change_list g v → registers ≡ g.registers → filter (λ k. is_listed k set) registers ≡ filter (λ k. changes g v (register_spot k)) g.registers
+assigned_from g v set registers list es el er =
+    ap (λ xs. filter (λ k. is_listed k xs) registers) (es ∙ ap registers_changed el) ∙ ap (λ ks. filter (λ k. is_listed k (registers_changed (change_list g v))) ks) er ∙ filter-changed g v g.registers

@@ -127,7 +127,7 @@ labels_changes g ty s.no_labels = refl
 labels_changes g ty (s.then_label s.default_label ls) = labels_changes g ty ls
 labels_changes g ty (s.then_label (s.case_label e) ls) = labels_changes g ty ls
 
-append_none : {A : Type 0} (xs : List A) → xs ++ [] ≡ xs
+pub append_none : {A : Type 0} (xs : List A) → xs ++ [] ≡ xs
 append_none xs = append-nil xs
 
 pub ruleset listed = (append_none, labels_changes)

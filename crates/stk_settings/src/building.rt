@@ -75,7 +75,7 @@ fn first_setting<'a>(
 // A setting with these keys and kept objects.
 fn with_keys<'a>(setting: Setting<'a>, keys: Vec<KeyInfo>, kept: Vec<u32>) -> Setting<'a>
     requires { length kept.items ≤ 32 }
-    ensures { result ≡ record setting { keys = map info_in keys.items; kept = kept.items } }
+    ensures { result ≡ record setting.entry { keys = map info_in keys.items; kept = kept.items } }
 {
     let mut setting = setting;
     setting.keys = keys;
