@@ -8,6 +8,7 @@ use Rattle.stk_runs.specs.Visits.{Role, reading, Visits, no_visit, visit, both_v
 use Rattle.stk_sites.specs.Sites.{met_in}
 use Rattle.stk_sites.specs.Gathered.{gathered}
 use Rattle.stk_sites.proofs.Gathering.{gathered-append, gathered-unevaluated}
+use Rattle.stk_settings.specs.declared.changes.Change.{Change}
 use Rattle.stk_settings.specs.Changed.{site_change_list, change_list}
 
 -- visits without a scope that is evaluated
@@ -131,3 +132,7 @@ pub append_none : {A : Type 0} (xs : List A) → xs ++ [] ≡ xs
 append_none xs = append-nil xs
 
 pub ruleset listed = (append_none, labels_changes)
+
+-- labels before what changes, and a section behind it
+pub section_list : (g : Setting) (ty : Typing) (ls : LabelTrees) (xs : List Change) → xs ≡ change_list g (labels_visits ty ls) ++ (xs ++ [])
+section_list g ty ls xs = sym (ap (λ ys. ys ++ (xs ++ [])) (labels_changes g ty ls) ∙ append-nil xs)

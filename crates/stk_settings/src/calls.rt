@@ -14,7 +14,7 @@ use stk_function_types::FunctionTypes;
 use stk_operating::{Library, library_named};
 use stk_tree::{Expr, ExprForm};
 
-/// The name that a call calls: a function is called by its name (C11 6.5.2.2).
+// The name that a call calls: a function is called by its name (C11 6.5.2.2).
 fn called_name(callee: &Expr) -> Option<Span>
     ensures { result ≡ called_name (view_expression callee.now) }
 {
@@ -39,8 +39,8 @@ fn called_name(callee: &Expr) -> Option<Span>
     }
 }
 
-/// The signature of what a call calls.
-pub(crate) fn called_signature<'a>(types: &'a FunctionTypes, callee: &Expr) -> Option<&'a Signature>
+/// The signature of what a call calls; none where it doesn't call a function by its name.
+pub fn called_signature<'a>(types: &'a FunctionTypes, callee: &Expr) -> Option<&'a Signature>
     ensures { option_map signature_of (option_copied result) ≡ called_signature (typing_in types.now) (view_expression callee.now) }
 {
     match called_name(callee) {
@@ -49,8 +49,8 @@ pub(crate) fn called_signature<'a>(types: &'a FunctionTypes, callee: &Expr) -> O
     }
 }
 
-/// What a call calls in the library.
-pub(crate) fn called_library(types: &FunctionTypes, callee: &Expr) -> Option<Library>
+/// What a call calls in the library; none where it calls another function.
+pub fn called_library(types: &FunctionTypes, callee: &Expr) -> Option<Library>
     ensures { option_map library_shown result ≡ called_library (typing_in types.now) (view_expression callee.now) }
 {
     match called_name(callee) {

@@ -8,11 +8,11 @@ ghost use Rattle.stk_taken.specs.Sets.{is_listed};
 ghost use Rattle.stk_function_types.specs.Nodes.{typing_in};
 ghost use Rattle.stk_operating.specs.Shown.{library_shown};
 ghost use Rattle.stk_runs.specs.Visits.{declared_by, declared_in, part_declares, parts_declare, start_declares, expression_visits, maybe_visits, declaration_visits, start_visits, statement_visits, statement_form_visits, maybe_statement_visits, statements_visits, parts_visits, part_visits, sections_visits, section_visits, turn_visits};
-ghost use Rattle.stk_runs.specs.Changes.{assigned_in};
+ghost use Rattle.stk_runs.specs.Changes.{assigned_in, forgotten_in, kept_spot};
 ghost use Rattle.stk_sites.specs.Sites.{met_of, role_in};
 ghost use Rattle.stk_sites.specs.Gathered.{given, gathered};
 ghost use Rattle.stk_settings.specs.Settings.{setting_in, target_in};
-ghost use Rattle.stk_settings.specs.Changed.{target_changes, library_changes, form_change_list, declared_changes, initial_change_list, declarator_change_list, site_change_list, outer_changes, is_own_change, change_list, registers_changed};
+ghost use Rattle.stk_settings.specs.Changed.{changed_by, changed_by_any, target_changes, library_changes, form_change_list, declared_changes, initial_change_list, declarator_change_list, site_change_list, outer_changes, is_own_change, change_list, registers_changed};
 
 use crate::calls::called_library;
 use crate::{Setting, Target};
@@ -514,10 +514,47 @@ fn those_in(alloc: Global, list: &[u32], set: &NodeSet) -> Result<Vec<u32>, NoMe
 
 /// The registers that each turn of a loop may assign, in the order of their declarators, without those that its own blocks
 /// declare; none of another statement.
-pub(crate) fn assigned(alloc: Global, setting: &Setting, f: &StmtForm) -> Result<Vec<u32>, NoMemory>
+pub fn assigned(alloc: Global, setting: &Setting, f: &StmtForm) -> Result<Vec<u32>, NoMemory>
     ensures { IfOk result (λ out. out.items ≡ assigned_in (setting_in setting.now) (view_statement_form f.now)) }
 {
     let list = turn_changes(alloc, setting, f)?;
     let set = registers_changed(alloc, list.as_slice())?;
     those_in(alloc, setting.registers(), &set)
+}
+
+// Whether a change may be of the kept object at a position.
+fn is_of_kept(change: Change, position: u32) -> bool
+    ensures { result ≡ changed_by change (kept_spot position) }
+{
+    match change {
+        Change::Register(_) => false,
+        Change::Kept(q) => position == q,
+        Change::AnyKept => true,
+    }
+}
+
+// Whether one of some changes may be of the kept object at a position.
+fn is_any_of_kept(list: &[Change], position: u32) -> bool
+    ensures { result ≡ changed_by_any list.now (kept_spot position) }
+{
+    for change in list {
+        if is_of_kept(*change, position) {
+            return true;
+        }
+    }
+    false
+}
+
+/// Whether each turn of a loop may change the kept object at this position; of another statement it changes none. It takes memory
+/// for as long as it runs.
+pub fn forgotten(
+    alloc: Global,
+    setting: &Setting,
+    f: &StmtForm,
+    position: u32,
+) -> Result<bool, NoMemory>
+    ensures { IfOk result (λ b. b ≡ forgotten_in (setting_in setting.now) (view_statement_form f.now) position) }
+{
+    let list = turn_changes(alloc, setting, f)?;
+    Ok(is_any_of_kept(list.as_slice(), position))
 }

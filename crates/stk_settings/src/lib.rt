@@ -11,6 +11,8 @@ mod registers;
 mod setting;
 mod targets;
 
+pub use calls::{called_library, called_signature};
+pub use changes::{assigned, forgotten};
 pub use infos::{Key, KeyInfo};
 pub use mentions::Mention;
 pub use setting::Setting;
