@@ -3,3 +3,4 @@ pub mod Filters
 pub mod Changing
 pub mod Flat
 pub mod Listing
+pub mod Made

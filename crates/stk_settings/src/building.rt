@@ -105,10 +105,11 @@ impl<'a> Setting<'a> {
         ensures keys { IfOk result (λ s. s.keys ≡ keys_of (typing_in types.now) without (view_function f.now)) }
         ensures types { IfOk result (λ s. s.types ≡ types.now) }
     {
-        let sites = function_sites(alloc, types, f)?;
+        let all = function_sites(alloc, types, f)?;
+        let sites = all.as_slice();
         let list = parameters_of(&f.declr);
-        let first = first_setting(alloc, types, without, list, sites.as_slice())?;
-        let keys = keys_among(alloc, &first, list, sites.as_slice())?;
+        let first = first_setting(alloc, types, without, list, sites)?;
+        let keys = keys_among(alloc, &first, list, sites)?;
         let kept = kept_among(alloc, types, keys.as_slice())?;
         Ok(with_keys(first, keys, first_few(kept)))
     }

@@ -8,5 +8,6 @@ use Rattle.stk_settings.specs.Settings.{setting_in}
 use Rattle.stk_settings.proofs.Changing.{changes-list}
 use Rattle.stk_settings.proofs.changes.forgotten.Goals as goal
 
-pub returns-in_ok-list : goal.returns-in_ok-list
-returns-in_ok-list c = ?
+pub returns : goal.returns
+returns c =
+    c.is_any_of_kept.ensures ∙ ap (λ cs. changed_by_any cs (kept_spot c.args.position)) (c.as_slice.ensures.value ∙ c.in_ok-list.ensures) ∙ changes-list (setting_in c.args.setting.now) (turn_visits (typing_in c.args.setting.now.types) (view_statement_form c.args.f.now)) (kept_spot c.args.position)
