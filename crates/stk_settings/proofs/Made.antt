@@ -21,15 +21,15 @@ setting_by g h a b c d e =
     ∙ ap (λ x. let s : Setting = record { typing = h.typing; without = h.without; registers = h.registers; mentions = x; kept = g.kept } in s) d
     ∙ ap (λ x. let s : Setting = record { typing = h.typing; without = h.without; registers = h.registers; mentions = h.mentions; kept = x } in s) e
 
-pub record IsMade (T : TypedUnit) (without : Kinds) (f : FunctionTree) (r : FunctionPlaces) : Type 0 where
-  pub setting : setting_in r ≡ setting_of (typing_in T) without f
-  pub keys : r.keys ≡ keys_of (typing_in T) without f
+pub record IsMade (T : TypedUnit) (w : Kinds) (f : FunctionTree) (r : FunctionPlaces) : Type 0 where
+  pub setting : setting_in r ≡ setting_of (typing_in T) w f
+  pub keys : r.keys ≡ keys_of (typing_in T) w f
   pub types : r.types ≡ T
 
 -- the first setting's parts
-pub record IsFirst (T : TypedUnit) (without : Kinds) (ps : ParamTrees) (ms : List Met) (first : FunctionPlaces) : Type 0 where
+pub record IsFirst (T : TypedUnit) (w : Kinds) (ps : ParamTrees) (ms : List Met) (first : FunctionPlaces) : Type 0 where
   pub types : first.types ≡ T
-  pub without : first.without ≡ without
+  pub without : first.without ≡ w
   pub registers : first.registers ≡ parameters_registers (typing_in T) ps ++ gathered (site_registers (typing_in T)) ms
   pub mentions : first.mentions ≡ gathered (site_mentions (typing_in T)) ms
   pub kept : first.kept ≡ []
