@@ -1,10 +1,14 @@
 -- Expressions, initialisers and declarators have no scopes, so what they change is what their sites change.
-use Rattle.std.proofs.Common.{ℕ, ◌≡◌, ◌++◌, List, [], Bool, true, false, refl, sym, ap, ◌∙◌, append-nil}
+use Rattle.std.proofs.Common.{ℕ, ◌≡◌, ◌++◌, List, [], map, Bool, true, false, refl, sym, ap, ◌∙◌, append-nil}
 use Rattle.stk_tree.specs.Syntax.{ExprTree, ExprTrees, MaybeExprTree, ExprFormTree, TypeNameTree, DimensionTree, DimensionTrees, InitTree, MaybeInitTree, ItemTree, ItemTrees, DesigTree, DesigTrees, TailTree, ParamTree, ParamTrees, DeclrTree, DeclrTrees, DeclarationTree, StartTree, LabelTree, LabelTrees}
+use Rattle.stk_tree.specs.Syntax.{PartTree, StmtFormTree, SectionTree, StmtTree}
 use Rattle.stk_tree.specs.Syntax as s
+use Rattle.stk_tree.specs.declared.statement.Stmt.{Stmt}
+use Rattle.stk_tree.specs.declared.statement.Section.{Section, out-Section, fold_out-Section}
+use Rattle.stk_tree.specs.View.{part_step, statement_form_step, section_step, statement_step, view_section, view_statement, view_label, labels, statements}
 use Rattle.stk_runs.specs.Typings.{Typing}
 use Rattle.stk_runs.specs.Places.{Setting}
-use Rattle.stk_runs.specs.Visits.{Role, reading, Visits, no_visit, visit, both_visits, scope, unevaluated, is_static, expression_visits, form_visits, arguments_visits, type_name_visits, dimensions_visits, dimension_visits, maybe_visits, initialiser_visits, items_visits, item_visits, designators_visits, designator_visits, tail_visits, parameters_visits, parameter_visits, head_visits, initial_visits, declarator_visits, declarators_visits, declaration_visits, start_visits, label_visits, labels_visits}
+use Rattle.stk_runs.specs.Visits.{Role, reading, Visits, no_visit, visit, both_visits, scope, unevaluated, is_static, expression_visits, form_visits, arguments_visits, type_name_visits, dimensions_visits, dimension_visits, maybe_visits, initialiser_visits, items_visits, item_visits, designators_visits, designator_visits, tail_visits, parameters_visits, parameter_visits, head_visits, initial_visits, declarator_visits, declarators_visits, declaration_visits, start_visits, label_visits, labels_visits, statements_visits, section_visits}
 use Rattle.stk_sites.specs.Sites.{met_in}
 use Rattle.stk_sites.specs.Gathered.{gathered}
 use Rattle.stk_sites.proofs.Gathering.{gathered-append, gathered-unevaluated}
@@ -136,3 +140,13 @@ pub ruleset listed = (append_none, labels_changes)
 -- labels before what changes, and a section behind it
 pub section_list : (g : Setting) (ty : Typing) (ls : LabelTrees) (xs : List Change) → xs ≡ change_list g (labels_visits ty ls) ++ (xs ++ [])
 section_list g ty ls xs = sym (ap (λ ys. ys ++ (xs ++ [])) (labels_changes g ty ls) ∙ append-nil xs)
+
+section_view : (x : Section) → view_section x ≡ s.section (out-Section x).node (labels (map view_label (out-Section x).labels)) (statements (map view_statement (out-Section x).body))
+section_view x = fold_out-Section PartTree StmtFormTree SectionTree StmtTree part_step statement_form_step section_step statement_step x
+
+-- what a section changes is what its statements change
+pub section_changes_are : (g : Setting) (ty : Typing) (x : Section) (body : List Stmt) → body ≡ (out-Section x).body → change_list g (statements_visits ty (statements (map view_statement body))) ≡ change_list g (section_visits ty (view_section x))
+section_changes_are g ty x body e =
+    ap (λ (b : List Stmt). change_list g (statements_visits ty (statements (map view_statement b)))) e
+    ∙ section_list g ty (labels (map view_label (out-Section x).labels)) (change_list g (statements_visits ty (statements (map view_statement (out-Section x).body))))
+    ∙ sym (ap (λ (v : SectionTree). change_list g (section_visits ty v)) (section_view x))
