@@ -1,0 +1,28 @@
+-- Filters, and numbers among some.
+use Rattle.std.proofs.Common.{ℕ, ◌≡◌, ◌==◌, ◌||◌, Bool, true, false, List, [], ◌∷◌, ◌++◌, refl, sym, ap, ◌∙◌, append-nil, eqb-true}
+use Rattle.std.specs.Prelude.{if◌then◌else◌, filter}
+use Rattle.std.proofs.lemmas.Bool.{eqb-false}
+
+by_first : {A : Type 0} (b : Bool) (x : A) (xs : List A) → (if b then x ∷ xs else xs) ≡ (if b then x ∷ [] else []) ++ xs
+by_first true x xs = refl
+by_first false x xs = refl
+
+-- a filter, one element after the other
+pub filter-cons : {A : Type 0} (p : A → Bool) (x : A) (xs : List A) → filter p (x ∷ xs) ≡ (if p x then x ∷ [] else []) ++ filter p xs
+filter-cons p x xs = by_first (p x) x (filter p xs)
+
+pub ruleset filtered = (filter-cons)
+
+-- filters by the same test
+pub filter-same : {A : Type 0} (p q : A → Bool) (xs : List A) → ((x : A) → p x ≡ q x) → filter p xs ≡ filter q xs
+filter-same p q [] h = refl
+filter-same p q (x ∷ xs) h = filter-cons p x xs ∙ ap (λ b. (if b then x ∷ [] else []) ++ filter p xs) (h x) ∙ ap (λ ys. (if q x then x ∷ [] else []) ++ ys) (filter-same p q xs h) ∙ sym (filter-cons q x xs)
+
+-- equality of numbers, turned round
+pub turned_eq : (j k : ℕ) → (j == k) ≡ (k == j)
+turned_eq j k = by (j == k) refl (k == j) refl where
+  by : (u : Bool) → (j == k) ≡ u → (v : Bool) → (k == j) ≡ v → (j == k) ≡ (k == j)
+  by true e true f = e ∙ sym f
+  by true e false f = absurd (eqb-false k j f (sym (eqb-true j k e)))
+  by false e true f = absurd (eqb-false j k e (sym (eqb-true k j f)))
+  by false e false f = e ∙ sym f

@@ -1,0 +1,10 @@
+use Rattle.std.proofs.Common.{◌≡◌, ◌++◌, drop, map}
+use Rattle.stk_function_types.specs.Nodes.{typing_in}
+use Rattle.stk_runs.specs.Keys.{site_mentions}
+use Rattle.stk_sites.specs.Sites.{met_of}
+use Rattle.stk_sites.specs.Gathered.{gathered}
+use Rattle.stk_settings.specs.Settings.{mention_in}
+use Rattle.stk_settings.proofs.mentions.mentions_among.Given as goal
+
+abbrev pub invariant-loop-site : goal.invariant-loop-site
+invariant-loop-site l = map (mention_in l.types.bytes) l.out.items ++ gathered (site_mentions (typing_in l.types)) (map met_of (drop l.site-index l.sites)) ≡ gathered (site_mentions (typing_in l.types)) (map met_of l.sites)

@@ -1,0 +1,4 @@
+pub mod Infos
+pub mod Settings
+pub mod Changed
+pub mod Listed
