@@ -18,5 +18,3 @@ is_listed-is_among k (j ∷ js) = ap (λ b. k == j || b) (is_listed-is_among k j
 pub found_sound : (structs : Structs) (xs items : List NodeFact) (i : ℕ) (f : NodeFact) → f ≡ get_or xs i f → i < length xs → xs ≡ items → AreSoundFacts structs (map fact_of items) → IsSound structs (type_of f.ty)
 found_sound structs xs items i f is below same sound =
     subst (λ (y : NodeFact). IsSound structs (type_of y.ty)) (sym is) (place_sound structs xs i f below (subst (λ (ys : List NodeFact). AreSoundFacts structs (map fact_of ys)) (sym same) sound))
-
-pub ruleset among = (is_listed-is_among)

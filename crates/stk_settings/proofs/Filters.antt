@@ -2,6 +2,7 @@
 use Rattle.std.proofs.Common.{ℕ, ◌≡◌, ◌==◌, ◌||◌, Bool, true, false, List, [], ◌∷◌, ◌++◌, refl, sym, ap, ◌∙◌, append-nil, eqb-true}
 use Rattle.std.specs.Prelude.{if◌then◌else◌, filter}
 use Rattle.std.proofs.lemmas.Bool.{eqb-false}
+use Rattle.stk_function_types.proofs.Among.{is_listed-is_among}
 
 by_first : {A : Type 0} (b : Bool) (x : A) (xs : List A) → (if b then x ∷ xs else xs) ≡ (if b then x ∷ [] else []) ++ xs
 by_first true x xs = refl
@@ -12,6 +13,8 @@ pub filter-cons : {A : Type 0} (p : A → Bool) (x : A) (xs : List A) → filter
 filter-cons p x xs = by_first (p x) x (filter p xs)
 
 pub ruleset filtered = (filter-cons)
+
+pub ruleset among = (is_listed-is_among)
 
 -- filters by the same test
 pub filter-same : {A : Type 0} (p q : A → Bool) (xs : List A) → ((x : A) → p x ≡ q x) → filter p xs ≡ filter q xs

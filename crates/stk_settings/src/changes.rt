@@ -259,7 +259,7 @@ fn start_declares(alloc: Global, first: &Start) -> Result<NodeSet, NoMemory>
 }
 
 // Whether a change is one of a register of a set.
-#[tactic(auto, using(stk_function_types::proofs::Among::among))]
+#[tactic(auto, using(crate::proofs::Filters::among))]
 fn is_own_change(own: &NodeSet, change: Change) -> bool
     ensures { result ≡ is_own_change own.now change }
 {
