@@ -150,7 +150,8 @@ fn table_of(alloc: Global, kinds: &[IntKind], case: &Case) -> Result<HitTable, N
     let mut table = HitTable::new(alloc);
     for number in 0..1 << total_bits(kinds) {
         let map = map_of(alloc, kinds, number)?;
-        let trace = run_of(alloc, case.steps, map.numbers.as_slice()[0])?;
+        let key = map.numbers.as_slice().first().copied().unwrap_or(0);
+        let trace = run_of(alloc, case.steps, key)?;
         if number != case.invalid {
             table.record(number, trace.as_slice())?;
         }
