@@ -56,7 +56,7 @@ fn said_of(alloc: Global, bytes: &[u8], unit: &Unit, names: &Names) -> Result<Sa
 }
 
 // What is said of the last unit of a text.
-fn said(alloc: Global, rt: &impl Abort, text: &[u8]) -> Result<Said, Fail> {
+fn last_said(alloc: Global, rt: &impl Abort, text: &[u8]) -> Result<Said, Fail> {
     assert!(rt; text.len() as u64 <= MOST_BYTES);
     let mut last = Said::Nothing;
     let tokens = lex(alloc, text)?;
@@ -101,7 +101,7 @@ fn are_said(rt: &impl Abort, alloc: Global, table: &[(&'static str, u8)]) -> Res
         } else {
             Said::Refused(place, *rule)
         };
-        let found = said(alloc, rt, whole.as_slice())?;
+        let found = last_said(alloc, rt, whole.as_slice())?;
         assert!(rt; found == wanted, "{text:?} {found:?}");
     }
     Ok(())
@@ -136,10 +136,10 @@ fn repeated(alloc: Global, text: &str, times: usize) -> Result<Vec<u8>, NoMemory
 #[test]
 fn a_function_has_at_most_20000_nodes(rt: HostRuntime) -> Result<(), Fail> {
     let full = repeated(rt.alloc(), "void f(void) {", 19_996)?;
-    assert!(rt; said(rt.alloc(), &rt, full.as_slice())? == Said::Accepted);
+    assert!(rt; last_said(rt.alloc(), &rt, full.as_slice())? == Said::Accepted);
     let large = repeated(rt.alloc(), "void f(void) {", 19_997)?;
-    assert!(rt; said(rt.alloc(), &rt, large.as_slice())? == Said::Many(20_001));
+    assert!(rt; last_said(rt.alloc(), &rt, large.as_slice())? == Said::Many(20_001));
     let refused = repeated(rt.alloc(), "void f(void) { x", 19_996)?;
-    assert!(rt; said(rt.alloc(), &rt, refused.as_slice())? == Said::Many(20_001));
+    assert!(rt; last_said(rt.alloc(), &rt, refused.as_slice())? == Said::Many(20_001));
     Ok(())
 }
