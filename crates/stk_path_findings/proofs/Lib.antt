@@ -1,0 +1,4 @@
+pub mod Agreeing
+pub mod Kinds
+pub mod Objects
+pub mod Same
