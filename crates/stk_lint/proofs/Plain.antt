@@ -1,5 +1,5 @@
 -- Functions of the small form are of the plain form that runs are defined for; and what is written of a unit that was read.
-use Rattle.std.proofs.Common.{◌≡◌, ℕ, zero, ◌<◌, ◌≤◌, Bool, true, false, List, [], ◌∷◌, Option, Some, None, Result, Ok, Err, IfOk, refl, length, get_or, arith}
+use Rattle.std.proofs.Common.{◌≡◌, ℕ, zero, ◌<◌, ◌≤◌, Bool, true, false, List, [], ◌∷◌, Option, Some, None, Result, Ok, Err, IfOk, refl, subst, length, get_or, arith}
 use Rattle.std.specs.Prelude.{◌&&◌, nat_le}
 use Rattle.std.proofs.lemmas.Bool.{leb-true}
 use Rattle.stk_base.specs.Text.{decimal}
@@ -13,7 +13,7 @@ use Rattle.stk_accept.specs.declared.accepting.Refusal.{Refusal}
 use Rattle.stk_accept.specs.Accepting.{Accepts, Refuses}
 use Rattle.stk_ctype.specs.declared.symbol.NameEntry.{NameEntry}
 use Rattle.stk_lint.specs.Causes.{body_cause}
-use Rattle.stk_lint.specs.LawfulText.{IsUnitText, accepted, cause_of, is_definition, judged, one_skipped, other_form, refused, untyped}
+use Rattle.stk_lint.specs.LawfulText.{IsDefinition, IsUnitText, accepted, cause_of, is_definition, judged, one_skipped, other_form, refused, untyped}
 use Rattle.stk_records.specs.Records.{skip_text}
 use Rattle.stk_lint.specs.Judged.{IsJudged, IsSkipLine}
 use Rattle.stk_tree.specs.declared.node.Node.{Node}
@@ -139,3 +139,21 @@ pub text_refused : (bytes : List ℕ) (mark : Bool) (es now : List NameEntry) (b
     → IsSkipLine bytes tokens (cause_of cause) text counts → IsUnitText bytes mark es body tokens text counts now
 text_refused bytes mark es now body [] cause text counts h line = absurd line
 text_refused bytes mark es now body (t ∷ ts) cause text counts h line = rw (line.0, line.1) (refused cause h)
+
+-- ---- the same of a unit that is the definition of a function
+
+pub small_plain_of : (bytes : List ℕ) (u : UnitTree) (f : FunctionTree) → IsDefinition u f → IsSmall bytes u → IsPlain bytes f
+small_plain_of bytes u f d small = small_plain bytes d.0 f (subst (λ v. IsSmall bytes v) d.1 small)
+
+module _ (bytes : List ℕ) (mark : Bool) (es now : List NameEntry) (body : Option ℕ) (tokens : List Token) (u : UnitTree) (f : FunctionTree) (text : List ℕ) (counts : Counts) (d : IsDefinition u f) (h : Accepts bytes mark es tokens u now) (typed : body_cause bytes now u ≡ None) where
+  accepts : Accepts bytes mark es tokens (s.defines d.0 f) now
+  accepts = subst (λ v. Accepts bytes mark es tokens v now) d.1 h
+
+  no_cause : body_cause bytes now (s.defines d.0 f) ≡ None
+  no_cause = subst (λ v. body_cause bytes now v ≡ None) d.1 typed
+
+  pub text_other_of : (IsSmall bytes u → ⊥) → IsSkipLine bytes tokens OtherForm text counts → IsUnitText bytes mark es body tokens text counts now
+  text_other_of other line = text_other bytes mark es now body tokens d.0 f text counts accepts no_cause (subst (λ v. IsSmall bytes v → ⊥) d.1 other) line
+
+  pub text_judged_of : IsSmall bytes u → IsJudged bytes f text counts → IsUnitText bytes mark es body tokens text counts now
+  text_judged_of small j = text_judged bytes mark es now body tokens d.0 f text counts accepts no_cause (subst (λ v. IsSmall bytes v) d.1 small) j
