@@ -1,5 +1,5 @@
 -- The names of a function, from those of its parameters and of its sites.
-use Rattle.std.proofs.Common.{◌≡◌, true, List, [], ◌++◌, refl, ap, ◌∙◌}
+use Rattle.std.proofs.Common.{◌≡◌, true, List, ◌++◌, refl}
 use Rattle.stk_tree.specs.Syntax.{ParamTrees, FunctionTree}
 use Rattle.stk_runs.specs.Typings.{Typing}
 use Rattle.stk_runs.specs.Keys.{head_of, function_visits}

@@ -1,5 +1,5 @@
 -- How the keys of a function are spelled in records.
-use Rattle.std.specs.Prelude.{ℕ, min, List, [], ◌∷◌, ◌++◌, map, length, Option, Some, None, codes, decimal}
+use Rattle.std.specs.Prelude.{ℕ, min, List, [], ◌++◌, length, Option, Some, None, codes, decimal}
 use Rattle.stk_base.specs.declared.span.Span.{Span}
 use Rattle.stk_base.specs.declared.token.Place.{Place}
 use Rattle.stk_base.specs.Text.{text_of}

@@ -32,7 +32,7 @@ fn parameters_of(d: &Declr) -> &[Param]
 }
 
 // A declarator with its name.
-fn named(d: &Declr) -> Named
+fn name_of(d: &Declr) -> Named
     ensures { result ≡ named (view_declarator d.now) }
 {
     Named {
@@ -46,7 +46,7 @@ fn parameters_named(list: &[Param], out: &mut Vec<Named>) -> Result<(), NoMemory
     ensures { OnOk result (out.new.items ≡ out.old.items ++ parameters_named (parameters (map view_parameter list.now))) }
 {
     for p in list {
-        out.push(named(&p.declr))?;
+        out.push(name_of(&p.declr))?;
     }
     Ok(())
 }
