@@ -80,11 +80,7 @@ fn undecided_value(alloc: Global, fragment: &Fragment, phase: Phase) -> Result<V
 }
 
 // What is said of a unit that is skipped.
-fn skipped_map(
-    alloc: Global,
-    at: &Spot,
-    cause: &str,
-) -> Result<Map<String, Value>, NoMemory>
+fn skipped_map(alloc: Global, at: &Spot, cause: &str) -> Result<Map<String, Value>, NoMemory>
     ensures { IfOk result (λ map. members_view map.entries ≡ skipped_members at.now cause.now) }
 {
     let mut map = Map::new(alloc);

@@ -251,11 +251,7 @@ static KINDS: [UbKind; 8] = [
 ];
 
 // The words of those of these kinds that are taken out.
-fn taken_words(
-    alloc: Global,
-    without: Kinds,
-    kinds: &[UbKind],
-) -> Result<Vec<Value>, NoMemory>
+fn taken_words(alloc: Global, without: Kinds, kinds: &[UbKind]) -> Result<Vec<Value>, NoMemory>
     ensures { IfOk result (λ list. map view list.items ≡ taken_words without kinds.now) }
 {
     let mut list = Vec::new(alloc);

@@ -79,11 +79,7 @@ fn sites_named(sites: &[Site], out: &mut Vec<Named>) -> Result<(), NoMemory>
 }
 
 /// The parameters of a function and its local objects, each with the place of its name, in order. The only refusal is want of memory.
-pub fn names_of(
-    alloc: Global,
-    types: &FunctionTypes,
-    f: &Function,
-) -> Result<Vec<Named>, NoMemory>
+pub fn names_of(alloc: Global, types: &FunctionTypes, f: &Function) -> Result<Vec<Named>, NoMemory>
     ensures { IfOk result (λ out. out.items ≡ names_of (typing_in types.now) (view_function f.now)) }
 {
     let sites = function_sites(alloc, types, f)?;

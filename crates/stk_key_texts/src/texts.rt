@@ -6,8 +6,8 @@ ghost use Rattle.stk_settings.specs.Infos.{info_in};
 ghost use Rattle.stk_key_texts.specs.Named.{name_among};
 ghost use Rattle.stk_key_texts.specs.Texts.{position_text, node_text, name_text, address_text, keyed, key_text};
 
-use crate::names::name_among;
 use crate::Named;
+use crate::names::name_among;
 use itoa::Buffer;
 use std::alloc::Global;
 use stk_base::{List, NoMemory, Span};
@@ -31,12 +31,7 @@ fn add_count(text: &mut Vec<u8>, count: u32) -> Result<(), NoMemory>
 }
 
 // Adds the line and the column of a byte, behind a word.
-fn add_position(
-    text: &mut Vec<u8>,
-    input: &Places,
-    word: &[u8],
-    at: u32,
-) -> Result<(), NoMemory>
+fn add_position(text: &mut Vec<u8>, input: &Places, word: &[u8], at: u32) -> Result<(), NoMemory>
     ensures { IfOk result (λ _. text.new.items ≡ text.old.items ++ position_text input.now word.now at) }
 {
     let place = input.place(input.bytes().len().min(at as usize));

@@ -83,7 +83,13 @@ pub enum Line {
         phase: Phase,
     },
     /// A unit that is skipped; the place is that of its first token.
-    Skipped { at: Spot, cause: Cause },
+    Skipped {
+        at: Spot,
+        cause: Cause,
+    },
     /// The summary: the counts, and the kinds of conditions that were taken out.
-    Summary { counts: Counts, without: Kinds },
+    Summary {
+        counts: Counts,
+        without: Kinds,
+    },
 }

@@ -9,13 +9,7 @@ use stk_json_lines::add_json_line;
 use stk_lines::{Cause, Claim, Line, add_line};
 
 /// Compares the text and the JSON of a line.
-fn check(
-    alloc: Global,
-    rt: &impl Abort,
-    line: &Line,
-    text: &str,
-    json: &str,
-) -> Result<(), Fail> {
+fn check(alloc: Global, rt: &impl Abort, line: &Line, text: &str, json: &str) -> Result<(), Fail> {
     let mut found = Vec::new(alloc);
     add_line(&mut found, line)?;
     assert!(rt; found.as_slice() == text.as_bytes(), "{text}");

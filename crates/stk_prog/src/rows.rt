@@ -166,14 +166,8 @@ static UNITS: [(&str, &str); 34] = [
         "int f(unsigned char x) { int x = 1; return x; }",
         "rule 3 at -:1:30",
     ),
-    (
-        "int f(unsigned char x) { return y; }",
-        "rule 1 at -:1:33",
-    ),
-    (
-        "int f(unsigned char x) { return f; }",
-        "rule 8 at -:1:33",
-    ),
+    ("int f(unsigned char x) { return y; }", "rule 1 at -:1:33"),
+    ("int f(unsigned char x) { return f; }", "rule 8 at -:1:33"),
     (
         "void f(int x) { for (;;) { x = 1; break; } break; }",
         "rule 13 at -:1:44",
