@@ -1,5 +1,5 @@
 -- Findings that are lawful for one subject are so for another that has the same maps, order, runs and conditions.
-use Rattle.std.proofs.Common.{◌≡◌, Bool, true, false, List, [], ◌∷◌, ◌++◌, ℤ, Option, Some, None, refl, sym, subst}
+use Rattle.std.proofs.Common.{◌≡◌, Bool, true, false, List, [], ℤ, sym, subst}
 use Rattle.stk_numbers.specs.declared.conditions.Candidate.{Candidate}
 use Rattle.stk_numbers.specs.declared.conditions.Condition.{Condition}
 use Rattle.stk_findings.specs.declared.finding.Finding.{Finding}
@@ -8,7 +8,7 @@ use Rattle.stk_findings.specs.declared.finding.Need.{Need}
 use Rattle.stk_findings.specs.declared.finding.Phase.{Phase}
 use Rattle.stk_findings.specs.declared.finding.Phase.TheVariants.{Free, Hit}
 use Rattle.stk_findings.specs.Hits.{HitsFree}
-use Rattle.stk_findings.specs.Findings.{Subject, members, Answers, NoAnswer, IsFirstAnswer, IsPrintedOf, IsGivenUp, IsUnstable, IsMinimal, no_more, member, open_member, no_member, IsLawfulReport, IsUndecidedHit, IsLawfulPhase, IsLawful}
+use Rattle.stk_findings.specs.Findings.{Subject, members, Answers, NoAnswer, IsFirstAnswer, IsPrintedOf, IsGivenUp, IsUnstable, IsMinimal, no_more, member, open_member, no_member, IsLawfulPhase, IsLawful}
 
 -- the first subject agrees with the second
 pub record Agrees (q p : Subject) : Type 0 where
@@ -30,10 +30,10 @@ module _ (q p : Subject) (h : Agrees q p) (c : Candidate) where
       record { valid = valid; hits = subst (λ t. HitsFree set c t) (sym (h.run start valid)) a.hits }
 
   none : (set : List Condition) → NoAnswer q c set → NoAnswer p c set
-  none set no start a = no start (answers_back set start a)
+  none set never start a = never start (answers_back set start a)
 
   none_back : (set : List Condition) → NoAnswer p c set → NoAnswer q c set
-  none_back set no start a = no start (answers set start a)
+  none_back set never start a = never start (answers set start a)
 
   first : (set : List Condition) (start : List ℤ) → IsFirstAnswer q c set start → IsFirstAnswer p c set start
   first set start a = record {
@@ -61,7 +61,7 @@ module _ (q p : Subject) (h : Agrees q p) (c : Candidate) where
   minimal no_more = no_more
   minimal (member m start) = member (minimal m) (printed_by _ _ start)
   minimal (open_member m g) = open_member (minimal m) (given_up _ g)
-  minimal (no_member m no) = no_member (minimal m) (none _ no)
+  minimal (no_member m never) = no_member (minimal m) (none _ never)
 
   phase : (x : Phase) → IsLawfulPhase q c x → IsLawfulPhase p c x
   phase Free g = subst (λ set. IsGivenUp p c set) h.conditions (given_up q.conditions g)
@@ -71,13 +71,13 @@ module _ (q p : Subject) (h : Agrees q p) (c : Candidate) where
   pub lawful : ((set : List Condition) → IsUnstable p c → NoAnswer p c set → p.Suffices c set) → (x : Finding) → IsLawful q c x → IsLawful p c x
   lawful suffices Clear l = λ u. l (unstable_back u)
   lawful suffices (Unstable start needs) l =
-      let no = none (members needs) l.path_sufficient in
+      let never = none (members needs) l.path_sufficient in
       let u = unstable l.unstable in
       record {
         unstable = u;
         hit = printed_by [] start.numbers l.hit;
         minimal = subst (λ set. IsMinimal p c [] set needs) h.conditions (minimal l.minimal);
-        path_sufficient = no;
-        sufficient = suffices (members needs) u no;
+        path_sufficient = never;
+        sufficient = suffices (members needs) u never;
       }
   lawful suffices (Undecided x) l = phase x l

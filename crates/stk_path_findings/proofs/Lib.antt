@@ -1,4 +1,4 @@
 pub mod Agreeing
-pub mod Kinds
+pub mod KeyKinds
 pub mod Objects
 pub mod Same

@@ -1,5 +1,5 @@
 -- A function whose input maps have less than 64 bits has no object in memory, since the address of each is a key.
-use Rattle.std.proofs.Common.{◌≡◌, ℕ, ◌+◌, ◌<◌, Bool, true, false, List, [], ◌∷◌, ◌++◌, map, Option, Some, None, refl, sym, ap, ◌∙◌, subst, sum_by, arith}
+use Rattle.std.proofs.Common.{◌≡◌, ℕ, ◌+◌, ◌<◌, Bool, true, false, List, [], ◌∷◌, ◌++◌, map, Option, Some, None, refl, subst, arith}
 use Rattle.std.specs.Prelude.{if◌then◌else◌, ◌&&◌}
 use Rattle.std.specs.Option.{is_some}
 use Rattle.std.proofs.lemmas.List.Sums.{sum_by-cons}
@@ -20,10 +20,10 @@ use Rattle.stk_runs.specs.Libraries.{Library, called_library, called_signature, 
 use Rattle.stk_runs.specs.Places.{mentioned_in, Setting, Target, in_register, in_kept, in_object, unnamed, target_at, form_target}
 use Rattle.stk_runs.specs.Visits.{Role, Site, at_expression, at_declarator, at_statement, at_section, Visits, no_visit, visit, both_visits, scope, unevaluated, collected}
 use Rattle.stk_runs.specs.Changes.{assigned_in}
-use Rattle.stk_runs.specs.Keys.{Key, parameter_key, address_key, unset_key, load_key, call_key, loop_key, KeyInfo, names_outside, is_node, is_loaded, address_info, number_info, load_keys, mention_keys, name_keys, result_keys, unary_keys, form_keys, unset_keys, declarator_keys, loop_keys, site_keys, parameter_info, memory_info, register_parameters, memory_parameters, function_visits, keys_in, keys_of, first_setting, Object, key_objects, objects_in, objects_of, input_bits}
+use Rattle.stk_runs.specs.Keys.{Key, parameter_key, address_key, unset_key, load_key, call_key, loop_key, KeyInfo, names_outside, is_node, is_loaded, load_keys, mention_keys, name_keys, result_keys, unary_keys, form_keys, unset_keys, declarator_keys, loop_keys, site_keys, parameter_info, memory_info, register_parameters, memory_parameters, function_visits, keys_in, keys_of, first_setting, key_objects, objects_in, objects_of, input_bits}
 
 -- the number of an address is an `unsigned long`
-IsWide : Key → IntKind → Type 0
+abbrev IsWide : Key → IntKind → Type 0
 IsWide (parameter_key k) j = Unit {0}
 IsWide (address_key k) j = j ≡ kind.ULong
 IsWide (unset_key k) j = Unit {0}
@@ -31,7 +31,7 @@ IsWide (load_key k) j = Unit {0}
 IsWide (call_key k) j = Unit {0}
 IsWide (loop_key k l) j = Unit {0}
 
-AreWide : List KeyInfo → Type 0
+abbrev AreWide : List KeyInfo → Type 0
 AreWide [] = Unit {0}
 AreWide (x ∷ xs) = IsWide x.key x.kind × AreWide xs
 

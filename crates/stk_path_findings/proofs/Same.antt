@@ -1,24 +1,24 @@
 -- The findings that a table of all path runs gives are those of the function.
-use Rattle.std.proofs.Common.{◌≡◌, ℕ, ◌+◌, ◌*◌, ◌^◌, ◌<◌, ◌≤◌, true, List, [], ◌∷◌, map, length, slice_get, ℤ, Option, Some, None, refl, sym, ap, ◌∙◌, subst, arith}
+use Rattle.std.proofs.Common.{◌≡◌, ◌^◌, ◌<◌, ◌≤◌, true, List, length, slice_get, ℤ, Option, Some, refl, sym, ap, ◌∙◌, subst, arith}
 use Rattle.stk_tree.specs.Syntax.{FunctionTree}
 use Rattle.stk_numbers.specs.declared.conditions.Candidate.{Candidate}
 use Rattle.stk_numbers.specs.declared.conditions.Kinds.{Kinds}
 use Rattle.stk_ctype.specs.declared.kind.IntKind.{IntKind}
 use Rattle.stk_runs.specs.declared.entry.Entry.{Entry}
 use Rattle.stk_runs.specs.Typings.{Typing}
-use Rattle.stk_runs.specs.Keys.{KeyInfo, keys_of, kept_of, objects_of, input_bits}
+use Rattle.stk_runs.specs.Keys.{KeyInfo, keys_of, kept_of, input_bits}
 use Rattle.stk_runs.specs.Lists.{conditions}
 use Rattle.stk_runs.specs.Maps.{IsValid, are_valid, addresses_in}
 use Rattle.stk_runs.specs.Paths.{path, number_under}
 use Rattle.stk_findings.specs.declared.finding.Finding.{Finding}
 use Rattle.stk_findings.specs.Findings.{IsLawful}
-use Rattle.stk_maps.specs.Maps.{bits_in, Covers, map_at, HasNumber, AreNumbered}
+use Rattle.stk_maps.specs.Maps.{bits_in, Covers, map_at}
 use Rattle.stk_maps.proofs.Numbering.{by_number}
 use Rattle.stk_judging.proofs.Starts.{number_back}
-use Rattle.stk_judging.specs.Subjects.{subject_of, number_of, HasRun, trace_at}
+use Rattle.stk_judging.specs.Subjects.{subject_of, number_of, trace_at}
 use Rattle.stk_path_findings.specs.PathSubjects.{path_subject, kinds_of, ArePathRuns}
 use Rattle.stk_path_findings.proofs.Agreeing.{Agrees, lawful}
-use Rattle.stk_path_findings.proofs.Kinds.{covers, in_range, precedes, bits}
+use Rattle.stk_path_findings.proofs.KeyKinds.{covers, in_range, precedes}
 use Rattle.stk_path_findings.proofs.Objects.{no_objects}
 
 -- a map that covers the keys is that of its number
@@ -33,10 +33,10 @@ is_numbered ks xs h =
     record { below = subst (λ u. u < 2 ^ bits_in ks) (sym same) n.below; is = ap (map_at ks) same ∙ n.is }
 
 module _ (ty : Typing) (without : Kinds) (f : FunctionTree) (runs : List (Option (List Entry))) (few : input_bits (keys_of ty without f) ≤ 16) where
-  keys : List KeyInfo
+  abbrev keys : List KeyInfo
   keys = keys_of ty without f
 
-  ks : List IntKind
+  abbrev ks : List IntKind
   ks = kinds_of keys
 
   valid : (xs : List ℤ) → Covers ks xs → IsValid ty without f xs
@@ -64,4 +64,4 @@ module _ (ty : Typing) (without : Kinds) (f : FunctionTree) (runs : List (Option
 
     -- what is lawful by the table of all path runs is lawful for the function
     pub lawful_paths : (c : Candidate) (x : Finding) → IsLawful (subject_of ks runs (conditions ty without f)) c x → IsLawful (path_subject ty without f) c x
-    lawful_paths c x h = lawful _ _ agrees c (λ set u no. tt) x h
+    lawful_paths c x h = lawful _ _ agrees c (λ set u never. tt) x h

@@ -1,5 +1,5 @@
 -- Keys and the kinds of their numbers.
-use Rattle.std.proofs.Common.{◌≡◌, ℕ, ◌+◌, ◌^◌, ◌<◌, ◌⊎◌, inl, inr, true, List, [], ◌∷◌, map, ℤ, refl, sym, ap, ◌∙◌, sum_by}
+use Rattle.std.proofs.Common.{◌≡◌, ◌+◌, inl, inr, List, [], ◌∷◌, ℤ, refl, sym, ap, ◌∙◌}
 use Rattle.std.proofs.lemmas.List.Sums.{sum_by-cons}
 use Rattle.stk_numbers.specs.Kinds.{width_of}
 use Rattle.stk_runs.specs.Keys.{KeyInfo, input_bits}
