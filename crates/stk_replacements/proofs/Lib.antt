@@ -1,0 +1,4 @@
+pub mod Alike
+pub mod Spacing
+pub mod Choosing
+pub mod Adding

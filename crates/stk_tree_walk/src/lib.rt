@@ -1,0 +1,12 @@
+//! The tokens that an expression prints, one after the other: nothing is printed that isn't asked for.
+#![tactic(auto)]
+
+mod expressions;
+mod marks;
+mod parts;
+mod printing;
+mod rows;
+mod types;
+mod waiting;
+
+pub use printing::Printing;
