@@ -1,3 +1,4 @@
 pub mod Shown
 pub mod Leaving
 pub mod Parts
+pub mod Loops

@@ -1,8 +1,9 @@
 //! What a path run asks of the function and of an input map.
 
-ghost use Rattle.std.specs.Prelude.{◌≡◌, IfOk, ℤ, map, pos, option_map};
+ghost use Rattle.std.specs.Prelude.{◌≡◌, IfOk, ℕ, ℤ, map, pos, option_map};
 ghost use Rattle.stk_ctype.specs.Types.{type_of, row_of};
 ghost use Rattle.stk_rules.specs.Types.{is_scalar, is_void};
+ghost use Rattle.stk_tree.specs.Syntax.{StmtFormTree};
 ghost use Rattle.stk_tree.specs.View.{view_expression, view_statement_form};
 ghost use Rattle.stk_runs.specs.Typings.{number_kind, converted, is_array, stride_in, pointed};
 ghost use Rattle.stk_runs.specs.Operations.{operation_of, step_operation, to_address};
@@ -49,6 +50,9 @@ pub trait PathSetting {
     ghost setting: { Self → Setting };
 
     ghost inputs: { Self → InputMap };
+
+    /// Whether it is known what the loop of this form at this node changes: so it is for each loop of the function that is run.
+    ghost knows: { Self → ℕ → StmtFormTree → Type 0 };
 
     /// The kinds of conditions that are taken out.
     fn without(&self) -> Kinds
@@ -144,9 +148,11 @@ pub trait PathSetting {
 
     /// Sets the registers of a loop, by its node and its form.
     fn reset(&self, node: u32, form: &StmtForm, registers: &mut Vec<Word>)
+        requires { knows self.now node (view_statement_form form.now) }
         ensures { registers.new.items ≡ reset_all (inputs self.now) node (assigned_in (setting self.now) (view_statement_form form.now)) registers.old.items };
 
-    /// Forgets what a loop forgets, by its form.
-    fn forget(&self, form: &StmtForm, kept: &mut Vec<Option<Word>>)
+    /// Forgets what a loop forgets, by its node and its form.
+    fn forget(&self, node: u32, form: &StmtForm, kept: &mut Vec<Option<Word>>)
+        requires { knows self.now node (view_statement_form form.now) }
         ensures { kept.new.items ≡ forgotten (forgotten_in (setting self.now) (view_statement_form form.now)) kept.old.items };
 }

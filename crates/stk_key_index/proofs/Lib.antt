@@ -1,0 +1,4 @@
+pub mod Slotted
+pub mod Placed
+pub mod Indexed
+pub mod Summed

@@ -1,0 +1,3 @@
+pub mod Far
+pub mod Rowed
+pub mod Numbered

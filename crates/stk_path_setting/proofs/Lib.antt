@@ -1,0 +1,4 @@
+pub mod Forgotten
+pub mod Known
+pub mod Started
+pub mod Numbers
