@@ -1,0 +1,12 @@
+//! The path run of a function, one branch at a time.
+#![tactic(auto)]
+
+mod choosing;
+mod declarations;
+mod loops;
+mod running;
+mod scopes;
+mod statements;
+
+pub use running::run_body;
+pub use statements::statement;
