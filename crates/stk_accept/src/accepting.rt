@@ -43,8 +43,9 @@ fn beginning(nodes: &[Node], number: u32) -> u32
     }
 }
 
-// Where the node of this number begins in a unit.
-fn place_of(alloc: Global, unit: &Unit, number: u32) -> Result<u32, NoMemory>
+/// The byte at which the node of this number begins in a unit that is laid out; 0 where there is no such node. The only refusal is want
+/// of memory.
+pub fn place_of(alloc: Global, unit: &Unit, number: u32) -> Result<u32, NoMemory>
     ensures { IfOk result (λ at. at ≡ beginning (unit_row (view_unit unit.now)) number) }
 {
     let nodes = unit_nodes(alloc, unit)?;

@@ -3,4 +3,4 @@
 
 mod accepting;
 
-pub use accepting::{Accepted, Refusal, accept};
+pub use accepting::{Accepted, Refusal, accept, place_of};

@@ -14,7 +14,7 @@ use Rattle.stk_tree.specs.declared.node.Node.{Node}
 use Rattle.stk_accept.specs.Accepting.{Accepts}
 use Rattle.stk_records.specs.declared.records.Counts.{Counts}
 use Rattle.stk_records.specs.Counts.{AreAtMost}
-use Rattle.stk_lint.specs.LawfulText.{unstable_count, IsUnitText, accepted, judged, other_form, refused}
+use Rattle.stk_lint.specs.LawfulText.{unstable_count, IsUnitText, accepted, judged, other_form, refused, untyped}
 use Rattle.stk_lint.proofs.Findings.{length_same}
 
 -- ---- candidates are no more than tokens
@@ -54,9 +54,11 @@ pub unit_most : (bytes : List ℕ) (mark : Bool) (es now : List NameEntry) (body
 unit_most bytes mark es now body tokens text counts some (accepted u is none) = record { functions = omega arith; candidates = omega arith; unstable = omega arith; undecided = omega arith; skipped = omega arith }
 unit_most bytes mark es now body tokens text counts some (refused cause is) =
     record { functions = omega arith; candidates = omega arith; unstable = omega arith; undecided = omega arith; skipped = omega (arith, some) }
-unit_most bytes mark es now body tokens text counts some (other_form n f is other) =
+unit_most bytes mark es now body tokens text counts some (untyped n f cause is because) =
     record { functions = omega arith; candidates = omega arith; unstable = omega arith; undecided = omega arith; skipped = omega (arith, some) }
-unit_most bytes mark es now body tokens text counts some (judged n f xs is small lawful) =
+unit_most bytes mark es now body tokens text counts some (other_form n f is typed other) =
+    record { functions = omega arith; candidates = omega arith; unstable = omega arith; undecided = omega arith; skipped = omega (arith, some) }
+unit_most bytes mark es now body tokens text counts some (judged n f xs is typed small lawful) =
     let few = few_candidates bytes mark es now tokens n f is small in
     let same = length_same bytes f (candidates f) xs lawful in
     record {

@@ -1,3 +1,4 @@
+pub mod Causes
 pub mod Plain
 pub mod Findings
 pub mod Complete

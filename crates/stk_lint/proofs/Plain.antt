@@ -1,5 +1,5 @@
 -- Functions of the small form are of the plain form that runs are defined for; and what is written of a unit that was read.
-use Rattle.std.proofs.Common.{◌≡◌, ℕ, zero, ◌<◌, ◌≤◌, Bool, true, false, List, [], ◌∷◌, Option, Some, None, Result, Ok, Err, IfOk, refl, length, get_or, arith}
+use Rattle.std.proofs.Common.{◌≡◌, ℕ, zero, ◌<◌, ◌≤◌, Bool, true, false, List, [], ◌∷◌, Option, Some, None, Result, Ok, Err, IfOk, refl, subst, length, get_or, arith}
 use Rattle.std.specs.Prelude.{◌&&◌, nat_le}
 use Rattle.std.proofs.lemmas.Bool.{leb-true}
 use Rattle.stk_base.specs.Text.{decimal}
@@ -12,7 +12,8 @@ use Rattle.stk_records.specs.declared.records.Counts.{Counts}
 use Rattle.stk_accept.specs.declared.accepting.Refusal.{Refusal}
 use Rattle.stk_accept.specs.Accepting.{Accepts, Refuses}
 use Rattle.stk_ctype.specs.declared.symbol.NameEntry.{NameEntry}
-use Rattle.stk_lint.specs.LawfulText.{IsUnitText, accepted, cause_of, is_definition, judged, one_skipped, other_form, refused}
+use Rattle.stk_lint.specs.Causes.{body_cause}
+use Rattle.stk_lint.specs.LawfulText.{IsDefinition, IsUnitText, accepted, cause_of, is_definition, judged, one_skipped, other_form, refused, untyped}
 use Rattle.stk_records.specs.Records.{skip_text}
 use Rattle.stk_lint.specs.Judged.{IsJudged, IsSkipLine}
 use Rattle.stk_tree.specs.declared.node.Node.{Node}
@@ -101,9 +102,9 @@ pub small_plain : (bytes : List ℕ) (n : Node) (f : FunctionTree) → IsSmall b
 small_plain bytes n f small = function_plain bytes f small
 
 -- what is written of a function of the small form
-pub text_judged : (bytes : List ℕ) (mark : Bool) (es now : List NameEntry) (body : Option ℕ) (tokens : List Token) (n : Node) (f : FunctionTree) (text : List ℕ) (counts : Counts) → Accepts bytes mark es tokens (s.defines n f) now → IsSmall bytes (s.defines n f)
+pub text_judged : (bytes : List ℕ) (mark : Bool) (es now : List NameEntry) (body : Option ℕ) (tokens : List Token) (n : Node) (f : FunctionTree) (text : List ℕ) (counts : Counts) → Accepts bytes mark es tokens (s.defines n f) now → body_cause bytes now (s.defines n f) ≡ None → IsSmall bytes (s.defines n f)
     → IsJudged bytes f text counts → IsUnitText bytes mark es body tokens text counts now
-text_judged bytes mark es now body tokens n f text counts h small j = rw (j.same_text, j.same_counts) (judged n f j.findings h small j.lawful)
+text_judged bytes mark es now body tokens n f text counts h typed small j = rw (j.same_text, j.same_counts) (judged n f j.findings h typed small j.lawful)
 
 -- what is written of an empty unit and of a declaration
 pub text_accepted : (bytes : List ℕ) (mark : Bool) (es now : List NameEntry) (body : Option ℕ) (tokens : List Token) (u : UnitTree) (text : List ℕ) (counts : Counts) → Accepts bytes mark es tokens u now → is_definition u ≡ false → text ≡ [] → counts ≡ nothing_counted
@@ -122,13 +123,37 @@ skip_line bytes [] none cause text counts some e f = absurd (omega arith)
 skip_line bytes (t ∷ ts) none cause text counts some e f = (e, f)
 
 -- what is written of a function of another form
-pub text_other : (bytes : List ℕ) (mark : Bool) (es now : List NameEntry) (body : Option ℕ) (tokens : List Token) (n : Node) (f : FunctionTree) (text : List ℕ) (counts : Counts) → Accepts bytes mark es tokens (s.defines n f) now → (IsSmall bytes (s.defines n f) → ⊥)
+pub text_other : (bytes : List ℕ) (mark : Bool) (es now : List NameEntry) (body : Option ℕ) (tokens : List Token) (n : Node) (f : FunctionTree) (text : List ℕ) (counts : Counts) → Accepts bytes mark es tokens (s.defines n f) now → body_cause bytes now (s.defines n f) ≡ None → (IsSmall bytes (s.defines n f) → ⊥)
     → IsSkipLine bytes tokens OtherForm text counts → IsUnitText bytes mark es body tokens text counts now
-text_other bytes mark es now body [] n f text counts h other line = absurd line
-text_other bytes mark es now body (t ∷ ts) n f text counts h other line = rw (line.0, line.1) (other_form n f h other)
+text_other bytes mark es now body [] n f text counts h typed other line = absurd line
+text_other bytes mark es now body (t ∷ ts) n f text counts h typed other line = rw (line.0, line.1) (other_form n f h typed other)
+
+-- what is written of a function with too many nodes, or whose body a rule refuses
+pub text_untyped : (bytes : List ℕ) (mark : Bool) (es now : List NameEntry) (body : Option ℕ) (tokens : List Token) (n : Node) (f : FunctionTree) (cause : Cause) (text : List ℕ) (counts : Counts) → Accepts bytes mark es tokens (s.defines n f) now → body_cause bytes now (s.defines n f) ≡ Some cause
+    → IsSkipLine bytes tokens cause text counts → IsUnitText bytes mark es body tokens text counts now
+text_untyped bytes mark es now body [] n f cause text counts h because line = absurd line
+text_untyped bytes mark es now body (t ∷ ts) n f cause text counts h because line = rw (line.0, line.1) (untyped n f cause h because)
 
 -- what is written of a unit that isn't accepted
 pub text_refused : (bytes : List ℕ) (mark : Bool) (es now : List NameEntry) (body : Option ℕ) (tokens : List Token) (cause : Refusal) (text : List ℕ) (counts : Counts) → Refuses bytes mark es tokens body cause now
     → IsSkipLine bytes tokens (cause_of cause) text counts → IsUnitText bytes mark es body tokens text counts now
 text_refused bytes mark es now body [] cause text counts h line = absurd line
 text_refused bytes mark es now body (t ∷ ts) cause text counts h line = rw (line.0, line.1) (refused cause h)
+
+-- ---- the same of a unit that is the definition of a function
+
+pub small_plain_of : (bytes : List ℕ) (u : UnitTree) (f : FunctionTree) → IsDefinition u f → IsSmall bytes u → IsPlain bytes f
+small_plain_of bytes u f d small = small_plain bytes d.0 f (subst (λ v. IsSmall bytes v) d.1 small)
+
+module _ (bytes : List ℕ) (mark : Bool) (es now : List NameEntry) (body : Option ℕ) (tokens : List Token) (u : UnitTree) (f : FunctionTree) (text : List ℕ) (counts : Counts) (d : IsDefinition u f) (h : Accepts bytes mark es tokens u now) (typed : body_cause bytes now u ≡ None) where
+  accepts : Accepts bytes mark es tokens (s.defines d.0 f) now
+  accepts = subst (λ v. Accepts bytes mark es tokens v now) d.1 h
+
+  no_cause : body_cause bytes now (s.defines d.0 f) ≡ None
+  no_cause = subst (λ v. body_cause bytes now v ≡ None) d.1 typed
+
+  pub text_other_of : (IsSmall bytes u → ⊥) → IsSkipLine bytes tokens OtherForm text counts → IsUnitText bytes mark es body tokens text counts now
+  text_other_of other line = text_other bytes mark es now body tokens d.0 f text counts accepts no_cause (subst (λ v. IsSmall bytes v → ⊥) d.1 other) line
+
+  pub text_judged_of : IsSmall bytes u → IsJudged bytes f text counts → IsUnitText bytes mark es body tokens text counts now
+  text_judged_of small j = text_judged bytes mark es now body tokens d.0 f text counts accepts no_cause (subst (λ v. IsSmall bytes v) d.1 small) j

@@ -1,5 +1,5 @@
 -- What is written of units, one after the other: each unit has a text, and how the texts of units go on.
-use Rattle.std.proofs.Common.{◌≡◌, ℕ, ◌-◌, ◌<◌, ◌≤◌, Bool, true, false, List, [], ◌∷◌, ◌++◌, length, drop, Option, refl, sym, ◌∙◌, ◌⊎◌, inl, inr, arith}
+use Rattle.std.proofs.Common.{◌≡◌, ℕ, ◌-◌, ◌<◌, ◌≤◌, Bool, true, false, List, [], ◌∷◌, ◌++◌, length, drop, Option, Some, None, refl, sym, ◌∙◌, ◌⊎◌, inl, inr, arith}
 use Rattle.std.proofs.lemmas.Bool.{false≢true}
 use Rattle.std.proofs.lemmas.List.{length-drop, length-take}
 use Rattle.stk_ctype.specs.declared.symbol.NameEntry.{NameEntry}
@@ -14,11 +14,13 @@ use Rattle.stk_meaning.specs.Parts.{candidates}
 use Rattle.stk_small.specs.SmallForm.{IsSmall}
 use Rattle.stk_small.specs.SmallTests.{is_small}
 use Rattle.stk_small.proofs.FormTests.{small_found, small_tested}
+use Rattle.stk_records.specs.declared.records.Cause.{Cause}
 use Rattle.stk_records.specs.declared.records.Cause.TheVariants.{OtherForm}
 use Rattle.stk_records.specs.declared.records.Counts.{Counts}
 use Rattle.stk_records.specs.Records.{findings_text, skip_text}
 use Rattle.stk_records.specs.Counts.{nothing_counted, counts_sum}
-use Rattle.stk_lint.specs.LawfulText.{AreUnitTexts, IsUnitText, accepted, body_of_piece, cause_of, judged, no_unit, one_skipped, other_form, refused, then_unit, tokens_of_piece}
+use Rattle.stk_lint.specs.Causes.{body_cause}
+use Rattle.stk_lint.specs.LawfulText.{AreUnitTexts, IsUnitText, accepted, body_of_piece, cause_of, judged, no_unit, one_skipped, other_form, refused, then_unit, tokens_of_piece, untyped}
 use Rattle.stk_judge.proofs.Exists.{findings_of}
 
 -- ---- a text of each unit
@@ -40,9 +42,13 @@ module _ (bytes : List ℕ) (mark : Bool) (es : List NameEntry) (body : Option �
   text_of_tree t ts (s.empty_unit n) now h = record { text = []; counts = nothing_counted; now = now; is = accepted (s.empty_unit n) h refl }
   text_of_tree t ts (s.declares n d) now h = record { text = []; counts = nothing_counted; now = now; is = accepted (s.declares n d) h refl }
   text_of_tree t ts (s.defines n f) now h =
-      elim (small_or_not bytes (s.defines n f)) [
-        | inl small ↦ (let xs = findings_of bytes f (candidates f) in record { text = findings_text bytes f (candidates f) xs.0; counts = _; now = now; is = judged n f xs.0 h small xs.1 })
-        | inr other ↦ record { text = skip_text bytes t.span.from OtherForm; counts = one_skipped; now = now; is = other_form n f h other }
+      on (body_cause bytes now (s.defines n f)) refl
+    where
+      on : (o : Option Cause) → body_cause bytes now (s.defines n f) ≡ o → IsWrittenOf bytes mark es body (t ∷ ts)
+      on (Some cause) e = record { text = skip_text bytes t.span.from cause; counts = one_skipped; now = now; is = untyped n f cause h e }
+      on None e = elim (small_or_not bytes (s.defines n f)) [
+        | inl small ↦ (let xs = findings_of bytes f (candidates f) in record { text = findings_text bytes f (candidates f) xs.0; counts = _; now = now; is = judged n f xs.0 h e small xs.1 })
+        | inr other ↦ record { text = skip_text bytes t.span.from OtherForm; counts = one_skipped; now = now; is = other_form n f h e other }
       ]
 
   pub text_of_unit : (tokens : List Token) → 0 < length tokens → IsWrittenOf bytes mark es body tokens

@@ -1,6 +1,6 @@
 -- Which texts and statuses are lawful for the bytes of an input. The input is cut into its units; a tree stands for a unit
 -- by printing its tokens, so nothing here speaks of how a unit is read.
-use Rattle.std.specs.Prelude.{◌≡◌, ℕ, ◌+◌, ◌-◌, Bool, true, false, List, [], ◌∷◌, ◌++◌, length, take, drop, zero, suc, Option}
+use Rattle.std.specs.Prelude.{◌≡◌, ℕ, ◌+◌, ◌-◌, Bool, true, false, List, [], ◌∷◌, ◌++◌, length, take, drop, zero, suc, Option, Some, None}
 use Rattle.std.specs.Option.{option_map}
 use Rattle.stk_base.specs.declared.status.Status.{Status}
 use Rattle.stk_base.specs.declared.status.Status.TheVariants.{Stable, Found}
@@ -25,6 +25,7 @@ use Rattle.stk_records.specs.declared.records.Cause.TheVariants.{NoTree, Rule, O
 use Rattle.stk_records.specs.declared.records.Counts.{Counts}
 use Rattle.stk_records.specs.Records.{findings_text, skip_text, summary_text}
 use Rattle.stk_records.specs.Counts.{nothing_counted, counts_sum}
+use Rattle.stk_lint.specs.Causes.{body_cause}
 
 -- how many of the findings are reports
 abbrev pub unstable_count : List Finding → ℕ
@@ -56,6 +57,10 @@ is_definition (empty_unit n) = false
 is_definition (declares n d) = false
 is_definition (defines n f) = true
 
+-- a unit is the definition of this function
+abbrev pub IsDefinition : UnitTree → FunctionTree → Type 0
+IsDefinition u f = (n : Node) × (u ≡ defines n f)
+
 -- why a unit is skipped that isn't accepted
 abbrev pub cause_of : Refusal → Cause
 cause_of refusal.NoTree = NoTree
@@ -64,15 +69,18 @@ cause_of (refusal.Rule at rule) = Rule at rule
 -- What is written of a unit of these tokens, what it counts for, and the names that it leaves in force, where these are in force before it:
 -- an empty unit and a declaration that are accepted have no words;
 -- a unit that isn't accepted has a line with the cause at its first token;
--- so has a function that is accepted and isn't of the small form;
+-- so has a function that is accepted and has too many nodes, or a body that a rule refuses;
+-- so has any other function that isn't of the small form;
 -- and a function of the small form has the records of lawful findings, one for each candidate in order.
 pub data IsUnitText (bytes : List ℕ) (mark : Bool) (es : List NameEntry) (body : Option ℕ) : List Token → List ℕ → Counts → List NameEntry → Type 0 where
   accepted : {tokens : List Token} {now : List NameEntry} (u : UnitTree) → Accepts bytes mark es tokens u now → is_definition u ≡ false → IsUnitText bytes mark es body tokens [] nothing_counted now
   refused : {first : Token} {others : List Token} {now : List NameEntry} (cause : Refusal) → Refuses bytes mark es (first ∷ others) body cause now
       → IsUnitText bytes mark es body (first ∷ others) (skip_text bytes first.span.from (cause_of cause)) one_skipped now
-  other_form : {first : Token} {others : List Token} {now : List NameEntry} (node : Node) (f : FunctionTree) → Accepts bytes mark es (first ∷ others) (defines node f) now → (IsSmall bytes (defines node f) → ⊥)
+  untyped : {first : Token} {others : List Token} {now : List NameEntry} (node : Node) (f : FunctionTree) (cause : Cause) → Accepts bytes mark es (first ∷ others) (defines node f) now → body_cause bytes now (defines node f) ≡ Some cause
+      → IsUnitText bytes mark es body (first ∷ others) (skip_text bytes first.span.from cause) one_skipped now
+  other_form : {first : Token} {others : List Token} {now : List NameEntry} (node : Node) (f : FunctionTree) → Accepts bytes mark es (first ∷ others) (defines node f) now → body_cause bytes now (defines node f) ≡ None → (IsSmall bytes (defines node f) → ⊥)
       → IsUnitText bytes mark es body (first ∷ others) (skip_text bytes first.span.from OtherForm) one_skipped now
-  judged : {tokens : List Token} {now : List NameEntry} (node : Node) (f : FunctionTree) (findings : List Finding) → Accepts bytes mark es tokens (defines node f) now → IsSmall bytes (defines node f)
+  judged : {tokens : List Token} {now : List NameEntry} (node : Node) (f : FunctionTree) (findings : List Finding) → Accepts bytes mark es tokens (defines node f) now → body_cause bytes now (defines node f) ≡ None → IsSmall bytes (defines node f)
       → AreLawful bytes f (candidates f) findings → IsUnitText bytes mark es body tokens (findings_text bytes f (candidates f) findings) (one_judged findings) now
 
 -- the tokens of a unit, among those of its file

@@ -1,3 +1,4 @@
+pub mod Causes
 pub mod LawfulText
 pub mod Judged
 pub mod Lint

@@ -35,10 +35,12 @@ use Rattle.stk_meaning.specs.Keys.{Precedes}
 use Rattle.stk_meaning.specs.Parts.{candidates}
 use Rattle.stk_meaning.specs.Findings.{members, need, IsFirstAnswer, IsMinimal, no_more, member, no_member, NoAnswer, IsLawful}
 use Rattle.stk_judge.specs.Lawful.{AreLawful}
+use Rattle.stk_records.specs.declared.records.Cause.{Cause}
 use Rattle.stk_records.specs.declared.records.Counts.{Counts}
 use Rattle.stk_records.specs.Records.{findings_text, skip_text, summary_text}
 use Rattle.stk_records.specs.Counts.{counts_sum}
-use Rattle.stk_lint.specs.LawfulText.{is_definition, IsUnitText, accepted, refused, other_form, judged, cause_of, body_of_piece, tokens_of_piece, AreUnitTexts, no_unit, then_unit, one_judged, status_of, IsLawfulText}
+use Rattle.stk_lint.specs.Causes.{body_cause}
+use Rattle.stk_lint.specs.LawfulText.{is_definition, IsUnitText, accepted, refused, untyped, other_form, judged, cause_of, body_of_piece, tokens_of_piece, AreUnitTexts, no_unit, then_unit, one_judged, status_of, IsLawfulText}
 
 -- ---- findings
 
@@ -139,6 +141,16 @@ rule_in : Outcome (List NameEntry) → ℕ
 rule_in (Good es facts) = 0
 rule_in (Refused n r) = r
 
+-- a cause, or another one
+cause_in : Cause → Option Cause → Cause
+cause_in other (Some cause) = cause
+cause_in other None = other
+
+-- whether there is a cause
+is_some : Option Cause → Bool
+is_some (Some cause) = true
+is_some None = false
+
 module _ (bytes : List ℕ) (mark : Bool) (es : List NameEntry) where
   -- what tokens are, laid out, is one unit
   one_tree : (tokens : List Token) (u v : UnitTree) → IsTree bytes es tokens u → IsTree bytes es tokens v → u ≡ v
@@ -196,6 +208,21 @@ module _ (bytes : List ℕ) (mark : Bool) (es : List NameEntry) where
   unfolding function_in
   one_function tokens n m f g now also h k = ap (function_in f) (one_tree tokens (s.defines n f) (s.defines m g) h.tree k.tree)
 
+  -- one function has one cause
+  same_cause : (tokens : List Token) (n m : Node) (f g : FunctionTree) (now also : List NameEntry) → Accepts bytes mark es tokens (s.defines n f) now → Accepts bytes mark es tokens (s.defines m g) also → body_cause bytes now (s.defines n f) ≡ body_cause bytes also (s.defines m g)
+  same_cause tokens n m f g now also h k =
+      ap (λ (z : List NameEntry). body_cause bytes z (s.defines n f)) (one_accepted tokens (s.defines n f) (s.defines m g) now also h k) ∙ ap (body_cause bytes also) (one_tree tokens (s.defines n f) (s.defines m g) h.tree k.tree)
+
+  one_body_cause : (tokens : List Token) (n m : Node) (f g : FunctionTree) (now also : List NameEntry) (cause other : Cause) → Accepts bytes mark es tokens (s.defines n f) now → Accepts bytes mark es tokens (s.defines m g) also
+      → body_cause bytes now (s.defines n f) ≡ Some cause → body_cause bytes also (s.defines m g) ≡ Some other → cause ≡ other
+  unfolding cause_in
+  one_body_cause tokens n m f g now also cause other h k e e' = ap (cause_in cause) (sym e ∙ same_cause tokens n m f g now also h k ∙ e')
+
+  no_body_cause : (tokens : List Token) (n m : Node) (f g : FunctionTree) (now also : List NameEntry) (cause : Cause) → Accepts bytes mark es tokens (s.defines n f) now → Accepts bytes mark es tokens (s.defines m g) also
+      → body_cause bytes now (s.defines n f) ≡ Some cause → body_cause bytes also (s.defines m g) ≡ None → ⊥
+  unfolding is_some
+  no_body_cause tokens n m f g now also cause h k e e' = false≢true (sym (ap is_some e') ∙ ap is_some (sym (same_cause tokens n m f g now also h k)) ∙ ap is_some e)
+
   same_small : (tokens : List Token) (n m : Node) (f g : FunctionTree) (now also : List NameEntry) → Accepts bytes mark es tokens (s.defines n f) now → Accepts bytes mark es tokens (s.defines m g) also → IsSmall bytes (s.defines n f) → IsSmall bytes (s.defines m g)
   same_small tokens n m f g now also h k small = subst (IsSmall bytes) (one_tree tokens (s.defines n f) (s.defines m g) h.tree k.tree) small
 
@@ -216,21 +243,31 @@ module _ {bytes : List ℕ} {mark : Bool} {es : List NameEntry} {body : Option �
   unfolding Same
   one_unit_text {tokens = tokens} (accepted {now = a} u h plain) (accepted {now = b} v k plain') = (refl, refl, one_accepted bytes mark es tokens u v a b h k)
   one_unit_text {tokens = tokens} (accepted {now = a} u h plain) (refused {now = b} cause k) = absurd (not_both bytes mark es tokens body u a b cause h k)
-  one_unit_text {tokens = tokens} (accepted {now = a} u h plain) (other_form {now = b} n g k other) = absurd (false≢true (sym plain ∙ one_definition bytes mark es tokens u (s.defines n g) a b h k))
-  one_unit_text {tokens = tokens} (accepted {now = a} u h plain) (judged {now = b} n g ys k small lawful) = absurd (false≢true (sym plain ∙ one_definition bytes mark es tokens u (s.defines n g) a b h k))
+  one_unit_text {tokens = tokens} (accepted {now = a} u h plain) (untyped {now = b} n g cause k because) = absurd (false≢true (sym plain ∙ one_definition bytes mark es tokens u (s.defines n g) a b h k))
+  one_unit_text {tokens = tokens} (accepted {now = a} u h plain) (other_form {now = b} n g k typed other) = absurd (false≢true (sym plain ∙ one_definition bytes mark es tokens u (s.defines n g) a b h k))
+  one_unit_text {tokens = tokens} (accepted {now = a} u h plain) (judged {now = b} n g ys k typed small lawful) = absurd (false≢true (sym plain ∙ one_definition bytes mark es tokens u (s.defines n g) a b h k))
   one_unit_text {tokens = tokens} (refused {now = a} cause h) (accepted {now = b} v k plain) = absurd (not_both bytes mark es tokens body v b a cause k h)
   one_unit_text (refused {first = t} {others = ts} {now = a} cause h) (refused {now = b} cause' k) =
       (ap (λ (c : Refusal). skip_text bytes t.span.from (cause_of c)) (one_cause bytes mark es (t ∷ ts) cause cause' h.because k.because), refl, one_left bytes mark es (t ∷ ts) body a b h.leaves k.leaves)
-  one_unit_text {tokens = tokens} (refused {now = a} cause h) (other_form {now = b} n g k other) = absurd (not_both bytes mark es tokens body (s.defines n g) b a cause k h)
-  one_unit_text {tokens = tokens} (refused {now = a} cause h) (judged {now = b} n g ys k small lawful) = absurd (not_both bytes mark es tokens body (s.defines n g) b a cause k h)
-  one_unit_text {tokens = tokens} (other_form {now = a} n f h other) (accepted {now = b} v k plain) = absurd (false≢true (sym plain ∙ one_definition bytes mark es tokens v (s.defines n f) b a k h))
-  one_unit_text {tokens = tokens} (other_form {now = a} n f h other) (refused {now = b} cause k) = absurd (not_both bytes mark es tokens body (s.defines n f) a b cause h k)
-  one_unit_text {tokens = tokens} (other_form {now = a} n f h other) (other_form {now = b} m g k other') = (refl, refl, one_accepted bytes mark es tokens (s.defines n f) (s.defines m g) a b h k)
-  one_unit_text {tokens = tokens} (other_form {now = a} n f h other) (judged {now = b} m g ys k small lawful) = absurd (other (same_small bytes mark es tokens m n g f b a k h small))
-  one_unit_text {tokens = tokens} (judged {now = a} n f xs h small lawful) (accepted {now = b} v k plain) = absurd (false≢true (sym plain ∙ one_definition bytes mark es tokens v (s.defines n f) b a k h))
-  one_unit_text {tokens = tokens} (judged {now = a} n f xs h small lawful) (refused {now = b} cause k) = absurd (not_both bytes mark es tokens body (s.defines n f) a b cause h k)
-  one_unit_text {tokens = tokens} (judged {now = a} n f xs h small lawful) (other_form {now = b} m g k other) = absurd (other (same_small bytes mark es tokens n m f g a b h k small))
-  one_unit_text {tokens = tokens} (judged {now = a} n f xs h small lawful) (judged {now = b} m g ys k small' lawful') =
+  one_unit_text {tokens = tokens} (refused {now = a} cause h) (untyped {now = b} n g other k because) = absurd (not_both bytes mark es tokens body (s.defines n g) b a cause k h)
+  one_unit_text {tokens = tokens} (refused {now = a} cause h) (other_form {now = b} n g k typed other) = absurd (not_both bytes mark es tokens body (s.defines n g) b a cause k h)
+  one_unit_text {tokens = tokens} (refused {now = a} cause h) (judged {now = b} n g ys k typed small lawful) = absurd (not_both bytes mark es tokens body (s.defines n g) b a cause k h)
+  one_unit_text {tokens = tokens} (untyped {now = a} n f cause h because) (accepted {now = b} v k plain) = absurd (false≢true (sym plain ∙ one_definition bytes mark es tokens v (s.defines n f) b a k h))
+  one_unit_text {tokens = tokens} (untyped {now = a} n f cause h because) (refused {now = b} cause' k) = absurd (not_both bytes mark es tokens body (s.defines n f) a b cause' h k)
+  one_unit_text (untyped {first = t} {others = ts} {now = a} n f cause h because) (untyped {now = b} m g other k because') =
+      (ap (λ (c : Cause). skip_text bytes t.span.from c) (one_body_cause bytes mark es (t ∷ ts) n m f g a b cause other h k because because'), refl, one_accepted bytes mark es (t ∷ ts) (s.defines n f) (s.defines m g) a b h k)
+  one_unit_text {tokens = tokens} (untyped {now = a} n f cause h because) (other_form {now = b} m g k typed' other) = absurd (no_body_cause bytes mark es tokens n m f g a b cause h k because typed')
+  one_unit_text {tokens = tokens} (untyped {now = a} n f cause h because) (judged {now = b} m g ys k typed' small lawful) = absurd (no_body_cause bytes mark es tokens n m f g a b cause h k because typed')
+  one_unit_text {tokens = tokens} (other_form {now = a} n f h typed other) (accepted {now = b} v k plain) = absurd (false≢true (sym plain ∙ one_definition bytes mark es tokens v (s.defines n f) b a k h))
+  one_unit_text {tokens = tokens} (other_form {now = a} n f h typed other) (refused {now = b} cause k) = absurd (not_both bytes mark es tokens body (s.defines n f) a b cause h k)
+  one_unit_text {tokens = tokens} (other_form {now = a} n f h typed other) (untyped {now = b} m g cause k because) = absurd (no_body_cause bytes mark es tokens m n g f b a cause k h because typed)
+  one_unit_text {tokens = tokens} (other_form {now = a} n f h typed other) (other_form {now = b} m g k typed' other') = (refl, refl, one_accepted bytes mark es tokens (s.defines n f) (s.defines m g) a b h k)
+  one_unit_text {tokens = tokens} (other_form {now = a} n f h typed other) (judged {now = b} m g ys k typed' small lawful) = absurd (other (same_small bytes mark es tokens m n g f b a k h small))
+  one_unit_text {tokens = tokens} (judged {now = a} n f xs h typed small lawful) (accepted {now = b} v k plain) = absurd (false≢true (sym plain ∙ one_definition bytes mark es tokens v (s.defines n f) b a k h))
+  one_unit_text {tokens = tokens} (judged {now = a} n f xs h typed small lawful) (refused {now = b} cause k) = absurd (not_both bytes mark es tokens body (s.defines n f) a b cause h k)
+  one_unit_text {tokens = tokens} (judged {now = a} n f xs h typed small lawful) (untyped {now = b} m g cause k because) = absurd (no_body_cause bytes mark es tokens m n g f b a cause k h because typed)
+  one_unit_text {tokens = tokens} (judged {now = a} n f xs h typed small lawful) (other_form {now = b} m g k typed' other) = absurd (other (same_small bytes mark es tokens n m f g a b h k small))
+  one_unit_text {tokens = tokens} (judged {now = a} n f xs h typed small lawful) (judged {now = b} m g ys k typed' small' lawful') =
       same_judged bytes f g xs ys a b (one_function bytes mark es tokens n m f g a b h k) lawful lawful' (one_accepted bytes mark es tokens (s.defines n f) (s.defines m g) a b h k)
 
 one_units_text : {bytes : List ℕ} {tokens : List Token} {es fs : List NameEntry} {ps : List Piece} {text other : List ℕ} {counts also : Counts} → es ≡ fs → AreUnitTexts bytes tokens es ps text counts → AreUnitTexts bytes tokens fs ps other also → (text ≡ other) × (counts ≡ also)

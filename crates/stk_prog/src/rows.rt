@@ -153,7 +153,7 @@ static ROWS: [Row; 27] = [
 ];
 
 /// Texts of one unit with the cause that it is skipped for; without a cause, it is a declaration.
-static UNITS: [(&str, &str); 33] = [
+static UNITS: [(&str, &str); 34] = [
     ("int f(unsigned char x) { return 256; }", "other form"),
     ("int f(unsigned char x) { return 01; }", "other form"),
     ("int f(unsigned char x) { return 0x1; }", "other form"),
@@ -164,10 +164,14 @@ static UNITS: [(&str, &str); 33] = [
     ),
     (
         "int f(unsigned char x) { int x = 1; return x; }",
-        "other form",
+        "rule 3 at -:1:30",
     ),
-    ("int f(unsigned char x) { return y; }", "other form"),
-    ("int f(unsigned char x) { return f; }", "other form"),
+    ("int f(unsigned char x) { return y; }", "rule 1 at -:1:33"),
+    ("int f(unsigned char x) { return f; }", "rule 8 at -:1:33"),
+    (
+        "void f(int x) { for (;;) { x = 1; break; } break; }",
+        "rule 13 at -:1:44",
+    ),
     (
         "int f(unsigned char x) { int b = 1; int c = b; return c; }",
         "other form",

@@ -1,6 +1,7 @@
 //! Runs of the top call whose outside fails at each call in turn, and of bytes that are no text.
 
 use crate::rows::{CALM, INPUT, RECORDS, UNREAD, UNWRITTEN, check, of_outside};
+use std::alloc::Global;
 use std::test::Fail;
 use stk_base::Status;
 
@@ -23,6 +24,29 @@ fn each_call_of_the_output_may_fail(rt: HostRuntime) -> Result<(), Fail> {
         check(rt.alloc(), &rt, &outside, INPUT, status, front, line)?;
     }
     Ok(())
+}
+
+/// A function of so many empty statements.
+fn of_statements(alloc: Global, count: usize) -> Result<Vec<u8>, Fail> {
+    let mut input = Vec::from_slice(alloc, b"int f(void) {")?;
+    for _ in 0..count {
+        input.push(b';')?;
+    }
+    input.push(b'}')?;
+    Ok(input)
+}
+
+#[test]
+fn a_function_has_at_most_20000_nodes(rt: HostRuntime) -> Result<(), Fail> {
+    let other =
+        b"-:1:1: skipped: other form\n0 functions, 0 candidates, 0 unstable, 0 undecided, 1 skipped\n";
+    let fits = of_statements(rt.alloc(), 19996)?;
+    let status = Status::Stable;
+    check(rt.alloc(), &rt, &CALM, fits.as_slice(), status, other, b"")?;
+    let nodes =
+        b"-:1:1: skipped: 20001 nodes\n0 functions, 0 candidates, 0 unstable, 0 undecided, 1 skipped\n";
+    let many = of_statements(rt.alloc(), 19997)?;
+    check(rt.alloc(), &rt, &CALM, many.as_slice(), status, nodes, b"")
 }
 
 #[test]

@@ -17,7 +17,7 @@ use Rattle.stk_meaning.specs.declared.finding.Need.{Need}
 use Rattle.stk_numbers.specs.declared.conditions.Inputs.{Inputs}
 use Rattle.stk_meaning.specs.Runs.{body_of, parameters_of}
 use Rattle.stk_records.specs.declared.records.Cause.{Cause}
-use Rattle.stk_records.specs.declared.records.Cause.TheVariants.{NoTree, Rule, OtherForm}
+use Rattle.stk_records.specs.declared.records.Cause.TheVariants.{NoTree, Rule, Nodes, OtherForm}
 use Rattle.stk_records.specs.declared.records.Counts.{Counts}
 
 -- a byte of a file's name as it is printed: itself from 32 to 126, and else `?`
@@ -177,6 +177,7 @@ rule_text bytes at rule = codes "rule " ++ decimal rule ++ codes " at " ++ place
 abbrev pub cause_text : List ℕ → Cause → List ℕ
 cause_text bytes NoTree = codes "no tree"
 cause_text bytes (Rule at rule) = rule_text bytes at rule
+cause_text bytes (Nodes count) = counted count (codes " nodes")
 cause_text bytes OtherForm = codes "other form"
 
 -- the line of a unit that is skipped; the place is that of its first token

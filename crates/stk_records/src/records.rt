@@ -383,6 +383,8 @@ pub enum Cause {
     NoTree,
     /// A rule, by its number, refuses a node of it, which begins at this byte of the input.
     Rule { at: u32, rule: u8 },
+    /// It defines a function and has so many nodes, over 20,000.
+    Nodes { count: u32 },
     /// It defines a function, of another form than the program judges.
     OtherForm,
 }
@@ -397,6 +399,14 @@ fn add_rule(text: &mut Vec<u8>, input: &Places, at: u32, rule: u8) -> Result<(),
     add_place(text, input, at)
 }
 
+// Adds `C nodes`.
+fn add_nodes(text: &mut Vec<u8>, count: u32) -> Result<(), NoMemory>
+    ensures { IfOk result (λ _. text.new.items ≡ text.old.items ++ counted count (codes " nodes")) }
+{
+    add_count(text, u64::from(count))?;
+    add(text, b" nodes")
+}
+
 // Adds the cause that a skip line tells.
 fn add_cause(text: &mut Vec<u8>, input: &Places, cause: Cause) -> Result<(), NoMemory>
     ensures { IfOk result (λ _. text.new.items ≡ text.old.items ++ cause_text input.now cause) }
@@ -404,6 +414,7 @@ fn add_cause(text: &mut Vec<u8>, input: &Places, cause: Cause) -> Result<(), NoM
     match cause {
         Cause::NoTree => add(text, b"no tree"),
         Cause::Rule { at, rule } => add_rule(text, input, at, rule),
+        Cause::Nodes { count } => add_nodes(text, count),
         Cause::OtherForm => add(text, b"other form"),
     }
 }

@@ -1,0 +1,7 @@
+//! The lines of records as JSON.
+#![tactic(auto)]
+
+mod json;
+mod parts;
+
+pub use json::add_json_line;

@@ -1,0 +1,4 @@
+pub mod Agreeing
+pub mod KeyKinds
+pub mod Objects
+pub mod Same
