@@ -1,0 +1,11 @@
+pub mod Widths
+pub mod Capping
+pub mod Marking
+pub mod Summing
+pub mod Assigned
+pub mod Loads
+pub mod Counts
+pub mod Limits
+pub mod Limited
+pub mod Wholes
+pub mod Ends

@@ -1,0 +1,5 @@
+pub mod Sums
+pub mod Met
+pub mod Loads
+pub mod Marks
+pub mod Units

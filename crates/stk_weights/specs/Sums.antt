@@ -1,0 +1,5 @@
+-- Sums of 64 bits: one that is greater is the greatest number of 64 bits.
+use Rattle.std.specs.Prelude.{ℕ, ◌-◌, ◌^◌, min}
+
+abbrev pub capped : ℕ → ℕ
+capped n = min n (2 ^ 64 - 1)

@@ -1,0 +1,108 @@
+//! What the sites of a function add.
+
+ghost use Rattle.std.specs.Prelude.{◌≡◌, ◌≤◌, ◌+◌, ◌*◌, if◌then◌else◌, IfOk, map};
+ghost use Rattle.std.specs.Option.{option_map};
+ghost use Rattle.stk_tree.specs.View.{view_expression_form, view_statement_form, view_initialiser, view_label, labels, maybe_initialiser};
+ghost use Rattle.stk_runs.specs.Visits.{at_expression};
+ghost use Rattle.stk_runs.specs.Weights.{site_weight, initial_weight, statement_weight, labels_weight};
+ghost use Rattle.stk_sites.specs.Sites.{met_of, role_in};
+ghost use Rattle.stk_settings.specs.Settings.{setting_in};
+ghost use Rattle.stk_weights.specs.Sums.{capped};
+ghost use Rattle.stk_weights.specs.Met.{met_weight, mets_weight};
+ghost use Rattle.stk_weights.specs.Loads.{cases_in, site_limit, IsMetLimited, IsLimited};
+
+use crate::forms::form_weight;
+use crate::statements::{initial_weight, labels_weight, statement_weight};
+use crate::storing::{kept_count, kept_weight};
+use std::alloc::Global;
+use stk_base::NoMemory;
+use stk_settings::Setting;
+use stk_sites::{Role, Site, SiteForm};
+use stk_tree::{ExprForm, Init, Label, StmtForm};
+
+// What an expression adds at a node, evaluated or not.
+fn expression_weight(
+    alloc: Global,
+    setting: &Setting,
+    node: u32,
+    is_evaluated: bool,
+    role: Role,
+    f: &ExprForm,
+) -> Result<u64, NoMemory>
+    ensures is { IfOk result (λ n. n ≡ site_weight (setting_in setting.now) is_evaluated (at_expression node (role_in role) (view_expression_form f.now))) }
+    ensures few { IfOk result (λ n. n ≤ 137216) }
+{
+    let own = form_weight(alloc, setting.types(), node, f)?;
+    if is_evaluated {
+        Ok(own + kept_weight(setting, node, role, f))
+    } else {
+        Ok(own)
+    }
+}
+
+// What the declarator of a local object adds.
+fn declarator_weight(setting: &Setting, node: u32, is_static: bool, init: &Option<Init>) -> u64
+    ensures is { result ≡ (if is_static then 0 else initial_weight (setting_in setting.now) node ((setting_in setting.now).typing.type_at node) (maybe_initialiser (option_map view_initialiser init.now))) }
+    ensures few { result ≤ 3072 }
+{
+    if is_static {
+        0
+    } else {
+        initial_weight(setting, node, init)
+    }
+}
+
+// What a statement adds, or 2^64 - 1 where that is more.
+fn branching_weight(alloc: Global, setting: &Setting, f: &StmtForm) -> Result<u64, NoMemory>
+    ensures is { IfOk result (λ n. n ≡ capped (statement_weight (setting_in setting.now) (view_statement_form f.now))) }
+    ensures limited { IfOk result (λ n. statement_weight (setting_in setting.now) (view_statement_form f.now) ≤ site_limit (setting_in setting.now)) }
+{
+    let _ = kept_count(setting);
+    let own = statement_weight(alloc, setting, f)?;
+    Ok(own)
+}
+
+// What the labels of a section add, or 2^64 - 1 where that is more.
+fn section_weight(setting: &Setting, list: &[Label]) -> u64
+    ensures is { result ≡ capped (labels_weight (labels (map view_label list.now))) }
+    ensures limited { labels_weight (labels (map view_label list.now)) ≤ site_limit (setting_in setting.now) * (1 + cases_in (labels (map view_label list.now))) }
+{
+    let _ = setting;
+    labels_weight(list)
+}
+
+// What a site adds, or 2^64 - 1 where that is more.
+#[tactic(auto, using(crate::proofs::Capping::uncapped))]
+fn site_weight(alloc: Global, setting: &Setting, site: &Site) -> Result<u64, NoMemory>
+    ensures is { IfOk result (λ n. n ≡ capped (met_weight (setting_in setting.now) (met_of site.now))) }
+    ensures limited { IfOk result (λ n. IsMetLimited (setting_in setting.now) (met_of site.now)) }
+{
+    match site.form {
+        SiteForm::Expression(role, f) => {
+            expression_weight(alloc, setting, site.node, site.is_evaluated, role, f)
+        }
+        SiteForm::Declarator(is_static, _, init) => {
+            Ok(declarator_weight(setting, site.node, is_static, init))
+        }
+        SiteForm::Statement(_, f) => branching_weight(alloc, setting, f),
+        SiteForm::Section(list) => Ok(section_weight(setting, list)),
+    }
+}
+
+/// What sites add, or 2^64 - 1 where that is more. The only refusal is want of memory.
+#[tactic(auto, using(crate::proofs::Capping::capping))]
+pub(crate) fn sites_weight(
+    alloc: Global,
+    setting: &Setting,
+    sites: &[Site],
+) -> Result<u64, NoMemory>
+    ensures is { IfOk result (λ n. n ≡ capped (mets_weight (setting_in setting.now) (map met_of sites.now))) }
+    ensures limited { IfOk result (λ n. IsLimited (setting_in setting.now) (map met_of sites.now)) }
+{
+    let mut sum: u64 = 0;
+    for site in sites {
+        let own = site_weight(alloc, setting, site)?;
+        sum = sum.saturating_add(own);
+    }
+    Ok(sum)
+}

@@ -1,0 +1,94 @@
+//! What kept objects add to the weight of the nodes that read or change them.
+
+ghost use Rattle.std.specs.Prelude.{◌≡◌, ◌≤◌, length};
+ghost use Rattle.stk_tree.specs.View.{view_expression, view_expression_form};
+ghost use Rattle.stk_function_types.specs.Nodes.{typing_in};
+ghost use Rattle.stk_runs.specs.Typings.{type_in};
+ghost use Rattle.stk_runs.specs.Places.{target_of};
+ghost use Rattle.stk_runs.specs.Weights.{bits_in, read_weight, store_weight, kept_weight};
+ghost use Rattle.stk_sites.specs.Sites.{role_in, use_in};
+ghost use Rattle.stk_settings.specs.Settings.{setting_in, target_in};
+
+use crate::forms::bits_of;
+use crate::operations::bits_in;
+use stk_function_types::FunctionTypes;
+use stk_settings::{Setting, Target};
+use stk_sites::{Role, Use};
+use stk_tree::{Expr, ExprForm};
+
+/// How many kept objects there are.
+pub(crate) fn kept_count(setting: &Setting) -> u64
+    ensures is { result ≡ length (setting_in setting.now).kept }
+    ensures few { result ≤ 32 }
+{
+    setting.kept().len() as u64
+}
+
+// What a read of a place that is used so adds at a node.
+fn read_weight(types: &FunctionTypes, node: u32, used: Use, place: Target) -> u64
+    ensures is { result ≡ read_weight (typing_in types.now) node (use_in used) (target_in place) }
+    ensures few { result ≤ 2048 }
+{
+    match used {
+        Use::Read => match place {
+            Target::Kept(_) => 32 * bits_in(types.type_at(node)),
+            Target::Register(_) | Target::Object(_) | Target::Unnamed => 0,
+        },
+        Use::Accessed | Use::Taken => 0,
+    }
+}
+
+/// What a store of so many bits to a place adds, where so many objects are kept: by name to a kept object 16 a bit; one that isn't by
+/// name 16 for each kept object.
+pub(crate) fn store_weight(kept: u64, w: u64, place: Target) -> u64
+    requires kept { kept ≤ 32 }
+    requires bits { w ≤ 64 }
+    ensures is { result ≡ store_weight kept w (target_in place) }
+    ensures few { result ≤ 1024 }
+{
+    match place {
+        Target::Kept(_) => 16 * w,
+        Target::Unnamed => 16 * kept,
+        Target::Register(_) | Target::Object(_) => 0,
+    }
+}
+
+// What a store to an expression adds.
+fn stored_weight(setting: &Setting, e: &Expr) -> u64
+    ensures is { result ≡ store_weight (length (setting_in setting.now).kept) (bits_in (type_in (setting_in setting.now).typing (view_expression e.now))) (target_of (setting_in setting.now) (view_expression e.now)) }
+    ensures few { result ≤ 1024 }
+{
+    store_weight(
+        kept_count(setting),
+        bits_of(setting.types(), e),
+        setting.target_of(e),
+    )
+}
+
+/// What an evaluated expression of this form at a node adds for the kept objects.
+pub(crate) fn kept_weight(setting: &Setting, node: u32, role: Role, f: &ExprForm) -> u64
+    ensures is { result ≡ kept_weight (setting_in setting.now) node (role_in role) (view_expression_form f.now) }
+    ensures few { result ≤ 2048 }
+{
+    match f {
+        ExprForm::Name(_) => {
+            let place = setting.form_target(node, f);
+            read_weight(setting.types(), node, role.use_of, place)
+        }
+        ExprForm::Call(_, _) => 16 * kept_count(setting),
+        ExprForm::Step(_, e) | ExprForm::Assign(_, e, _) => stored_weight(setting, e.get()),
+        ExprForm::Number(_)
+        | ExprForm::Character(_)
+        | ExprForm::Text(_)
+        | ExprForm::Paren(_)
+        | ExprForm::Index(_, _)
+        | ExprForm::Dot(_, _)
+        | ExprForm::Arrow(_, _)
+        | ExprForm::Unary(_, _)
+        | ExprForm::SizeExpr(_)
+        | ExprForm::SizeName(_)
+        | ExprForm::Cast(_, _)
+        | ExprForm::Binary(_, _, _)
+        | ExprForm::Choice(_, _, _) => 0,
+    }
+}
