@@ -1,0 +1,6 @@
+//! The path run of a function for the numbers of its keys.
+#![tactic(auto)]
+
+mod running;
+
+pub use running::path_run;
