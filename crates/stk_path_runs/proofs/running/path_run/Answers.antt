@@ -17,6 +17,6 @@ returns c = λ ty without same keys.
     let registers : List ℤ = c.in_ok-registers.registers.items in
     let kept : ℕ = length c.kept-kept.result.now in
     IfOk-weaker c.run_body.result (λ entries. entries.items ≡ trace_of (statement_run (setting_in places) (path_world (number_under places.keys numbers)) (body_of tree) registers (replicate kept None)))
-        (λ entries. entries.items ≡ path ty without tree numbers)
-        (λ entries is. told ty without tree (setting_in places) places.keys numbers registers kept entries.items same keys c.in_ok-registers.ensures (rw (c.kept-kept.ensures.is, c.setting.ensures) refl) is)
-        c.run_body.ensures
+    (λ entries. entries.items ≡ path ty without tree numbers)
+    (λ entries is. told ty without tree (setting_in places) places.keys numbers registers kept entries.items same keys c.in_ok-registers.ensures (rw (c.kept-kept.ensures.is, c.setting.ensures) refl) is)
+    c.run_body.ensures
