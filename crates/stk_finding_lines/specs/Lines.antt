@@ -10,9 +10,9 @@ use Rattle.stk_numbers.specs.declared.conditions.CandKind.{CandKind}
 use Rattle.stk_numbers.specs.declared.conditions.CandKind.TheVariants.{Arm, AlwaysTrue, AlwaysFalse, Algebra}
 use Rattle.stk_numbers.specs.declared.conditions.Candidate.{Candidate}
 use Rattle.stk_numbers.specs.declared.conditions.Inputs.{Inputs}
+use Rattle.stk_runs.specs.Typings.{Typing}
 use Rattle.stk_runs.specs.Keys.{head_of}
-use Rattle.stk_function_types.specs.Units.{TypedUnit}
-use Rattle.stk_function_types.specs.Nodes.{typing_in, node_span}
+use Rattle.stk_key_texts.specs.Placed.{Placed, span_at}
 use Rattle.stk_findings.specs.declared.finding.Finding.{Finding}
 use Rattle.stk_findings.specs.declared.finding.Finding.TheVariants as finding
 use Rattle.stk_findings.specs.declared.finding.Need.{Need}
@@ -34,15 +34,15 @@ spot_at bytes at =
     record { file = option_map (λ name. text_of bytes name) p.file; line = p.line; column = p.column }
 
 -- where a node begins
-abbrev pub node_spot : TypedUnit → ℕ → Spot
-node_spot t k = spot_at t.bytes (node_span t k).from
+abbrev pub node_spot : Placed → ℕ → Spot
+node_spot q k = spot_at q.bytes (span_at q k).from
 
 -- what is claimed of a candidate
-abbrev pub claim_by : TypedUnit → FunctionTree → ℕ → CandKind → Claim
-claim_by t f k Arm = NeverEntered
-claim_by t f k AlwaysTrue = IsAlwaysTrue
-claim_by t f k AlwaysFalse = IsAlwaysFalse
-claim_by t f k Algebra = SameAs (replaced_at (typing_in t) f k)
+abbrev pub claim_by : Typing → FunctionTree → ℕ → CandKind → Claim
+claim_by ty f k Arm = NeverEntered
+claim_by ty f k AlwaysTrue = IsAlwaysTrue
+claim_by ty f k AlwaysFalse = IsAlwaysFalse
+claim_by ty f k Algebra = SameAs (replaced_at ty f k)
 
 -- the name of a function
 abbrev pub declarator_name : List ℕ → DeclrTree → List ℕ
@@ -50,8 +50,8 @@ declarator_name bytes (s.declarator n count (Some at) tail init) = text_of bytes
 declarator_name bytes (s.declarator n count None tail init) = []
 
 -- a candidate of a function
-abbrev pub fragment_of : TypedUnit → FunctionTree → Candidate → Fragment
-fragment_of t f c = record { at = node_spot t c.node; claim = claim_by t f c.node c.kind; function = declarator_name t.bytes (head_of f) }
+abbrev pub fragment_of : Placed → Typing → FunctionTree → Candidate → Fragment
+fragment_of q ty f c = record { at = node_spot q c.node; claim = claim_by ty f c.node c.kind; function = declarator_name q.bytes (head_of f) }
 
 -- a start: a number for each key, by the texts of the keys
 abbrev pub inputs_of : List (List ℕ) → List ℤ → List Input
@@ -63,17 +63,17 @@ abbrev pub start_of : List (List ℕ) → Inputs → Start
 start_of keys start = record { inputs = inputs_of keys start.numbers }
 
 -- a condition of the set
-abbrev pub needed_of : TypedUnit → List (List ℕ) → Need → Needed
-needed_of t keys n = record { kind = n.condition.kind; at = node_spot t n.condition.node; without = option_map (λ start. start_of keys start) n.shown }
+abbrev pub needed_of : Placed → List (List ℕ) → Need → Needed
+needed_of q keys n = record { kind = n.condition.kind; at = node_spot q n.condition.node; without = option_map (λ start. start_of keys start) n.shown }
 
 -- the line of a finding: none of a clear one
-abbrev pub finding_lines : TypedUnit → FunctionTree → List (List ℕ) → Candidate → Finding → List Line
-finding_lines t f keys c finding.Clear = []
-finding_lines t f keys c (finding.Unstable start needs) = Unstable (fragment_of t f c) (start_of keys start) (map (needed_of t keys) needs) ∷ []
-finding_lines t f keys c (finding.Undecided phase) = Undecided (fragment_of t f c) phase ∷ []
+abbrev pub finding_lines : Placed → Typing → FunctionTree → List (List ℕ) → Candidate → Finding → List Line
+finding_lines q ty f keys c finding.Clear = []
+finding_lines q ty f keys c (finding.Unstable start needs) = Unstable (fragment_of q ty f c) (start_of keys start) (map (needed_of q keys) needs) ∷ []
+finding_lines q ty f keys c (finding.Undecided phase) = Undecided (fragment_of q ty f c) phase ∷ []
 
 -- the lines of the findings of candidates, in order
-abbrev pub findings_lines : TypedUnit → FunctionTree → List (List ℕ) → List Candidate → List Finding → List Line
-findings_lines t f keys [] xs = []
-findings_lines t f keys (c ∷ cs) [] = []
-findings_lines t f keys (c ∷ cs) (x ∷ xs) = finding_lines t f keys c x ++ findings_lines t f keys cs xs
+abbrev pub findings_lines : Placed → Typing → FunctionTree → List (List ℕ) → List Candidate → List Finding → List Line
+findings_lines q ty f keys [] xs = []
+findings_lines q ty f keys (c ∷ cs) [] = []
+findings_lines q ty f keys (c ∷ cs) (x ∷ xs) = finding_lines q ty f keys c x ++ findings_lines q ty f keys cs xs

@@ -4,4 +4,4 @@
 mod lines;
 mod replaced;
 
-pub use lines::{Told, push_finding};
+pub use lines::{Told, push_finding, spot_at};

@@ -8,6 +8,7 @@ ghost use Rattle.stk_tree.specs.View.{view_declarator, view_function};
 ghost use Rattle.stk_runs.specs.Keys.{function_visits};
 ghost use Rattle.stk_function_types.specs.Nodes.{typing_in};
 ghost use Rattle.stk_sites.specs.Sites.{met_of, met_in};
+ghost use Rattle.stk_key_texts.specs.Placed.{placed_in};
 ghost use Rattle.stk_finding_lines.specs.Lines.{spot_at, node_spot, claim_by, declarator_name, fragment_of, inputs_of, start_of, needed_of, finding_lines};
 
 use crate::replaced::replaced_at;
@@ -52,8 +53,8 @@ fn file_of(alloc: Global, bytes: &[u8], file: Option<Span>) -> Result<Option<Lis
     }
 }
 
-// Where a byte stands.
-fn spot_at(alloc: Global, input: &Places, at: u32) -> Result<Spot, NoMemory>
+/// Where a byte stands, by the line markers; behind the input it is where that ends. The only refusal is want of memory.
+pub fn spot_at(alloc: Global, input: &Places, at: u32) -> Result<Spot, NoMemory>
     ensures { IfOk result (λ spot. spot ≡ spot_at input.now at) }
 {
     let bytes = input.bytes();
@@ -74,7 +75,7 @@ fn node_spot(
     node: u32,
 ) -> Result<Spot, NoMemory>
     requires { input.now ≡ types.now.bytes }
-    ensures { IfOk result (λ spot. spot ≡ node_spot types.now node) }
+    ensures { IfOk result (λ spot. spot ≡ node_spot (placed_in types.now) node) }
 {
     spot_at(alloc, input, types.node_span(node).from)
 }
@@ -88,7 +89,7 @@ fn claim_by(
     candidate: Candidate,
 ) -> Result<Claim, NoMemory>
     requires { map met_of sites.now ≡ met_in true (function_visits (typing_in types.now) (view_function function.now)) }
-    ensures { IfOk result (λ claim. claim ≡ claim_by types.now (view_function function.now) candidate.node candidate.kind) }
+    ensures { IfOk result (λ claim. claim ≡ claim_by (typing_in types.now) (view_function function.now) candidate.node candidate.kind) }
 {
     match candidate.kind {
         CandKind::Arm => Ok(Claim::NeverEntered),
@@ -160,7 +161,7 @@ fn shown_of(
 // A condition of the set.
 fn needed_of(alloc: Global, told: &Told, need: &Need) -> Result<Needed, NoMemory>
     requires { told.now.input.now ≡ told.now.types.now.bytes }
-    ensures { IfOk result (λ n. n ≡ needed_of told.now.types.now told.now.keys.now need.now) }
+    ensures { IfOk result (λ n. n ≡ needed_of (placed_in told.now.types.now) told.now.keys.now need.now) }
 {
     let at = node_spot(alloc, told.input, told.types, need.condition.node)?;
     let without = shown_of(alloc, told.keys, &need.shown)?;
@@ -174,7 +175,7 @@ fn needed_of(alloc: Global, told: &Told, need: &Need) -> Result<Needed, NoMemory
 // The conditions of the set.
 fn needs_of(alloc: Global, told: &Told, needs: &[Need]) -> Result<Vec<Needed>, NoMemory>
     requires { told.now.input.now ≡ told.now.types.now.bytes }
-    ensures { IfOk result (λ list. list.items ≡ map (needed_of told.now.types.now told.now.keys.now) needs.now) }
+    ensures { IfOk result (λ list. list.items ≡ map (needed_of (placed_in told.now.types.now) told.now.keys.now) needs.now) }
 {
     let mut list = Vec::new(alloc);
     for need in needs {
@@ -188,7 +189,7 @@ fn needs_of(alloc: Global, told: &Told, needs: &[Need]) -> Result<Vec<Needed>, N
 fn fragment_of(alloc: Global, told: &Told, candidate: Candidate) -> Result<Fragment, NoMemory>
     requires input { told.now.input.now ≡ told.now.types.now.bytes }
     requires sites { map met_of told.now.sites.now ≡ met_in true (function_visits (typing_in told.now.types.now) (view_function told.now.function.now)) }
-    ensures { IfOk result (λ x. x ≡ fragment_of told.now.types.now (view_function told.now.function.now) candidate) }
+    ensures { IfOk result (λ x. x ≡ fragment_of (placed_in told.now.types.now) (typing_in told.now.types.now) (view_function told.now.function.now) candidate) }
 {
     let at = node_spot(alloc, told.input, told.types, candidate.node)?;
     let claim = claim_by(alloc, told.types, told.function, told.sites, candidate)?;
@@ -210,7 +211,7 @@ fn report_of(
 ) -> Result<Line, NoMemory>
     requires input { told.now.input.now ≡ told.now.types.now.bytes }
     requires sites { map met_of told.now.sites.now ≡ met_in true (function_visits (typing_in told.now.types.now) (view_function told.now.function.now)) }
-    ensures { IfOk result (λ line. line ≡ lines.Unstable (fragment_of told.now.types.now (view_function told.now.function.now) candidate) (start_of told.now.keys.now start.now) (map (needed_of told.now.types.now told.now.keys.now) needs.now)) }
+    ensures { IfOk result (λ line. line ≡ lines.Unstable (fragment_of (placed_in told.now.types.now) (typing_in told.now.types.now) (view_function told.now.function.now) candidate) (start_of told.now.keys.now start.now) (map (needed_of (placed_in told.now.types.now) told.now.keys.now) needs.now)) }
 {
     let fragment = fragment_of(alloc, told, candidate)?;
     let hit = start_of(alloc, told.keys, start)?;
@@ -233,7 +234,7 @@ pub fn push_finding(
 ) -> Result<(), NoMemory>
     requires input { told.now.input.now ≡ told.now.types.now.bytes }
     requires sites { map met_of told.now.sites.now ≡ met_in true (function_visits (typing_in told.now.types.now) (view_function told.now.function.now)) }
-    ensures { OnOk result (out.new.items ≡ out.old.items ++ finding_lines told.now.types.now (view_function told.now.function.now) told.now.keys.now candidate finding.now) }
+    ensures { OnOk result (out.new.items ≡ out.old.items ++ finding_lines (placed_in told.now.types.now) (typing_in told.now.types.now) (view_function told.now.function.now) told.now.keys.now candidate finding.now) }
 {
     match finding {
         Finding::Clear => Ok(()),

@@ -1,9 +1,9 @@
 //! How the keys of a function are spelled.
 
 ghost use Rattle.std.specs.Prelude.{◌≡◌, ◌++◌, IfOk, map, codes, decimal};
-ghost use Rattle.stk_function_types.specs.Nodes.{node_span};
 ghost use Rattle.stk_settings.specs.Infos.{info_in};
 ghost use Rattle.stk_key_texts.specs.Named.{name_among};
+ghost use Rattle.stk_key_texts.specs.Placed.{placed_in};
 ghost use Rattle.stk_key_texts.specs.Texts.{position_text, node_text, name_text, address_text, keyed, key_text};
 
 use crate::Named;
@@ -51,7 +51,7 @@ fn add_node(
     node: u32,
 ) -> Result<(), NoMemory>
     requires { input.now ≡ types.now.bytes }
-    ensures { IfOk result (λ _. text.new.items ≡ text.old.items ++ node_text types.now word.now node) }
+    ensures { IfOk result (λ _. text.new.items ≡ text.old.items ++ node_text (placed_in types.now) word.now node) }
 {
     add_position(text, input, word, types.node_span(node).from)
 }
@@ -75,7 +75,7 @@ fn add_address(
     name: Option<Span>,
 ) -> Result<(), NoMemory>
     requires { input.now ≡ types.now.bytes }
-    ensures { IfOk result (λ _. text.new.items ≡ text.old.items ++ address_text types.now node name) }
+    ensures { IfOk result (λ _. text.new.items ≡ text.old.items ++ address_text (placed_in types.now) node name) }
 {
     match name {
         None => add_node(text, input, types, b"string", node),
@@ -95,7 +95,7 @@ fn add_loop(
     nodes: (u32, u32),
 ) -> Result<(), NoMemory>
     requires { input.now ≡ types.now.bytes }
-    ensures { IfOk result (λ _. text.new.items ≡ text.old.items ++ (node_text types.now (codes "loop") nodes.0 ++ codes "." ++ name_text types.now.bytes (name_among nodes.1 names.now))) }
+    ensures { IfOk result (λ _. text.new.items ≡ text.old.items ++ (node_text (placed_in types.now) (codes "loop") nodes.0 ++ codes "." ++ name_text types.now.bytes (name_among nodes.1 names.now))) }
 {
     add_node(text, input, types, b"loop", nodes.0)?;
     add(text, b".")?;
@@ -111,7 +111,7 @@ fn add_key(
     info: &KeyInfo,
 ) -> Result<(), NoMemory>
     requires { input.now ≡ types.now.bytes }
-    ensures { IfOk result (λ _. text.new.items ≡ text.old.items ++ key_text types.now names.now (info_in info.now)) }
+    ensures { IfOk result (λ _. text.new.items ≡ text.old.items ++ key_text (placed_in types.now) names.now (info_in info.now)) }
 {
     let bytes = types.bytes();
     match info.key {
@@ -136,7 +136,7 @@ pub fn key_texts(
     keys: &[KeyInfo],
 ) -> Result<Vec<List<u8>>, NoMemory>
     requires { input.now ≡ types.now.bytes }
-    ensures { IfOk result (λ texts. texts.items ≡ map (key_text types.now names.now) (map info_in keys.now)) }
+    ensures { IfOk result (λ texts. texts.items ≡ map (key_text (placed_in types.now) names.now) (map info_in keys.now)) }
 {
     let mut texts = Vec::new(alloc);
     for info in keys {

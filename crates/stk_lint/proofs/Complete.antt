@@ -13,22 +13,22 @@ came_within before (Some rest) came bytes h e =
     let same : bytes ≡ came ++ rest = cc in
     omega (arith, ap length same, length-append came rest)
 
-module _ (n : ℕ) (before after : Option (List ℕ)) (R W : Type 0) where
+module _ (L : Type 0) (before after : Option (List ℕ)) (R W : Type 0) where
   pub complete : (result : Status)
       → (IsWritten result ⊎ (IsUnread result ⊎ ((result ≡ WriteFault) ⊎ (result ≡ NoMemory))))
-      → ((result ≡ BadWords) ↔ (0 < n))
+      → ((result ≡ BadWords) ↔ (L → ⊥))
       → (result ≡ ReadFault → R)
       → (result ≡ WriteFault → W)
       → ((came : List ℕ) × Came before after came × ((result ≡ TooLarge) ↔ (16777216 < length came)))
-      → (bytes : List ℕ) → n ≡ 0 → before ≡ Some bytes → length bytes ≤ 16777216 → ¬ R → ¬ W → IsWritten result ⊎ (result ≡ NoMemory)
-  complete Stable only bad read write large bytes none told short r w = inl tt
-  complete Found only bad read write large bytes none told short r w = inl tt
-  complete Unsure only bad read write large bytes none told short r w = elim only [ inl a ↦ absurd a | inr b ↦ elim b [ inl a ↦ absurd a | inr d ↦ elim d [ inl a ↦ absurd cc | inr a ↦ absurd cc ] ] ]
-  complete BadWords only bad read write large bytes none told short r w = let some : 0 < n = bad.0 refl in absurd (omega arith)
-  complete ReadFault only bad read write large bytes none told short r w = absurd (r (read refl))
-  complete WriteFault only bad read write large bytes none told short r w = absurd (w (write refl))
-  complete TooLarge only bad read write large bytes none told short r w =
+      → (bytes : List ℕ) → L → before ≡ Some bytes → length bytes ≤ 16777216 → ¬ R → ¬ W → IsWritten result ⊎ (result ≡ NoMemory)
+  complete Stable only bad read write large bytes legal told short r w = inl tt
+  complete Found only bad read write large bytes legal told short r w = inl tt
+  complete Unsure only bad read write large bytes legal told short r w = inl tt
+  complete BadWords only bad read write large bytes legal told short r w = absurd (bad.0 refl legal)
+  complete ReadFault only bad read write large bytes legal told short r w = absurd (r (read refl))
+  complete WriteFault only bad read write large bytes legal told short r w = absurd (w (write refl))
+  complete TooLarge only bad read write large bytes legal told short r w =
       let more : 16777216 < length large.0 = large.2.0 refl in
       let within : length large.0 ≤ length bytes = came_within before after large.0 bytes large.1 told in
       absurd (omega arith)
-  complete NoMemory only bad read write large bytes none told short r w = inr refl
+  complete NoMemory only bad read write large bytes legal told short r w = inr refl

@@ -1,5 +1,5 @@
 -- How the texts of units are written, one after the other.
-use Rattle.std.proofs.Common.{◌≡◌, ℕ, suc, ◌+◌, ◌-◌, ◌<◌, ◌≤◌, Bool, List, [], ◌∷◌, ◌++◌, length, drop, get_or, Option, Some, None, refl, sym, ap, subst, ◌∙◌, append_assoc, arith}
+use Rattle.std.proofs.Common.{◌≡◌, ℕ, suc, ◌+◌, ◌*◌, ◌-◌, ◌<◌, ◌≤◌, Bool, List, [], ◌∷◌, ◌++◌, length, drop, get_or, Option, Some, None, refl, sym, ap, subst, ◌∙◌, append_assoc, arith}
 use Rattle.std.proofs.Common.{drop-cons}
 use Rattle.std.proofs.lemmas.List.{append-nil, length-take, drop_all}
 use Rattle.std.specs.Prelude.{Result, Ok, Err, OnErr}
@@ -8,14 +8,15 @@ use Rattle.stk_base.specs.Streams.{Appended, AppendedPrefix, IsFlushed}
 use Rattle.stk_lex.specs.declared.token.Token.{Token}
 use Rattle.stk_units.specs.declared.cutting.Piece.{Piece}
 use Rattle.stk_units.specs.Units.{AreJoined}
-use Rattle.stk_records.specs.declared.records.Counts.{Counts}
-use Rattle.stk_records.specs.Records.{summary_text}
-use Rattle.stk_records.specs.Counts.{nothing_counted, counts_sum, AreAtMost}
+use Rattle.stk_options.specs.declared.options.Options.{Options}
+use Rattle.stk_lines.specs.declared.counts.Counts.{Counts}
+use Rattle.stk_lines.specs.Counts.{nothing_counted, counts_sum, AreBelow}
 use Rattle.stk_ctype.specs.declared.symbol.NameEntry.{NameEntry}
 use Rattle.stk_lint.specs.LawfulText.{body_of_piece, status_of, tokens_of_piece, AreUnitTexts, no_unit, then_unit, IsLawfulText}
 use Rattle.stk_lint.specs.Judged.{WroteUnit, WroteUnitPrefix, WroteUnits, WroteUnitsPrefix}
 use Rattle.stk_lint.specs.Lint.{AreUnitsOf, TookText, TookPrefix}
-use Rattle.stk_lint.proofs.Counted.{unit_most}
+use Rattle.stk_unit_lines.proofs.Counted.{AreAtMost, unit_most}
+use Rattle.stk_lint.specs.Form.{written_summary}
 use Rattle.stk_lint.proofs.Units.{piece_some, joined_up, text_of_unit, texts_of_units}
 
 -- ---- what a sink takes
@@ -45,9 +46,9 @@ on_err (Ok x) W w = tt
 on_err (Err e) W w = w
 
 -- nothing is a prefix of what may be written of a unit
-pub no_prefix : (bytes : List ℕ) (mark : Bool) (es : List NameEntry) (body : Option ℕ) (tokens : List Token) (before : Option (List ℕ)) → 0 < length tokens → WroteUnitPrefix bytes mark es body tokens before before
-no_prefix bytes mark es body tokens before some =
-    let unit = text_of_unit bytes mark es body tokens some in
+pub no_prefix : (bytes : List ℕ) (o : Options) (mark : Bool) (es : List NameEntry) (body : Option ℕ) (tokens : List Token) (before : Option (List ℕ)) → 0 < length tokens → WroteUnitPrefix bytes o mark es body tokens before before
+no_prefix bytes o mark es body tokens before some =
+    let unit = text_of_unit bytes o mark es body tokens some in
     record { text = unit.text; counts = unit.counts; now = unit.now; is = unit.is; written = ([], unit.text, refl, nothing_appended before) }
 
 -- ---- counts
@@ -79,8 +80,9 @@ plus_plus x y z =
     let f : x.skipped + (y.skipped + z.skipped) ≡ x.skipped + y.skipped + z.skipped = omega arith in
     λ i. record { functions = a i; candidates = b i; unstable = d i; undecided = e i; skipped = f i }
 
-pub most_up : (n m : ℕ) (c : Counts) → n ≤ m → AreAtMost n c → AreAtMost m c
-most_up n m c h k = record {
+-- counts that are at most so many are below 2^63
+below : (n : ℕ) (c : Counts) → n ≤ 80000 * 16777216 → AreAtMost n c → AreBelow c
+below n c h k = record {
   functions = omega (arith, h, k.functions);
   candidates = omega (arith, h, k.candidates);
   unstable = omega (arith, h, k.unstable);
@@ -100,13 +102,13 @@ most_sum n m k c d h p q = record {
 -- ---- the units so far
 
 -- The units before the i-th are written and leave these names in force, and each text of those behind it makes a text of all.
-pub record AreSoFar (bytes : List ℕ) (tokens : List Token) (pieces : List Piece) (i : ℕ) (before after : Option (List ℕ)) (counts : Counts) (now : List NameEntry) : Type 0 where
+pub record AreSoFar (bytes : List ℕ) (o : Options) (tokens : List Token) (pieces : List Piece) (i : ℕ) (before after : Option (List ℕ)) (counts : Counts) (now : List NameEntry) : Type 0 where
   pub at : ℕ
   pub joined : AreJoined at (length tokens) (drop i pieces)
-  pub most : AreAtMost at counts
+  pub most : AreAtMost (80000 * at) counts
   pub lines : List ℕ
   pub written : Appended before after lines
-  pub goes_on : (more : List ℕ) (others : Counts) → AreUnitTexts bytes tokens now (drop i pieces) more others → AreUnitTexts bytes tokens [] pieces (lines ++ more) (counts_sum counts others)
+  pub goes_on : (more : List ℕ) (others : Counts) → AreUnitTexts bytes o tokens now (drop i pieces) more others → AreUnitTexts bytes o tokens [] pieces (lines ++ more) (counts_sum counts others)
 
 -- the next unit begins where those so far end, and its tokens are among all
 pub record IsNextUnit (size at : ℕ) (p : Piece) (behind : List Piece) : Type 0 where
@@ -115,15 +117,15 @@ pub record IsNextUnit (size at : ℕ) (p : Piece) (behind : List Piece) : Type 0
   pub within : p.to ≤ size
   pub rest : AreJoined p.to size behind
 
-module _ (bytes : List ℕ) (tokens : List Token) (pieces : List Piece) (before : Option (List ℕ)) where
-  pub none_so_far : AreJoined 0 (length tokens) pieces → AreSoFar bytes tokens pieces 0 before before nothing_counted []
+module _ (bytes : List ℕ) (o : Options) (tokens : List Token) (pieces : List Piece) (before : Option (List ℕ)) where
+  pub none_so_far : AreJoined 0 (length tokens) pieces → AreSoFar bytes o tokens pieces 0 before before nothing_counted []
   none_so_far joined = record {
     at = 0;
     joined = joined;
     most = record { functions = omega arith; candidates = omega arith; unstable = omega arith; undecided = omega arith; skipped = omega arith };
     lines = [];
     written = nothing_appended before;
-    goes_on = λ more others are. subst (λ c. AreUnitTexts bytes tokens [] pieces more c) (sym (nothing_plus others)) are;
+    goes_on = λ more others are. subst (λ c. AreUnitTexts bytes o tokens [] pieces more c) (sym (nothing_plus others)) are;
   }
 
   next_joined : (at : ℕ) (ps : List Piece) (p : Piece) (rest : List Piece) → ps ≡ p ∷ rest → AreJoined at (length tokens) ps → IsNextUnit (length tokens) at p rest
@@ -131,7 +133,7 @@ module _ (bytes : List ℕ) (tokens : List Token) (pieces : List Piece) (before 
       let k : AreJoined at (length tokens) (p ∷ rest) = subst (AreJoined at (length tokens)) e h in
       record { from = k.0; some = omega (arith, k.0, k.1); within = joined_up p.to (length tokens) rest k.3; rest = k.3 }
 
-  pub next_unit : (i : ℕ) (d : Piece) (middle : Option (List ℕ)) (counts : Counts) (now : List NameEntry) → i < length pieces → (h : AreSoFar bytes tokens pieces i before middle counts now) → IsNextUnit (length tokens) h.at (get_or pieces i d) (drop (i + 1) pieces)
+  pub next_unit : (i : ℕ) (d : Piece) (middle : Option (List ℕ)) (counts : Counts) (now : List NameEntry) → i < length pieces → (h : AreSoFar bytes o tokens pieces i before middle counts now) → IsNextUnit (length tokens) h.at (get_or pieces i d) (drop (i + 1) pieces)
   next_unit i d middle counts now within h = next_joined h.at (drop i pieces) (get_or pieces i d) (drop (i + 1) pieces) (behind i d within) h.joined where
     behind : (i : ℕ) (d : Piece) → i < length pieces → drop i pieces ≡ get_or pieces i d ∷ drop (i + 1) pieces
     behind i d h = let e : suc i ≡ i + 1 = omega arith in drop-cons pieces i d h ∙ ap (λ n. get_or pieces i d ∷ drop n pieces) e
@@ -140,101 +142,101 @@ module _ (bytes : List ℕ) (tokens : List Token) (pieces : List Piece) (before 
   unit_length p h = omega (arith, length-take (p.to - p.from) (drop p.from tokens))
 
   -- what a unit counts for, and what those before it do, is few
-  pub unit_few : (i : ℕ) (d : Piece) (middle old after : Option (List ℕ)) (counts counted : Counts) (now left : List NameEntry) (mark : Bool) (body : Option ℕ) (unit : List Token) → i < length pieces → AreSoFar bytes tokens pieces i before middle counts now → length tokens ≤ 16777216
-      → unit ≡ tokens_of_piece tokens (get_or pieces i d) → WroteUnit bytes mark now body unit old after counted left → AreAtMost 16777216 counted
+  pub unit_few : (i : ℕ) (d : Piece) (middle old after : Option (List ℕ)) (counts counted : Counts) (now left : List NameEntry) (mark : Bool) (body : Option ℕ) (unit : List Token) → i < length pieces → AreSoFar bytes o tokens pieces i before middle counts now → length tokens ≤ 16777216
+      → unit ≡ tokens_of_piece tokens (get_or pieces i d) → WroteUnit bytes o mark now body unit old after counted left → AreBelow counted
   unit_few i d middle old after counts counted now left mark body unit within h few same w =
       let p : Piece = get_or pieces i d in
       let n = next_unit i d middle counts now within h in
       let some : 0 < length unit = rw same (piece_some tokens p n.some n.within) in
-      most_up (length unit) 16777216 counted (omega (arith, ap length same, unit_length p n.within, n.within, few)) (unit_most bytes mark now left body unit w.text counted some w.is)
+      below (80000 * length unit) counted (omega (arith, ap length same, unit_length p n.within, n.within, few)) (unit_most bytes o.without mark now left body unit counted some w.is.are)
 
-  pub so_far_few : (i : ℕ) (middle : Option (List ℕ)) (counts : Counts) (now : List NameEntry) → AreSoFar bytes tokens pieces i before middle counts now → length tokens ≤ 16777216 → AreAtMost 16777216 counts
-  so_far_few i middle counts now h few = most_up h.at 16777216 counts (omega (arith, joined_up h.at (length tokens) (drop i pieces) h.joined, few)) h.most
+  pub so_far_few : (i : ℕ) (middle : Option (List ℕ)) (counts : Counts) (now : List NameEntry) → AreSoFar bytes o tokens pieces i before middle counts now → length tokens ≤ 16777216 → AreBelow counts
+  so_far_few i middle counts now h few = below (80000 * h.at) counts (omega (arith, joined_up h.at (length tokens) (drop i pieces) h.joined, few)) h.most
 
   -- one more unit
-  pub one_more_unit : (i : ℕ) (d : Piece) (middle after : Option (List ℕ)) (counts unit : Counts) (now left : List NameEntry) → i < length pieces → AreSoFar bytes tokens pieces i before middle counts now → let p = get_or pieces i d in
-      WroteUnit bytes p.no_return now (body_of_piece p) (tokens_of_piece tokens p) middle after unit left → AreSoFar bytes tokens pieces (i + 1) before after (counts_sum counts unit) left
+  pub one_more_unit : (i : ℕ) (d : Piece) (middle after : Option (List ℕ)) (counts unit : Counts) (now left : List NameEntry) → i < length pieces → AreSoFar bytes o tokens pieces i before middle counts now → let p = get_or pieces i d in
+      WroteUnit bytes o p.no_return now (body_of_piece p) (tokens_of_piece tokens p) middle after unit left → AreSoFar bytes o tokens pieces (i + 1) before after (counts_sum counts unit) left
   one_more_unit i d middle after counts unit now left within h w =
       let p : Piece = get_or pieces i d in
       let n = next_unit i d middle counts now within h in
-      let most = unit_most bytes p.no_return now left (body_of_piece p) (tokens_of_piece tokens p) w.text unit (piece_some tokens p n.some n.within) w.is in
+      let most = unit_most bytes o.without p.no_return now left (body_of_piece p) (tokens_of_piece tokens p) unit (piece_some tokens p n.some n.within) w.is.are in
       let e : suc i ≡ i + 1 = omega arith in
       let here : drop i pieces ≡ p ∷ drop (i + 1) pieces = drop-cons pieces i d within ∙ ap (λ n. p ∷ drop n pieces) e in
       record {
         at = p.to;
         joined = n.rest;
-        most = most_sum h.at (length (tokens_of_piece tokens p)) p.to counts unit (omega (arith, n.from, n.some, unit_length p n.within)) h.most most;
+        most = most_sum (80000 * h.at) (80000 * length (tokens_of_piece tokens p)) (80000 * p.to) counts unit (omega (arith, n.from, n.some, unit_length p n.within)) h.most most;
         lines = h.lines ++ w.text;
         written = appended_more before middle after h.lines w.text h.written w.written;
         goes_on = λ more others are.
-            let all = h.goes_on (w.text ++ more) (counts_sum unit others) (subst (λ (ps : List Piece). AreUnitTexts bytes tokens now ps (w.text ++ more) (counts_sum unit others)) (sym here) (then_unit w.is are)) in
-            subst (λ c. AreUnitTexts bytes tokens [] pieces ((h.lines ++ w.text) ++ more) c) (plus_plus counts unit others)
-            (subst (λ (u : List ℕ). AreUnitTexts bytes tokens [] pieces u (counts_sum counts (counts_sum unit others))) (sym (append_assoc h.lines w.text more)) all);
+            let all = h.goes_on (w.text ++ more) (counts_sum unit others) (subst (λ (ps : List Piece). AreUnitTexts bytes o tokens now ps (w.text ++ more) (counts_sum unit others)) (sym here) (then_unit w.is are)) in
+            subst (λ c. AreUnitTexts bytes o tokens [] pieces ((h.lines ++ w.text) ++ more) c) (plus_plus counts unit others)
+            (subst (λ (u : List ℕ). AreUnitTexts bytes o tokens [] pieces u (counts_sum counts (counts_sum unit others))) (sym (append_assoc h.lines w.text more)) all);
       }
 
   -- no more comes of a unit than some prefix of what may be written of it
-  pub stops_in_unit : (i : ℕ) (d : Piece) (middle after : Option (List ℕ)) (counts : Counts) (now : List NameEntry) → i < length pieces → AreSoFar bytes tokens pieces i before middle counts now → let p = get_or pieces i d in
-      WroteUnitPrefix bytes p.no_return now (body_of_piece p) (tokens_of_piece tokens p) middle after → WroteUnitsPrefix bytes tokens pieces before after
+  pub stops_in_unit : (i : ℕ) (d : Piece) (middle after : Option (List ℕ)) (counts : Counts) (now : List NameEntry) → i < length pieces → AreSoFar bytes o tokens pieces i before middle counts now → let p = get_or pieces i d in
+      WroteUnitPrefix bytes o p.no_return now (body_of_piece p) (tokens_of_piece tokens p) middle after → WroteUnitsPrefix bytes o tokens pieces before after
   stops_in_unit i d middle after counts now within h w =
       let p : Piece = get_or pieces i d in
       let n = next_unit i d middle counts now within h in
-      let rest = texts_of_units bytes tokens w.now p.to (drop (i + 1) pieces) n.rest in
+      let rest = texts_of_units bytes o tokens w.now p.to (drop (i + 1) pieces) n.rest in
       let e : suc i ≡ i + 1 = omega arith in
       let here : drop i pieces ≡ p ∷ drop (i + 1) pieces = drop-cons pieces i d within ∙ ap (λ n. p ∷ drop n pieces) e in
       record {
         lines = h.lines ++ (w.text ++ rest.lines);
         counts = counts_sum counts (counts_sum w.counts rest.counts);
         are = h.goes_on (w.text ++ rest.lines) (counts_sum w.counts rest.counts)
-            (subst (λ (ps : List Piece). AreUnitTexts bytes tokens now ps (w.text ++ rest.lines) (counts_sum w.counts rest.counts)) (sym here) (then_unit w.is rest.are));
+            (subst (λ (ps : List Piece). AreUnitTexts bytes o tokens now ps (w.text ++ rest.lines) (counts_sum w.counts rest.counts)) (sym here) (then_unit w.is rest.are));
         written = prefix_more before middle after h.lines w.text rest.lines h.written w.written;
       }
 
   -- all units
-  pub all_units : (i : ℕ) (after : Option (List ℕ)) (counts : Counts) (now : List NameEntry) → length pieces ≤ i → AreSoFar bytes tokens pieces i before after counts now → WroteUnits bytes tokens pieces before after counts
+  pub all_units : (i : ℕ) (after : Option (List ℕ)) (counts : Counts) (now : List NameEntry) → length pieces ≤ i → AreSoFar bytes o tokens pieces i before after counts now → WroteUnits bytes o tokens pieces before after counts
   all_units i after counts now past h =
       let none : drop i pieces ≡ [] = drop_all i pieces past in
-      let are = h.goes_on [] nothing_counted (subst (λ (ps : List Piece). AreUnitTexts bytes tokens now ps [] nothing_counted) (sym none) no_unit) in
+      let are = h.goes_on [] nothing_counted (subst (λ (ps : List Piece). AreUnitTexts bytes o tokens now ps [] nothing_counted) (sym none) no_unit) in
       record {
         lines = h.lines;
-        are = subst (λ c. AreUnitTexts bytes tokens [] pieces h.lines c) (plus_nothing counts) (subst (λ (u : List ℕ). AreUnitTexts bytes tokens [] pieces u (counts_sum counts nothing_counted)) (append-nil h.lines) are);
+        are = subst (λ c. AreUnitTexts bytes o tokens [] pieces h.lines c) (plus_nothing counts) (subst (λ (u : List ℕ). AreUnitTexts bytes o tokens [] pieces u (counts_sum counts nothing_counted)) (append-nil h.lines) are);
         written = h.written;
       }
 
 -- ---- the text
 
-module _ (bytes : List ℕ) (kept : List Token) (pieces : List Piece) (units : AreUnitsOf bytes kept pieces) where
-  lawful : (lines : List ℕ) (counts : Counts) → AreUnitTexts bytes kept [] pieces lines counts → IsLawfulText bytes (lines ++ summary_text counts) (status_of counts.unstable)
+module _ (bytes : List ℕ) (o : Options) (kept : List Token) (pieces : List Piece) (units : AreUnitsOf bytes kept pieces) where
+  lawful : (lines : List ℕ) (counts : Counts) → AreUnitTexts bytes o kept [] pieces lines counts → IsLawfulText bytes o (lines ++ written_summary o.json o.without counts) (status_of counts.unstable counts.undecided)
   lawful lines counts are = record {
     tokens = units.tokens;
     cut = units.cut;
     lines = lines;
     counts = counts;
-    units = rw (units.same_tokens) at (subst (λ (ps : List Piece). AreUnitTexts bytes kept [] ps lines counts) units.same_pieces are);
+    units = rw (units.same_tokens) at (subst (λ (ps : List Piece). AreUnitTexts bytes o kept [] ps lines counts) units.same_pieces are);
     same_text = refl;
     same_status = refl;
   }
 
-  pub text_taken : (before middle after : Option (List ℕ)) (flushed : ℕ) (counts : Counts) (status : Status) → WroteUnits bytes kept pieces before middle counts → Appended middle after (summary_text counts) → IsFlushed after flushed
-      → status ≡ status_of counts.unstable → TookText bytes before after flushed status
+  pub text_taken : (before middle after : Option (List ℕ)) (flushed : ℕ) (counts : Counts) (status : Status) → WroteUnits bytes o kept pieces before middle counts → Appended middle after (written_summary o.json o.without counts) → IsFlushed after flushed
+      → status ≡ status_of counts.unstable counts.undecided → TookText bytes o before after flushed status
   text_taken before middle after flushed counts status w last flush e = record {
-    text = w.lines ++ summary_text counts;
+    text = w.lines ++ written_summary o.json o.without counts;
     lawful = rw e (lawful w.lines counts w.are);
-    written = appended_more before middle after w.lines (summary_text counts) w.written last;
+    written = appended_more before middle after w.lines (written_summary o.json o.without counts) w.written last;
     flush = flush;
   }
 
-  pub units_stop : (before after : Option (List ℕ)) → WroteUnitsPrefix bytes kept pieces before after → TookPrefix bytes before after
+  pub units_stop : (before after : Option (List ℕ)) → WroteUnitsPrefix bytes o kept pieces before after → TookPrefix bytes o before after
   units_stop before after w = record {
-    text = w.lines ++ summary_text w.counts;
-    status = status_of w.counts.unstable;
+    text = w.lines ++ written_summary o.json o.without w.counts;
+    status = status_of w.counts.unstable w.counts.undecided;
     lawful = lawful w.lines w.counts w.are;
-    written = prefix_of before after w.lines (summary_text w.counts) w.written;
+    written = prefix_of before after w.lines (written_summary o.json o.without w.counts) w.written;
   }
 
-  pub summary_stops : (before middle after : Option (List ℕ)) (counts : Counts) → WroteUnits bytes kept pieces before middle counts → AppendedPrefix middle after (summary_text counts) → TookPrefix bytes before after
+  pub summary_stops : (before middle after : Option (List ℕ)) (counts : Counts) → WroteUnits bytes o kept pieces before middle counts → AppendedPrefix middle after (written_summary o.json o.without counts) → TookPrefix bytes o before after
   summary_stops before middle after counts w (front, back, same, taken) = record {
-    text = w.lines ++ summary_text counts;
-    status = status_of counts.unstable;
+    text = w.lines ++ written_summary o.json o.without counts;
+    status = status_of counts.unstable counts.undecided;
     lawful = lawful w.lines counts w.are;
     written = (w.lines ++ front, back, ap (λ (u : List ℕ). w.lines ++ u) same ∙ sym (append_assoc w.lines front back), appended_more before middle after w.lines front w.written taken);
   }

@@ -1,4 +1,4 @@
-pub mod Causes
+pub mod Form
 pub mod LawfulText
 pub mod Judged
 pub mod Lint

@@ -9,14 +9,17 @@ use Rattle.stk_units.specs.declared.skimming.Skimmed.{Skimmed}
 use Rattle.stk_units.specs.declared.cutting.Piece.{Piece}
 use Rattle.stk_units.specs.Skimming.{kept_tokens, notes_of, ArePositions}
 use Rattle.stk_units.specs.Units.{units_of}
+use Rattle.stk_options.specs.declared.options.Options.{Options}
+use Rattle.stk_options.specs.Words.{AreLegal}
 use Rattle.stk_lint.specs.declared.lint.Stop.{Stop}
 use Rattle.stk_lint.specs.declared.lint.Stop.TheVariants as stops
 use Rattle.stk_lint.specs.LawfulText.{IsLawfulText}
 
--- the records were written: the run ended stable or found something
+-- the records were written: the run ended stable, or found something, or is unsure
 abbrev pub IsWritten : Status → Type 0
 IsWritten Stable = Unit {0}
 IsWritten Found = Unit {0}
+IsWritten Unsure = Unit {0}
 IsWritten status = ⊥
 
 -- nothing was written, since it didn't come so far: the words are bad, or the input wasn't read whole
@@ -37,22 +40,31 @@ fault_line WriteFault = codes "stack: the output cannot be written\n"
 fault_line TooLarge = codes "stack: the input is larger than 16777216 bytes\n"
 fault_line NoMemory = codes "stack: no memory\n"
 
--- The source was read to its end, and the sink took a text that is lawful for its bytes, with this status, and was
+-- these words on the command line are legal
+pub record IsLegal (words : List (List ℕ)) : Type 0 where
+  pub options : Options
+  pub are : AreLegal words options
+
+-- The source was read to its end, and the sink took a text that is lawful for its bytes and the options that the words ask for, with this status, and was
 -- flushed. The bytes are those that the source had left, where it tells them.
-pub record HasWritten (left_before left_after taken_before taken_after : Option (List ℕ)) (flushed : ℕ) (status : Status) : Type 0 where
+pub record HasWritten (words : List (List ℕ)) (left_before left_after taken_before taken_after : Option (List ℕ)) (flushed : ℕ) (status : Status) : Type 0 where
+  pub options : Options
+  pub legal : AreLegal words options
   pub bytes : List ℕ
   pub text : List ℕ
-  pub lawful : IsLawfulText bytes text status
+  pub lawful : IsLawfulText bytes options text status
   pub read : (left : List ℕ) → left_before ≡ Some left → (bytes ≡ left) × (left_after ≡ Some [])
   pub written : Appended taken_before taken_after text
   pub flush : IsFlushed taken_after flushed
 
--- The source was read to its end, and the sink took some prefix of a text that is lawful for its bytes.
-pub record HasWrittenPrefix (left_before left_after taken_before taken_after : Option (List ℕ)) : Type 0 where
+-- The source was read to its end, and the sink took some prefix of a text that is lawful for its bytes and the options.
+pub record HasWrittenPrefix (words : List (List ℕ)) (left_before left_after taken_before taken_after : Option (List ℕ)) : Type 0 where
+  pub options : Options
+  pub legal : AreLegal words options
   pub bytes : List ℕ
   pub text : List ℕ
   pub status : Status
-  pub lawful : IsLawfulText bytes text status
+  pub lawful : IsLawfulText bytes options text status
   pub read : (left : List ℕ) → left_before ≡ Some left → (bytes ≡ left) × (left_after ≡ Some [])
   pub written : AppendedPrefix taken_before taken_after text
 
@@ -80,14 +92,14 @@ status_after (Err stops.WriteFault) = WriteFault
 status_after (Err stops.NoMemory) = NoMemory
 
 -- the same of one sink and bytes that are given
-pub record TookText (bytes : List ℕ) (taken_before taken_after : Option (List ℕ)) (flushed : ℕ) (status : Status) : Type 0 where
+pub record TookText (bytes : List ℕ) (o : Options) (taken_before taken_after : Option (List ℕ)) (flushed : ℕ) (status : Status) : Type 0 where
   pub text : List ℕ
-  pub lawful : IsLawfulText bytes text status
+  pub lawful : IsLawfulText bytes o text status
   pub written : Appended taken_before taken_after text
   pub flush : IsFlushed taken_after flushed
 
-pub record TookPrefix (bytes : List ℕ) (taken_before taken_after : Option (List ℕ)) : Type 0 where
+pub record TookPrefix (bytes : List ℕ) (o : Options) (taken_before taken_after : Option (List ℕ)) : Type 0 where
   pub text : List ℕ
   pub status : Status
-  pub lawful : IsLawfulText bytes text status
+  pub lawful : IsLawfulText bytes o text status
   pub written : AppendedPrefix taken_before taken_after text

@@ -2,9 +2,8 @@
 #![tactic(auto)]
 
 mod lint;
-mod report;
 mod run;
+mod writing;
 
 pub use lint::lint_main;
-pub use report::{UnitText, unit_text};
 pub use run::run_checker;

@@ -1,23 +1,26 @@
 //! The top call.
 
-ghost use Rattle.std.specs.Prelude.{◌≡◌, ◌↔◌, ◌⊎◌, ◌≤◌, ◌<◌, ℕ, List, length, Some, Err, IfOk, OnOk, OnErr};
+ghost use Rattle.std.specs.Prelude.{◌≡◌, ◌↔◌, ◌⊎◌, ◌≤◌, ◌<◌, ℕ, List, length, map, Some, Err, IfOk, OnOk, OnErr};
+ghost use Rattle.std.specs.String.{string_bytes};
 ghost use Rattle.stk_base.specs.Limits.{most_bytes};
 ghost use Rattle.stk_base.specs.Causes.{Rose, HasCause};
 ghost use Rattle.stk_base.specs.Streams.{Came, Appended, AppendedPrefix, IsFlushed};
 ghost use Rattle.stk_units.specs.Units.{AreJoined};
-ghost use Rattle.stk_records.specs.Records.{summary_text};
+ghost use Rattle.stk_options.specs.Words.{AreLegal};
+ghost use Rattle.stk_lint.specs.Form.{written_summary};
 ghost use Rattle.stk_lint.specs.LawfulText.{body_of_piece, status_of, tokens_of_piece};
 ghost use Rattle.stk_lint.specs.Judged.{WroteUnit, WroteUnitPrefix, WroteUnits, WroteUnitsPrefix};
-ghost use Rattle.stk_lint.specs.Lint.{IsWritten, IsUnread, fault_line, HasWritten, HasWrittenPrefix, IsSkimmedFrom, AreUnitsOf, TookText, TookPrefix, status_after};
+ghost use Rattle.stk_lint.specs.Lint.{IsWritten, IsUnread, IsLegal, fault_line, HasWritten, HasWrittenPrefix, IsSkimmedFrom, AreUnitsOf, TookText, TookPrefix, status_after};
 
-use crate::report::unit_text;
+use crate::writing::{summary_text, unit_text};
 use std::alloc::Global;
 use stk_base::{
     Failed, List, MOST_BYTES, NoMemory, ReadAll, Sink, Source, Status, read_all, write_all,
 };
 use stk_ctype::Names;
 use stk_lex::{Places, Token, lex};
-use stk_records::{Counts, add_summary};
+use stk_lines::Counts;
+use stk_options::{Options, WordsFault, words as options_of};
 use stk_units::{Piece, Skimmed, cut, skim};
 
 // The status of a refusal to read.
@@ -105,6 +108,7 @@ fn cut_into_units(alloc: Global, bytes: &[u8]) -> Result<Units, NoMemory>
 fn write_unit<K: Sink>(
     alloc: Global,
     input: &Places,
+    options: Options,
     piece: Piece,
     tokens: &[Token],
     names: &mut Names,
@@ -112,14 +116,15 @@ fn write_unit<K: Sink>(
 ) -> Result<Counts, Stop>
     requires some { 0 < length tokens.now }
     requires few { length tokens.now ≤ most_bytes }
-    ensures written { IfOk result (λ counts. WroteUnit input.now piece.no_return names.old (body_of_piece piece) tokens.now (K.taken out.old) (K.taken out.new) counts names.new) }
-    ensures prefix { OnErr result (WroteUnitPrefix input.now piece.no_return names.old (body_of_piece piece) tokens.now (K.taken out.old) (K.taken out.new)) }
+    ensures written { IfOk result (λ counts. WroteUnit input.now options piece.no_return names.old (body_of_piece piece) tokens.now (K.taken out.old) (K.taken out.new) counts names.new) }
+    ensures prefix { OnErr result (WroteUnitPrefix input.now options piece.no_return names.old (body_of_piece piece) tokens.now (K.taken out.old) (K.taken out.new)) }
     ensures later { K.faults out.old ≤ K.faults out.new }
     ensures fault { result ≡ Err Stop.WriteFault → Rose (K.faults out.old) (K.faults out.new) }
 {
     let unit = unit_text(
         alloc,
         input,
+        options,
         piece.no_return,
         body_of_piece(piece),
         tokens,
@@ -153,14 +158,15 @@ fn tokens_of(tokens: &[Token], piece: Piece) -> &[Token]
 fn write_units<K: Sink>(
     alloc: Global,
     input: &Places,
+    options: Options,
     tokens: &[Token],
     pieces: &[Piece],
     out: &mut K,
 ) -> Result<Counts, Stop>
     requires few { length tokens.now ≤ most_bytes }
     requires joined { AreJoined 0 (length tokens.now) pieces.now }
-    ensures written { IfOk result (WroteUnits input.now tokens.now pieces.now (K.taken out.old) (K.taken out.new)) }
-    ensures prefix { OnErr result (WroteUnitsPrefix input.now tokens.now pieces.now (K.taken out.old) (K.taken out.new)) }
+    ensures written { IfOk result (WroteUnits input.now options tokens.now pieces.now (K.taken out.old) (K.taken out.new)) }
+    ensures prefix { OnErr result (WroteUnitsPrefix input.now options tokens.now pieces.now (K.taken out.old) (K.taken out.new)) }
     ensures later { K.faults out.old ≤ K.faults out.new }
     ensures fault { result ≡ Err Stop.WriteFault → Rose (K.faults out.old) (K.faults out.new) }
 {
@@ -168,34 +174,35 @@ fn write_units<K: Sink>(
     let mut counts = Counts::nothing();
     for piece in pieces {
         let unit = tokens_of(tokens, *piece);
-        let counted = write_unit(alloc, input, *piece, unit, &mut names, out)?;
+        let counted = write_unit(alloc, input, options, *piece, unit, &mut names, out)?;
         counts = counts.plus(counted);
     }
     Ok(counts)
 }
 
 // Writes the summary and flushes what was written.
-fn finish<K: Sink>(alloc: Global, counts: Counts, out: &mut K) -> Result<(), Stop>
-    ensures all { OnOk result (Appended (K.taken out.old) (K.taken out.new) (summary_text counts)) }
+fn finish<K: Sink>(alloc: Global, options: Options, counts: Counts, out: &mut K) -> Result<(), Stop>
+    ensures all { OnOk result (Appended (K.taken out.old) (K.taken out.new) (written_summary options.json options.without counts)) }
     ensures flushed { OnOk result (IsFlushed (K.taken out.new) (K.flushed out.new)) }
-    ensures prefix { OnErr result (AppendedPrefix (K.taken out.old) (K.taken out.new) (summary_text counts)) }
+    ensures prefix { OnErr result (AppendedPrefix (K.taken out.old) (K.taken out.new) (written_summary options.json options.without counts)) }
     ensures later { K.faults out.old ≤ K.faults out.new }
     ensures fault { result ≡ Err Stop.WriteFault → Rose (K.faults out.old) (K.faults out.new) }
 {
-    let mut text = Vec::new(alloc);
-    add_summary(&mut text, counts)?;
+    let text = summary_text(alloc, options, counts)?;
     deliver(out, text.as_slice())?;
     Ok(())
 }
 
-// The status where so many candidates are unstable.
-fn status_of(unstable: u64) -> Status
-    ensures { result ≡ status_of unstable }
+// The status where so many candidates are unstable, and so many undecided.
+fn status_of(unstable: u64, undecided: u64) -> Status
+    ensures { result ≡ status_of unstable undecided }
 {
-    if unstable == 0 {
-        Status::Stable
-    } else {
+    if unstable > 0 {
         Status::Found
+    } else if undecided > 0 {
+        Status::Unsure
+    } else {
+        Status::Stable
     }
 }
 
@@ -203,25 +210,27 @@ fn status_of(unstable: u64) -> Status
 fn write_text<K: Sink>(
     alloc: Global,
     input: &Places,
+    options: Options,
     units: &Units,
     out: &mut K,
 ) -> Result<Status, Stop>
     requires are { AreUnitsOf input.now units.now.tokens units.now.pieces.items }
     requires joined { AreJoined 0 (length units.now.tokens) units.now.pieces.items }
     requires few { length units.now.tokens ≤ most_bytes }
-    ensures text { IfOk result (TookText input.now (K.taken out.old) (K.taken out.new) (K.flushed out.new)) }
-    ensures prefix { OnErr result (TookPrefix input.now (K.taken out.old) (K.taken out.new)) }
+    ensures text { IfOk result (TookText input.now options (K.taken out.old) (K.taken out.new) (K.flushed out.new)) }
+    ensures prefix { OnErr result (TookPrefix input.now options (K.taken out.old) (K.taken out.new)) }
     ensures fault { result ≡ Err Stop.WriteFault → Rose (K.faults out.old) (K.faults out.new) }
 {
     let counts = write_units(
         alloc,
         input,
+        options,
         units.tokens.as_slice(),
         units.pieces.as_slice(),
         out,
     )?;
-    finish(alloc, counts, out)?;
-    Ok(status_of(counts.unstable))
+    finish(alloc, options, counts, out)?;
+    Ok(status_of(counts.unstable, counts.undecided))
 }
 
 // The units of an input, and the places of its bytes.
@@ -249,40 +258,41 @@ fn ended(written: Result<Status, Stop>) -> Status
 }
 
 // Judges what was read, writes its records and flushes them.
-fn answer<K: Sink>(alloc: Global, bytes: &[u8], out: &mut K) -> Status
+fn answer<K: Sink>(alloc: Global, bytes: &[u8], options: Options, out: &mut K) -> Status
     requires { length bytes.now ≤ most_bytes }
     ensures only { IsWritten result ⊎ ((result ≡ Status.WriteFault) ⊎ (result ≡ Status.NoMemory)) }
-    ensures text { IsWritten result → TookText bytes.now (K.taken out.old) (K.taken out.new) (K.flushed out.new) result }
-    ensures prefix { result ≡ Status.WriteFault → TookPrefix bytes.now (K.taken out.old) (K.taken out.new) }
-    ensures no_memory { result ≡ Status.NoMemory → (K.taken out.new ≡ K.taken out.old) ⊎ TookPrefix bytes.now (K.taken out.old) (K.taken out.new) }
+    ensures text { IsWritten result → TookText bytes.now options (K.taken out.old) (K.taken out.new) (K.flushed out.new) result }
+    ensures prefix { result ≡ Status.WriteFault → TookPrefix bytes.now options (K.taken out.old) (K.taken out.new) }
+    ensures no_memory { result ≡ Status.NoMemory → (K.taken out.new ≡ K.taken out.old) ⊎ TookPrefix bytes.now options (K.taken out.old) (K.taken out.new) }
     ensures fault { result ≡ Status.WriteFault → Rose (K.faults out.old) (K.faults out.new) }
 {
     let Ok((units, input)) = prepared(alloc, bytes) else {
         return Status::NoMemory;
     };
-    let written = write_text(alloc, &input, &units, out);
+    let written = write_text(alloc, &input, options, &units, out);
     ended(written)
 }
 
 // Reads the input, judges it and writes its records.
 fn run<S: Source, K: Sink>(alloc: Global, words: &[String], source: &mut S, out: &mut K) -> Status
-    ensures written { IsWritten result → HasWritten (S.left source.old) (S.left source.new) (K.taken out.old) (K.taken out.new) (K.flushed out.new) result }
-    ensures prefix { result ≡ Status.WriteFault → HasWrittenPrefix (S.left source.old) (S.left source.new) (K.taken out.old) (K.taken out.new) }
+    ensures written { IsWritten result → HasWritten (map string_bytes words.now) (S.left source.old) (S.left source.new) (K.taken out.old) (K.taken out.new) (K.flushed out.new) result }
+    ensures prefix { result ≡ Status.WriteFault → HasWrittenPrefix (map string_bytes words.now) (S.left source.old) (S.left source.new) (K.taken out.old) (K.taken out.new) }
     ensures nothing { IsUnread result → (K.taken out.new ≡ K.taken out.old) × (K.flushed out.new ≡ K.flushed out.old) }
-    ensures no_memory { result ≡ Status.NoMemory → (K.taken out.new ≡ K.taken out.old) ⊎ HasWrittenPrefix (S.left source.old) (S.left source.new) (K.taken out.old) (K.taken out.new) }
+    ensures no_memory { result ≡ Status.NoMemory → (K.taken out.new ≡ K.taken out.old) ⊎ HasWrittenPrefix (map string_bytes words.now) (S.left source.old) (S.left source.new) (K.taken out.old) (K.taken out.new) }
     ensures only { IsWritten result ⊎ (IsUnread result ⊎ ((result ≡ Status.WriteFault) ⊎ (result ≡ Status.NoMemory))) }
-    ensures bad_words { (result ≡ Status.BadWords) ↔ (0 < length words.now) }
-    ensures unread { 0 < length words.now → (S.left source.new ≡ S.left source.old) × (S.faults source.new ≡ S.faults source.old) }
+    ensures bad_words { (result ≡ Status.BadWords) ↔ (IsLegal (map string_bytes words.now) → ⊥) }
+    ensures unread { (IsLegal (map string_bytes words.now) → ⊥) → (S.left source.new ≡ S.left source.old) × (S.faults source.new ≡ S.faults source.old) }
     ensures read_fault { result ≡ Status.ReadFault → Rose (S.faults source.old) (S.faults source.new) }
     ensures write_fault { result ≡ Status.WriteFault → Rose (K.faults out.old) (K.faults out.new) }
     ensures too_large { (came : List ℕ) × Came (S.left source.old) (S.left source.new) came × ((result ≡ Status.TooLarge) ↔ (most_bytes < length came)) }
     ensures no_fault { (result ≡ Status.ReadFault) ⊎ (S.faults source.new ≡ S.faults source.old) }
 {
-    if !words.is_empty() {
-        return Status::BadWords;
-    }
+    let options = match options_of(words) {
+        Ok(options) => options,
+        Err(WordsFault::Bad) => return Status::BadWords,
+    };
     match read_all(alloc, source, MOST_BYTES) {
-        Ok(bytes) => answer(alloc, bytes.as_slice(), out),
+        Ok(bytes) => answer(alloc, bytes.as_slice(), options, out),
         Err(refusal) => refused(refusal),
     }
 }
@@ -309,12 +319,12 @@ fn tell<E: Sink>(fault: &mut E, status: Status)
 }
 
 /// Reads C from a source, writes the records of what is unstable in it to a sink, and flushes them; tells of a failure on
-/// a third sink. No word is legal yet. The answer says how it ended:
+/// a third sink. The words ask for options: `--json`, `--budget N` and `--without LIST` (stk_options). The answer says how it ended:
 ///
-/// - `Stable` and `Found`: the source was read to its end, and the sink took a text that is lawful for its bytes and was
-///   flushed; `Found` where at least one candidate is unstable. What is written of a unit is written as soon as the unit
-///   has been judged.
-/// - `BadWords`: exactly where there are words. The source is unread.
+/// - `Stable`, `Found` and `Unsure`: the source was read to its end, and the sink took a text that is lawful for its bytes and the
+///   options, and was flushed; `Found` where at least one candidate is unstable, `Unsure` where none is and at least one is undecided.
+///   What is written of a unit is written as soon as the unit has been judged.
+/// - `BadWords`: exactly where the words aren't legal. The source is unread.
 /// - `ReadFault`: only where the source counted a fault, and after every other answer it counted none.
 /// - `TooLarge`: exactly where more than 16,777,216 bytes came before the end and before any failed call.
 /// - `WriteFault`: only where the sink counted a fault. It took some prefix of a lawful text.
@@ -322,7 +332,7 @@ fn tell<E: Sink>(fault: &mut E, status: Status)
 ///   text.
 ///
 /// After `BadWords`, `ReadFault` and `TooLarge` the sink took nothing. Where the third sink counted no fault, it took
-/// exactly the line of the failure, and nothing after `Stable` and `Found`; a fault of it changes nothing else.
+/// exactly the line of the failure, and nothing where the records are written; a fault of it changes nothing else.
 pub fn lint_main<S: Source, K: Sink, E: Sink>(
     alloc: Global,
     words: &[String],
@@ -330,22 +340,22 @@ pub fn lint_main<S: Source, K: Sink, E: Sink>(
     out: &mut K,
     fault: &mut E,
 ) -> Status
-    ensures written { IsWritten result → HasWritten (S.left source.old) (S.left source.new) (K.taken out.old) (K.taken out.new) (K.flushed out.new) result }
-    ensures prefix { result ≡ Status.WriteFault → HasWrittenPrefix (S.left source.old) (S.left source.new) (K.taken out.old) (K.taken out.new) }
+    ensures written { IsWritten result → HasWritten (map string_bytes words.now) (S.left source.old) (S.left source.new) (K.taken out.old) (K.taken out.new) (K.flushed out.new) result }
+    ensures prefix { result ≡ Status.WriteFault → HasWrittenPrefix (map string_bytes words.now) (S.left source.old) (S.left source.new) (K.taken out.old) (K.taken out.new) }
     ensures nothing { IsUnread result → (K.taken out.new ≡ K.taken out.old) × (K.flushed out.new ≡ K.flushed out.old) }
-    ensures no_memory { result ≡ Status.NoMemory → (K.taken out.new ≡ K.taken out.old) ⊎ HasWrittenPrefix (S.left source.old) (S.left source.new) (K.taken out.old) (K.taken out.new) }
+    ensures no_memory { result ≡ Status.NoMemory → (K.taken out.new ≡ K.taken out.old) ⊎ HasWrittenPrefix (map string_bytes words.now) (S.left source.old) (S.left source.new) (K.taken out.old) (K.taken out.new) }
     ensures only { IsWritten result ⊎ (IsUnread result ⊎ ((result ≡ Status.WriteFault) ⊎ (result ≡ Status.NoMemory))) }
 
     // When each refusal comes.
-    ensures bad_words { (result ≡ Status.BadWords) ↔ (0 < length words.now) }
-    ensures unread { 0 < length words.now → (S.left source.new ≡ S.left source.old) × (S.faults source.new ≡ S.faults source.old) }
+    ensures bad_words { (result ≡ Status.BadWords) ↔ (IsLegal (map string_bytes words.now) → ⊥) }
+    ensures unread { (IsLegal (map string_bytes words.now) → ⊥) → (S.left source.new ≡ S.left source.old) × (S.faults source.new ≡ S.faults source.old) }
     ensures read_fault { result ≡ Status.ReadFault → Rose (S.faults source.old) (S.faults source.new) }
     ensures write_fault { result ≡ Status.WriteFault → Rose (K.faults out.old) (K.faults out.new) }
     ensures too_large { (came : List ℕ) × Came (S.left source.old) (S.left source.new) came × ((result ≡ Status.TooLarge) ↔ (16777216 < length came)) }
     ensures no_fault { (result ≡ Status.ReadFault) ⊎ (S.faults source.new ≡ S.faults source.old) }
 
-    // Without words, over a source that tells no more bytes than the limit, and where nothing fails.
-    ensures complete { (bytes : List ℕ) → length words.now ≡ 0 → S.left source.old ≡ Some bytes → length bytes ≤ 16777216
+    // With legal words, over a source that tells no more bytes than the limit, and where nothing fails.
+    ensures complete { (bytes : List ℕ) → IsLegal (map string_bytes words.now) → S.left source.old ≡ Some bytes → length bytes ≤ 16777216
         → ¬ Rose (S.faults source.old) (S.faults source.new) → ¬ Rose (K.faults out.old) (K.faults out.new)
         → IsWritten result ⊎ (result ≡ Status.NoMemory) }
 

@@ -1,0 +1,2 @@
+mod Tabling
+mod Finding

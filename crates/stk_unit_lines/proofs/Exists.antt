@@ -1,0 +1,48 @@
+-- Each unit has lines.
+use Rattle.std.proofs.Common.{◌≡◌, ℕ, ◌<◌, Bool, List, [], ◌∷◌, length, Option, Some, None, refl, arith}
+use Rattle.stk_lex.specs.declared.token.Token.{Token}
+use Rattle.stk_ctype.specs.declared.symbol.NameEntry.{NameEntry}
+use Rattle.stk_tree.specs.Syntax.{UnitTree}
+use Rattle.stk_tree.specs.Syntax as s
+use Rattle.stk_numbers.specs.declared.conditions.Kinds.{Kinds}
+use Rattle.stk_runs.specs.Keys.{keys_of, input_bits}
+use Rattle.stk_runs.specs.Weights.{weight}
+use Rattle.stk_runs.specs.Lists.{candidates}
+use Rattle.stk_accept.specs.Accepting.{Accepts}
+use Rattle.stk_accept.proofs.Exists.{settled, is_accepted, is_refused}
+use Rattle.stk_lines.specs.declared.counts.Counts.{Counts}
+use Rattle.stk_lines.specs.declared.line.Cause.{Cause}
+use Rattle.stk_lines.specs.declared.line.Line.{Line}
+use Rattle.stk_lines.specs.Counts.{nothing_counted}
+use Rattle.stk_finding_laws.proofs.Exists.{each_has_a_finding}
+use Rattle.stk_unit_lines.specs.Functions.{unit_typing}
+use Rattle.stk_unit_lines.specs.Causes.{cause_of, body_cause}
+use Rattle.stk_unit_lines.specs.UnitLines.{one_skipped, one_judged, skip_line, function_lines, IsUnitLines, accepted, refused, unjudged, judged}
+use Rattle.stk_unit_lines.proofs.Measures.{small, few_bits}
+
+pub record HasLines (bytes : List ℕ) (without : Kinds) (mark : Bool) (es : List NameEntry) (body : Option ℕ) (tokens : List Token) : Type 0 where
+  pub lines : List Line
+  pub counts : Counts
+  pub now : List NameEntry
+  pub is : IsUnitLines bytes without mark es body tokens lines counts now
+
+module _ (bytes : List ℕ) (without : Kinds) (mark : Bool) (es : List NameEntry) (body : Option ℕ) where
+  lines_of_tree : (t : Token) (ts : List Token) (u : UnitTree) (now : List NameEntry) → Accepts bytes mark es (t ∷ ts) u now → HasLines bytes without mark es body (t ∷ ts)
+  lines_of_tree t ts (s.empty_unit n) now h = record { lines = []; counts = nothing_counted; now = now; is = accepted (s.empty_unit n) h refl }
+  lines_of_tree t ts (s.declares n d) now h = record { lines = []; counts = nothing_counted; now = now; is = accepted (s.declares n d) h refl }
+  lines_of_tree t ts (s.defines n f) now h = on (body_cause bytes without now (s.defines n f)) refl where
+    on : (o : Option Cause) → body_cause bytes without now (s.defines n f) ≡ o → HasLines bytes without mark es body (t ∷ ts)
+    on (Some cause) e = record { lines = skip_line bytes t.span.from cause ∷ []; counts = one_skipped; now = now; is = unjudged n f cause h e }
+    on None e =
+        let ty = unit_typing bytes now (s.defines n f) in
+        let few = few_bits (weight ty without f) (input_bits (keys_of ty without f)) (small bytes without now (s.defines n f) e).measured in
+        let xs = each_has_a_finding ty without f few (candidates ty f) in
+        record { lines = function_lines bytes without now (s.defines n f) f xs.0; counts = one_judged xs.0; now = now; is = judged n f xs.0 h e xs.1 }
+
+  pub lines_of_unit : (tokens : List Token) → 0 < length tokens → HasLines bytes without mark es body tokens
+  lines_of_unit [] some = absurd (omega arith)
+  lines_of_unit (t ∷ ts) some =
+      elim (settled bytes mark es (t ∷ ts) body) [
+        | is_accepted u now h ↦ lines_of_tree t ts u now h
+        | is_refused cause now h ↦ record { lines = skip_line bytes t.span.from (cause_of bytes cause) ∷ []; counts = one_skipped; now = now; is = refused cause h }
+      ]

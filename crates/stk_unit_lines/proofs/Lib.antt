@@ -1,0 +1,4 @@
+mod Measures
+mod Made
+pub mod Exists
+pub mod Counted

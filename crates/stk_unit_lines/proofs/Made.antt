@@ -1,0 +1,92 @@
+-- The lines of a unit, from what is known of its parts.
+use Rattle.std.proofs.Common.{◌≡◌, ℕ, ◌<◌, ◌≤◌, ◌+◌, ◌^◌, Bool, true, false, List, [], ◌∷◌, ◌++◌, length, take, drop, get_or, map, Option, Some, None, Result, Ok, Err, IfOk, refl, sym, ap, subst, ◌∙◌, arith}
+use Rattle.stk_lex.specs.declared.token.Token.{Token}
+use Rattle.stk_lexeme.specs.Lexemes.{lexeme_of, spans_of}
+use Rattle.std.proofs.lemmas.List.{length-map}
+use Rattle.stk_ctype.specs.declared.symbol.NameEntry.{NameEntry}
+use Rattle.stk_tree.specs.declared.node.Node.{Node}
+use Rattle.stk_tree.specs.Syntax.{UnitTree, FunctionTree}
+use Rattle.stk_tree.specs.Syntax as s
+use Rattle.stk_tree.specs.Nodes.{unit_nodes}
+use Rattle.stk_tree.specs.Unlaid.{unlaid_unit}
+use Rattle.stk_tree.specs.View.{view_unit}
+use Rattle.stk_tree_layout.proofs.Few.{unit_tokens-few}
+use Rattle.stk_numbers.specs.declared.conditions.Kinds.{Kinds}
+use Rattle.stk_findings.specs.declared.finding.Finding.{Finding}
+use Rattle.stk_findings.specs.declared.finding.Finding.TheVariants.{Clear, Unstable, Undecided}
+use Rattle.stk_accept.specs.declared.accepting.Refusal.{Refusal}
+use Rattle.stk_accept.specs.declared.accepting.Accepted.{Accepted}
+use Rattle.stk_accept.specs.declared.accepting.Accepted.TheVariants as answers
+use Rattle.stk_accept.specs.Accepting.{IsTree, IsAnswered, Accepts, Refuses}
+use Rattle.stk_lines.specs.declared.counts.Counts.{Counts}
+use Rattle.stk_lines.specs.declared.line.Cause.{Cause}
+use Rattle.stk_lines.specs.declared.line.Line.{Line}
+use Rattle.stk_lines.specs.Counts.{nothing_counted}
+use Rattle.stk_unit_lines.specs.Functions.{is_definition, IsDefinition}
+use Rattle.stk_unit_lines.specs.Causes.{cause_of, body_cause}
+use Rattle.stk_unit_lines.specs.UnitLines.{unstable_count, undecided_count, one_skipped, skip_line, IsUnitLines, accepted, refused, unjudged, judged}
+use Rattle.stk_unit_lines.specs.Parts.{IsSkipLine, IsFunctionLines, IsReadWell, AreReadWell}
+
+-- what is known of a value is known of it otherwise
+pub weaker : {A E : Type 0} (r : Result A E) (P Q : A → Type 0) → ((x : A) → P x → Q x) → IfOk r P → IfOk r Q
+weaker (Ok x) P Q k h = k x h
+weaker (Err e) P Q k h = tt
+
+-- the line of a unit that is skipped
+pub skipped : (bytes : List ℕ) (tokens : List Token) (none : Token) (cause : Cause) (lines : List Line) (counts : Counts) → 0 < length tokens
+    → lines ≡ skip_line bytes (get_or tokens 0 none).span.from cause ∷ [] → counts ≡ one_skipped → IsSkipLine bytes tokens cause lines counts
+skipped bytes [] none cause lines counts some e f = absurd (omega arith)
+skipped bytes (t ∷ ts) none cause lines counts some e f = (e, f)
+
+module _ (bytes : List ℕ) (without : Kinds) (mark : Bool) (es now : List NameEntry) (body : Option ℕ) (tokens : List Token) (lines : List Line) (counts : Counts) where
+  -- an empty unit and a declaration have none
+  pub nothing_said : (u : UnitTree) → Accepts bytes mark es tokens u now → is_definition u ≡ false → lines ≡ [] → counts ≡ nothing_counted → IsUnitLines bytes without mark es body tokens lines counts now
+  nothing_said u h none e f = rw (e, f) (accepted u h none)
+
+  of_lines : (n : Node) (f : FunctionTree) (o : Option Cause) → Accepts bytes mark es tokens (s.defines n f) now → body_cause bytes without now (s.defines n f) ≡ o → IsFunctionLines bytes without now tokens (s.defines n f) f o lines counts
+      → IsUnitLines bytes without mark es body tokens lines counts now
+  of_lines n f None h because j = rw (j.same_lines, j.same_counts) (judged n f j.findings h because j.lawful)
+  of_lines n f (Some cause) h because line = on tokens h line where
+    on : (ts : List Token) → Accepts bytes mark es ts (s.defines n f) now → IsSkipLine bytes ts cause lines counts → IsUnitLines bytes without mark es body ts lines counts now
+    on [] h line = absurd line
+    on (t ∷ ts) h line = rw (line.0, line.1) (unjudged n f cause h because)
+
+  -- those of a function
+  pub of_function : (u : UnitTree) (f : FunctionTree) → IsDefinition u f → Accepts bytes mark es tokens u now → IsFunctionLines bytes without now tokens u f (body_cause bytes without now u) lines counts → IsUnitLines bytes without mark es body tokens lines counts now
+  of_function u f d h x =
+      of_lines d.0 f (body_cause bytes without now (s.defines d.0 f)) (subst (λ v. Accepts bytes mark es tokens v now) d.1 h) refl
+      (subst (λ v. IsFunctionLines bytes without now tokens v f (body_cause bytes without now v) lines counts) d.1 x)
+
+  -- that of a unit that isn't accepted
+  pub of_refusal : (cause : Refusal) → Refuses bytes mark es tokens body cause now → IsSkipLine bytes tokens (cause_of bytes cause) lines counts → IsUnitLines bytes without mark es body tokens lines counts now
+  of_refusal cause h line = on tokens h line where
+    on : (ts : List Token) → Refuses bytes mark es ts body cause now → IsSkipLine bytes ts (cause_of bytes cause) lines counts → IsUnitLines bytes without mark es body ts lines counts now
+    on [] h line = absurd line
+    on (t ∷ ts) h line = rw (line.0, line.1) (refused cause h)
+
+-- ---- the nodes of what is read
+
+few_nodes : (bytes : List ℕ) (es : List NameEntry) (tokens : List Token) (u : UnitTree) → length tokens ≤ 16777216 → IsTree bytes es tokens u → unit_nodes u < 2 ^ 32
+few_nodes bytes es tokens u few tree = omega (arith, few, unit_tokens-few u tree.is.placed, length-map tokens (lexeme_of bytes), ap length tree.is.tokens)
+
+pub read_well : (bytes : List ℕ) (mark : Bool) (es now : List NameEntry) (tokens : List Token) (body : Option ℕ) (found : Accepted) → length tokens ≤ 16777216 → IsAnswered bytes mark es tokens body found now → AreReadWell found
+read_well bytes mark es now tokens body (answers.Tree unit) few h = record {
+  few = few_nodes bytes es tokens (view_unit unit) few h.tree;
+  laid_out = (spans_of tokens, (unlaid_unit (view_unit unit), h.tree.laid_out));
+}
+read_well bytes mark es now tokens body (answers.Refused cause) few h = tt
+
+-- ---- counts
+
+-- one finding more
+pub unstable_more : (xs : List Finding) (x : Finding) → unstable_count (xs ++ x ∷ []) ≡ unstable_count xs + unstable_count (x ∷ [])
+unstable_more [] x = omega arith
+unstable_more (Clear ∷ ys) x = unstable_more ys x
+unstable_more (Unstable start needs ∷ ys) x = omega (arith, unstable_more ys x)
+unstable_more (Undecided phase ∷ ys) x = unstable_more ys x
+
+pub undecided_more : (xs : List Finding) (x : Finding) → undecided_count (xs ++ x ∷ []) ≡ undecided_count xs + undecided_count (x ∷ [])
+undecided_more [] x = omega arith
+undecided_more (Clear ∷ ys) x = undecided_more ys x
+undecided_more (Unstable start needs ∷ ys) x = undecided_more ys x
+undecided_more (Undecided phase ∷ ys) x = omega (arith, undecided_more ys x)

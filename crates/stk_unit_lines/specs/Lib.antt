@@ -1,0 +1,4 @@
+pub mod Functions
+pub mod Causes
+pub mod UnitLines
+pub mod Parts

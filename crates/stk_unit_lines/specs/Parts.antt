@@ -1,0 +1,54 @@
+-- What the parts of a unit's lines are.
+use Rattle.std.specs.Prelude.{◌≡◌, ℕ, ◌<◌, ◌^◌, List, [], ◌∷◌, Option, Some, None}
+use Rattle.stk_lex.specs.declared.token.Token.{Token}
+use Rattle.stk_ctype.specs.declared.symbol.NameEntry.{NameEntry}
+use Rattle.stk_tree.specs.Syntax.{UnitTree, FunctionTree}
+use Rattle.stk_tree.specs.Nodes.{unit_nodes}
+use Rattle.stk_tree.specs.View.{view_unit}
+use Rattle.stk_numbers.specs.declared.conditions.Kinds.{Kinds}
+use Rattle.stk_findings.specs.declared.finding.Finding.{Finding}
+use Rattle.stk_accept.specs.declared.accepting.Accepted.{Accepted}
+use Rattle.stk_accept.specs.declared.accepting.Accepted.TheVariants as accepted
+use Rattle.stk_accept.specs.Accepting.{beginning}
+use Rattle.stk_tree_nodes.specs.Rows.{unit_row}
+use Rattle.stk_typed.specs.declared.untyped.Untyped.{Untyped}
+use Rattle.stk_typed.specs.declared.untyped.Untyped.TheVariants as untyped
+use Rattle.stk_finding_lines.specs.Lines.{spot_at}
+use Rattle.stk_lines.specs.declared.counts.Counts.{Counts}
+use Rattle.stk_lines.specs.declared.line.Cause.{Cause}
+use Rattle.stk_lines.specs.declared.line.Cause.TheVariants.{Rule, Nodes}
+use Rattle.stk_lines.specs.declared.line.Line.{Line}
+use Rattle.stk_unit_lines.specs.Functions.{IsLaidOut}
+use Rattle.stk_unit_lines.specs.UnitLines.{one_skipped, one_judged, skip_line, function_lines, AreFindingsOf}
+
+-- the lines and the counts of a unit that is skipped: its first token begins where the line says
+abbrev pub IsSkipLine : List ℕ → List Token → Cause → List Line → Counts → Type 0
+IsSkipLine bytes [] cause lines counts = ⊥
+IsSkipLine bytes (first ∷ others) cause lines counts = (lines ≡ skip_line bytes first.span.from cause ∷ []) × (counts ≡ one_skipped)
+
+-- the lines and the counts of a function: those of lawful findings
+pub record IsJudged (bytes : List ℕ) (without : Kinds) (now : List NameEntry) (u : UnitTree) (f : FunctionTree) (lines : List Line) (counts : Counts) : Type 0 where
+  pub findings : List Finding
+  pub lawful : AreFindingsOf bytes without now u f findings
+  pub same_lines : lines ≡ function_lines bytes without now u f findings
+  pub same_counts : counts ≡ one_judged findings
+
+-- the lines and the counts of a function: a line with the cause, where it has one, and else those of lawful findings
+abbrev pub IsFunctionLines : List ℕ → Kinds → List NameEntry → List Token → UnitTree → FunctionTree → Option Cause → List Line → Counts → Type 0
+IsFunctionLines bytes without now tokens u f (Some cause) lines counts = IsSkipLine bytes tokens cause lines counts
+IsFunctionLines bytes without now tokens u f None lines counts = IsJudged bytes without now u f lines counts
+
+-- those of a function whose body isn't typed; none for want of memory
+abbrev pub IsUntypedLine : List ℕ → List Token → UnitTree → Untyped → List Line → Counts → Type 0
+IsUntypedLine bytes tokens u (untyped.Rule node rule) lines counts = IsSkipLine bytes tokens (Rule rule (spot_at bytes (beginning (unit_row u) node))) lines counts
+IsUntypedLine bytes tokens u (untyped.Nodes count) lines counts = IsSkipLine bytes tokens (Nodes count) lines counts
+IsUntypedLine bytes tokens u untyped.NoMemory lines counts = ⊥
+
+-- the nodes of a unit have numbers of 32 bits and are laid out
+pub record IsReadWell (u : UnitTree) : Type 0 where
+  pub few : unit_nodes u < 2 ^ 32
+  pub laid_out : IsLaidOut u
+
+abbrev pub AreReadWell : Accepted → Type 0
+AreReadWell (accepted.Tree unit) = IsReadWell (view_unit unit)
+AreReadWell (accepted.Refused cause) = Unit {0}

@@ -1,0 +1,74 @@
+-- The lines that are lawful for a unit, what it counts for, and the names that it leaves in force.
+use Rattle.std.specs.Prelude.{◌≡◌, ℕ, ◌+◌, Bool, false, List, [], ◌∷◌, length, Option, Some, None}
+use Rattle.stk_lex.specs.declared.token.Token.{Token}
+use Rattle.stk_ctype.specs.declared.symbol.NameEntry.{NameEntry}
+use Rattle.stk_tree.specs.declared.node.Node.{Node}
+use Rattle.stk_tree.specs.Syntax.{UnitTree, FunctionTree, defines}
+use Rattle.stk_numbers.specs.declared.conditions.Kinds.{Kinds}
+use Rattle.stk_runs.specs.Lists.{candidates}
+use Rattle.stk_findings.specs.declared.finding.Finding.{Finding}
+use Rattle.stk_findings.specs.declared.finding.Finding.TheVariants.{Clear, Unstable, Undecided}
+use Rattle.stk_findings.specs.Findings.{AreLawful}
+use Rattle.stk_path_findings.specs.PathSubjects.{path_subject}
+use Rattle.stk_accept.specs.declared.accepting.Refusal.{Refusal}
+use Rattle.stk_accept.specs.Accepting.{Accepts, Refuses}
+use Rattle.stk_lines.specs.declared.counts.Counts.{Counts}
+use Rattle.stk_lines.specs.declared.line.Cause.{Cause}
+use Rattle.stk_lines.specs.declared.line.Line.{Line}
+use Rattle.stk_lines.specs.declared.line.Line.TheVariants.{Skipped}
+use Rattle.stk_lines.specs.Counts.{nothing_counted}
+use Rattle.stk_finding_lines.specs.Lines.{spot_at, findings_lines}
+use Rattle.stk_unit_lines.specs.Functions.{unit_typing, unit_placed, function_keys, is_definition}
+use Rattle.stk_unit_lines.specs.Causes.{cause_of, body_cause}
+
+-- how many of some findings are reports, and how many of some fragments undecided
+abbrev pub unstable_count : List Finding → ℕ
+unstable_count [] = 0
+unstable_count (Clear ∷ xs) = unstable_count xs
+unstable_count (Unstable start needs ∷ xs) = unstable_count xs + 1
+unstable_count (Undecided phase ∷ xs) = unstable_count xs
+
+abbrev pub undecided_count : List Finding → ℕ
+undecided_count [] = 0
+undecided_count (Clear ∷ xs) = undecided_count xs
+undecided_count (Unstable start needs ∷ xs) = undecided_count xs
+undecided_count (Undecided phase ∷ xs) = undecided_count xs + 1
+
+-- the counts of a unit that is skipped
+abbrev pub one_skipped : Counts
+one_skipped = record { functions = 0; candidates = 0; unstable = 0; undecided = 0; skipped = 1 }
+
+-- the counts of a function with these findings
+abbrev pub one_judged : List Finding → Counts
+one_judged findings = record { functions = 1; candidates = length findings; unstable = unstable_count findings; undecided = undecided_count findings; skipped = 0 }
+
+-- the line of a unit that is skipped, which begins here
+abbrev pub skip_line : List ℕ → ℕ → Cause → Line
+skip_line bytes at cause = Skipped (spot_at bytes at) cause
+
+-- the lines of a function's findings, one for each of its candidates in order
+abbrev pub function_lines : List ℕ → Kinds → List NameEntry → UnitTree → FunctionTree → List Finding → List Line
+function_lines bytes without now u f findings =
+    let ty = unit_typing bytes now u in
+    let q = unit_placed bytes u in
+    findings_lines q ty f (function_keys q ty without f) (candidates ty f) findings
+
+-- a function has these lawful findings, one for each of its candidates in order, with these kinds of conditions taken out
+abbrev pub AreFindingsOf : List ℕ → Kinds → List NameEntry → UnitTree → FunctionTree → List Finding → Type 0
+AreFindingsOf bytes without now u f findings =
+    let ty = unit_typing bytes now u in
+    AreLawful (path_subject ty without f) (candidates ty f) findings
+
+-- The lines of a unit of these tokens, what it counts for, and the names that it leaves in force, where these are in force before it:
+-- an empty unit and a declaration that are accepted have none;
+-- a unit that isn't accepted has a line with the cause at its first token;
+-- so has a function that is accepted and has too many nodes, a body that a rule refuses, too much weight or too many input bits;
+-- and every other function has the lines of lawful findings, one for each candidate in order.
+pub data IsUnitLines (bytes : List ℕ) (without : Kinds) (mark : Bool) (es : List NameEntry) (body : Option ℕ) : List Token → List Line → Counts → List NameEntry → Type 0 where
+  accepted : {tokens : List Token} {now : List NameEntry} (u : UnitTree) → Accepts bytes mark es tokens u now → is_definition u ≡ false → IsUnitLines bytes without mark es body tokens [] nothing_counted now
+  refused : {first : Token} {others : List Token} {now : List NameEntry} (cause : Refusal) → Refuses bytes mark es (first ∷ others) body cause now
+      → IsUnitLines bytes without mark es body (first ∷ others) (skip_line bytes first.span.from (cause_of bytes cause) ∷ []) one_skipped now
+  unjudged : {first : Token} {others : List Token} {now : List NameEntry} (node : Node) (f : FunctionTree) (cause : Cause) → Accepts bytes mark es (first ∷ others) (defines node f) now → body_cause bytes without now (defines node f) ≡ Some cause
+      → IsUnitLines bytes without mark es body (first ∷ others) (skip_line bytes first.span.from cause ∷ []) one_skipped now
+  judged : {tokens : List Token} {now : List NameEntry} (node : Node) (f : FunctionTree) (findings : List Finding) → Accepts bytes mark es tokens (defines node f) now → body_cause bytes without now (defines node f) ≡ None
+      → AreFindingsOf bytes without now (defines node f) f findings → IsUnitLines bytes without mark es body tokens (function_lines bytes without now (defines node f) f findings) (one_judged findings) now

@@ -1,0 +1,84 @@
+//! Why units are skipped.
+
+ghost use Rattle.std.specs.Prelude.{◌≡◌, ◌≤◌, IfOk};
+ghost use Rattle.stk_tree.specs.Syntax.{FunctionTree};
+ghost use Rattle.stk_tree.specs.Nodes.{unit_nodes};
+ghost use Rattle.stk_tree.specs.View.{view_unit};
+ghost use Rattle.stk_tree_nodes.specs.Rows.{unit_row};
+ghost use Rattle.stk_runs.specs.Keys.{keys_of, input_bits};
+ghost use Rattle.stk_runs.specs.Weights.{weight};
+ghost use Rattle.stk_accept.specs.Accepting.{beginning};
+ghost use Rattle.stk_function_types.specs.Nodes.{typing_in};
+ghost use Rattle.stk_lines.specs.declared.line.Cause.TheVariants as causes;
+ghost use Rattle.stk_finding_lines.specs.Lines.{spot_at};
+ghost use Rattle.stk_weights.specs.Units.{IsWhole};
+ghost use Rattle.stk_unit_lines.specs.Functions.{IsDefinition};
+ghost use Rattle.stk_unit_lines.specs.Causes.{cause_of, sized_cause};
+
+use std::alloc::Global;
+use stk_accept::{Refusal, place_of};
+use stk_base::NoMemory;
+use stk_finding_lines::spot_at;
+use stk_key_index::input_bits;
+use stk_lex::Places;
+use stk_lines::Cause;
+use stk_settings::Setting;
+use stk_tree::Unit;
+use stk_weights::weight_of;
+
+// The greatest weight of a function that is judged, and its most input bits.
+const MOST_WEIGHT: u64 = 8_000_000;
+
+const MOST_BITS: u128 = 16;
+
+// Why a unit is skipped that isn't accepted.
+pub(crate) fn cause_of(alloc: Global, input: &Places, refusal: Refusal) -> Result<Cause, NoMemory>
+    ensures { IfOk result (λ cause. cause ≡ cause_of input.now refusal) }
+{
+    match refusal {
+        Refusal::NoTree => Ok(Cause::NoTree),
+        Refusal::Rule { at, rule } => {
+            let at = spot_at(alloc, input, at)?;
+            Ok(Cause::Rule { rule, at })
+        }
+    }
+}
+
+// A rule refuses this node of a unit.
+pub(crate) fn rule_cause(
+    alloc: Global,
+    input: &Places,
+    unit: &Unit,
+    node: u32,
+    rule: u8,
+) -> Result<Cause, NoMemory>
+    ensures { IfOk result (λ cause. cause ≡ causes.Rule rule (spot_at input.now (beginning (unit_row (view_unit unit.now)) node))) }
+{
+    let first = place_of(alloc, unit, node)?;
+    let at = spot_at(alloc, input, first)?;
+    Ok(Cause::Rule { rule, at })
+}
+
+// A function of this weight and so many input bits is too heavy, or has too many.
+fn sized_cause(weight: u64, bits: u128) -> Option<Cause>
+    ensures { result ≡ sized_cause weight bits }
+{
+    if weight > MOST_WEIGHT {
+        return Some(Cause::Weight { sum: weight });
+    }
+    if bits > MOST_BITS {
+        let count = bits.min(u128::from(u64::MAX)) as u64;
+        return Some(Cause::Bits { count });
+    }
+    None
+}
+
+// Why a function isn't judged whose body is typed, by its setting.
+pub(crate) fn measured_cause(alloc: Global, setting: &Setting) -> Result<Option<Cause>, NoMemory>
+    requires whole { IsWhole setting.now }
+    requires few { unit_nodes (view_unit setting.now.types.unit) ≤ 20000 }
+    ensures { (f : FunctionTree) → IsDefinition (view_unit setting.now.types.unit) f → IfOk result (λ cause. cause ≡ sized_cause (weight (typing_in setting.now.types) setting.now.without f) (input_bits (keys_of (typing_in setting.now.types) setting.now.without f))) }
+{
+    let weight = weight_of(alloc, setting)?;
+    Ok(sized_cause(weight, input_bits(setting.keys())))
+}
