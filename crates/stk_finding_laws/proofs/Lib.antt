@@ -1,0 +1,5 @@
+pub mod Searching
+pub mod Deciding
+pub mod Numbered
+pub mod Paths
+pub mod Sites
