@@ -9,7 +9,7 @@ use Rattle.stk_runs.specs.Lists.{candidates}
 use Rattle.stk_findings.specs.declared.finding.Finding.{Finding}
 use Rattle.stk_findings.specs.declared.finding.Finding.TheVariants.{Clear, Unstable, Undecided}
 use Rattle.stk_findings.specs.Findings.{Subject, AreLawful}
-use Rattle.stk_finding_laws.proofs.Few.{few_candidates}
+use Rattle.stk_finding_laws.proofs.Sites.{few_candidates}
 use Rattle.stk_lines.specs.declared.counts.Counts.{Counts}
 use Rattle.stk_unit_lines.specs.Functions.{unit_typing}
 use Rattle.stk_unit_lines.specs.UnitLines.{unstable_count, undecided_count, IsUnitLines, accepted, refused, unjudged, judged}

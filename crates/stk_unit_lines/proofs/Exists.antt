@@ -14,7 +14,7 @@ use Rattle.stk_lines.specs.declared.counts.Counts.{Counts}
 use Rattle.stk_lines.specs.declared.line.Cause.{Cause}
 use Rattle.stk_lines.specs.declared.line.Line.{Line}
 use Rattle.stk_lines.specs.Counts.{nothing_counted}
-use Rattle.stk_finding_laws.proofs.Exists.{each_has_a_finding}
+use Rattle.stk_finding_laws.proofs.Paths.{path_findings}
 use Rattle.stk_unit_lines.specs.Functions.{unit_typing}
 use Rattle.stk_unit_lines.specs.Causes.{cause_of, body_cause}
 use Rattle.stk_unit_lines.specs.UnitLines.{one_skipped, one_judged, skip_line, function_lines, IsUnitLines, accepted, refused, unjudged, judged}
@@ -36,7 +36,7 @@ module _ (bytes : List ℕ) (without : Kinds) (mark : Bool) (es : List NameEntry
     on None e =
         let ty = unit_typing bytes now (s.defines n f) in
         let few = few_bits (weight ty without f) (input_bits (keys_of ty without f)) (small bytes without now (s.defines n f) e).measured in
-        let xs = each_has_a_finding ty without f few (candidates ty f) in
+        let xs = path_findings ty without f few (candidates ty f) in
         record { lines = function_lines bytes without now (s.defines n f) f xs.0; counts = one_judged xs.0; now = now; is = judged n f xs.0 h e xs.1 }
 
   pub lines_of_unit : (tokens : List Token) → 0 < length tokens → HasLines bytes without mark es body tokens
