@@ -1,3 +1,6 @@
 pub mod Exists
+pub mod Accepted
 pub mod Unique
-pub mod Among
+pub mod Words
+pub mod LaidNodes
+pub mod Found
