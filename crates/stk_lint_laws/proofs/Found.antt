@@ -1,13 +1,13 @@
 -- Candidates and conditions stand at evaluated nodes, of which none is above the node of the body, and that is a node of the unit.
-use Rattle.std.proofs.Common.{◌≡◌, ℕ, ◌+◌, ◌<◌, ◌≤◌, ◌⊎◌, Bool, true, false, List, [], ◌∷◌, ◌++◌, length, Option, Some, None, refl, ap, subst, inl, inr, arith}
+use Rattle.std.proofs.Common.{◌≡◌, ℕ, ◌<◌, ◌≤◌, ◌⊎◌, Bool, true, false, List, [], ◌∷◌, ◌++◌, Option, Some, None, refl, sym, ap, subst, ◌∙◌, inl, inr, arith}
+use Rattle.std.specs.Prelude.{slice_get}
 use Rattle.stk_base.specs.declared.span.Span.{Span}
 use Rattle.stk_tree.specs.declared.node.Node.{Node}
 use Rattle.stk_tree.specs.Syntax.{ExprTree, ExprFormTree, FunctionTree}
 use Rattle.stk_tree.specs.Syntax as s
-use Rattle.stk_tree.specs.Nodes.{base_nodes, declarator_nodes, statement_form_nodes, function_nodes}
+use Rattle.stk_tree.specs.Nodes.{unit_nodes}
 use Rattle.stk_tree.specs.Layout.{node_at, laid_function}
 use Rattle.stk_tree_nodes.specs.Rows.{unit_row}
-use Rattle.stk_tree_nodes.proofs.Lengths.{unit_row-length}
 use Rattle.stk_numbers.specs.declared.conditions.Candidate.{Candidate}
 use Rattle.stk_numbers.specs.declared.conditions.Condition.{Condition}
 use Rattle.stk_numbers.specs.declared.conditions.Kinds.{Kinds}
@@ -21,8 +21,8 @@ use Rattle.stk_runs.specs.Lists.{site_conditions, arm_candidates, seen_candidate
 use Rattle.stk_run_laws.specs.Sites.{site_node, IsIn, Ascends, nodes_of, IsNumbered}
 use Rattle.stk_run_laws.proofs.Nodes.{in_left, in_right, in_either, ascends_right, ascends_apart}
 use Rattle.stk_numbering.proofs.Numbered.{what_is_laid_out_is_numbered}
-use Rattle.stk_lint_laws.specs.Found.{NodesAreFound}
-use Rattle.stk_lint_laws.proofs.LaidNodes.{function_nodes-laid}
+use Rattle.stk_lint_laws.specs.Found.{HasNode, NodesAreFound}
+use Rattle.stk_lint_laws.proofs.RowNumbers.{node_of_number}
 
 -- ---- the node of each
 
@@ -114,22 +114,24 @@ at_most ty (s.function word b d (s.statement k form)) h j i = on (in_either j (n
   on (inr there) = last_most (nodes_of (statement_form_visits ty form)) k.number j (ascends_right (nodes_of (head_visits ty d)) (nodes_of (statement_form_visits ty form) ++ k.number ∷ []) h) there
 
 -- the body of a function that is laid out is among its nodes
-body_below : (spans : List Span) (g : FunctionTree) → body_number (laid_function (node_at spans) 0 0 g) < function_nodes (laid_function (node_at spans) 0 0 g)
-body_below spans (s.function word b d (s.statement k form)) =
-    let number : 0 + base_nodes b + declarator_nodes d + statement_form_nodes form < base_nodes b + declarator_nodes d + (statement_form_nodes form + 1) = omega arith in
-    rw (function_nodes-laid (node_at spans) (s.function word b d (s.statement k form)) 0 0) number
-
-in_unit : (n : Node) (f : FunctionTree) (j : ℕ) → body_number f < function_nodes f → j ≤ body_number f → j < length (unit_row (s.defines n f))
-in_unit n f j h k = omega (arith, unit_row-length (s.defines n f))
+body_below : (spans : List Span) (k : Node) (g : FunctionTree) → body_number (laid_function (node_at spans) 0 0 g) < unit_nodes (s.defines k g)
+body_below spans k (s.function word b d (s.statement j form)) = omega arith
 
 pub all_found : NodesAreFound
 all_found ty without spans (s.empty_unit k) n f h = absurd cc
 all_found ty without spans (s.declares k d) n f h = absurd cc
-all_found ty without spans (s.defines k g) n f h =
-    let same : laid_function (node_at spans) 0 0 g ≡ f = cc in
-    let numbered : IsNumbered ty f = (what_is_laid_out_is_numbered ty spans (s.defines k g) n f h).body in
-    let body : body_number f < function_nodes f = subst (λ z. body_number z < function_nodes z) same (body_below spans g) in
-    record {
-      of_candidate = λ c i. in_unit n f c.node body (at_most ty f numbered c.node (stands_there (λ (x : Candidate). x.node) (site_candidates ty) (site_candidates_there ty) (function_visits ty f) c i));
-      of_condition = λ c i. in_unit n f c.node body (at_most ty f numbered c.node (stands_there (λ (x : Condition). x.node) (site_conditions ty without) (site_conditions_there ty without) (function_visits ty f) c i));
-    }
+all_found ty without spans (s.defines k g) n f h = record {
+  of_candidate = λ c i. found c.node (stands_there (λ (x : Candidate). x.node) (site_candidates ty) (site_candidates_there ty) (function_visits ty f) c i);
+  of_condition = λ c i. found c.node (stands_there (λ (x : Condition). x.node) (site_conditions ty without) (site_conditions_there ty without) (function_visits ty f) c i);
+}
+  where
+    numbered : IsNumbered ty f
+    numbered = (what_is_laid_out_is_numbered ty spans (s.defines k g) n f h).body
+
+    body : body_number f < unit_nodes (s.defines k g)
+    body = let same : laid_function (node_at spans) 0 0 g ≡ f = cc in subst (λ z. body_number z < unit_nodes (s.defines k g)) same (body_below spans k g)
+
+    found : (j : ℕ) → IsIn j (nodes_of (function_visits ty f)) → HasNode (s.defines n f) j
+    found j i =
+        let it = node_of_number spans (s.defines k g) j (omega (arith, body, at_most ty f numbered j i)) in
+        record { node = it.node; there = ap (λ u. slice_get (unit_row u) j) (sym h) ∙ it.there; number = it.same }

@@ -2,5 +2,5 @@ pub mod Exists
 pub mod Accepted
 pub mod Unique
 pub mod Words
-pub mod LaidNodes
+pub mod RowNumbers
 pub mod Found

@@ -1,5 +1,5 @@
 -- The nodes of conditions and candidates are nodes of their unit.
-use Rattle.std.specs.Prelude.{◌≡◌, ◌<◌, List, length}
+use Rattle.std.specs.Prelude.{◌≡◌, ℕ, List, Some, slice_get}
 use Rattle.stk_base.specs.declared.span.Span.{Span}
 use Rattle.stk_tree.specs.declared.node.Node.{Node}
 use Rattle.stk_tree.specs.Syntax.{FunctionTree, UnitTree, defines}
@@ -12,10 +12,16 @@ use Rattle.stk_runs.specs.Typings.{Typing}
 use Rattle.stk_runs.specs.Lists.{candidates, conditions}
 use Rattle.stk_run_laws.specs.Sites.{IsIn}
 
--- the number of the node of each candidate and of each condition of a function is that of a node of this unit
+-- a unit has a node of this number, and it stands among the nodes of the unit where its number says
+pub record HasNode (u : UnitTree) (k : ℕ) : Type 0 where
+  pub node : Node
+  pub there : slice_get (unit_row u) k ≡ Some node
+  pub number : node.number ≡ k
+
+-- the candidates and the conditions of a function stand at nodes of this unit
 pub record AreFound (ty : Typing) (without : Kinds) (u : UnitTree) (f : FunctionTree) : Type 0 where
-  pub of_candidate : (c : Candidate) → IsIn c (candidates ty f) → c.node < length (unit_row u)
-  pub of_condition : (c : Condition) → IsIn c (conditions ty without f) → c.node < length (unit_row u)
+  pub of_candidate : (c : Candidate) → IsIn c (candidates ty f) → HasNode u c.node
+  pub of_condition : (c : Condition) → IsIn c (conditions ty without f) → HasNode u c.node
 
 -- where the definition of a function is laid out, its candidates and its conditions stand at nodes of it, whatever typing answers
 abbrev pub NodesAreFound : Type 0
