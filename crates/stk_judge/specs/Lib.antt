@@ -1,4 +1,0 @@
-pub mod Maps
-pub mod Judging
-pub mod SetLaws
-pub mod Lawful

@@ -1,4 +1,0 @@
-pub mod Apart
-pub mod Once
-pub mod Ranges
-pub mod Exact

@@ -1,3 +1,0 @@
-pub mod NameSets
-pub mod NameSpans
-pub mod FormTests

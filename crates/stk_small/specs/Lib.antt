@@ -1,4 +1,0 @@
-pub mod ReservedWords
-pub mod SmallForm
-pub mod SmallTests
-pub mod Names
