@@ -1,6 +1,6 @@
 pub mod Exists
 pub mod Accepted
 pub mod Unique
-pub mod Words
+pub mod Items
 pub mod RowNumbers
-pub mod Found
+pub mod Nodes

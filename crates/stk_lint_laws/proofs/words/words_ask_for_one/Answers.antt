@@ -1,4 +1,4 @@
-use Rattle.stk_lint_laws.proofs.Words.{one_options}
+use Rattle.stk_lint_laws.proofs.Items.{one_options}
 use Rattle.stk_lint_laws.proofs.words.words_ask_for_one.Goals as goal
 
 pub returns : goal.returns
