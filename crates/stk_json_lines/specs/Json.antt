@@ -162,7 +162,7 @@ skipped_data p NoTree = object (skipped_members p (codes "no tree"))
 skipped_data p (Rule rule at) = ruled_data p rule at
 skipped_data p (Nodes count) = counted_data p (codes "nodes") count
 skipped_data p (Weight sum) = counted_data p (codes "weight") sum
-skipped_data p (Bits count) = counted_data p (codes "input bits") count
+skipped_data p (Bits count) = object (skipped_members p (codes "bits"))
 
 -- the kinds in the order of their numbers
 abbrev pub all_kinds : List UbKind

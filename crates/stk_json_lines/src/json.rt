@@ -90,11 +90,11 @@ fn skipped_map(alloc: Global, at: &Spot, cause: &str) -> Result<Map<String, Valu
     Ok(map)
 }
 
-// A unit that is skipped for no tree.
-fn unread_value(alloc: Global, at: &Spot) -> Result<Value, NoMemory>
-    ensures { IfOk result (λ v. view v ≡ object (skipped_members at.now (codes "no tree"))) }
+// A unit that is skipped for a cause alone.
+fn plain_value(alloc: Global, at: &Spot, cause: &str) -> Result<Value, NoMemory>
+    ensures { IfOk result (λ v. view v ≡ object (skipped_members at.now cause.now)) }
 {
-    let map = skipped_map(alloc, at, "no tree")?;
+    let map = skipped_map(alloc, at, cause)?;
     Ok(Value::Object(map))
 }
 
@@ -123,11 +123,11 @@ fn skipped_value(alloc: Global, at: &Spot, cause: &Cause) -> Result<Value, NoMem
     ensures { IfOk result (λ v. view v ≡ skipped_data at.now cause.now) }
 {
     match cause {
-        Cause::NoTree => unread_value(alloc, at),
+        Cause::NoTree => plain_value(alloc, at, "no tree"),
         Cause::Rule { rule, at: node } => ruled_value(alloc, at, *rule, node),
         Cause::Nodes { count } => counted_value(alloc, at, "nodes", u64::from(*count)),
         Cause::Weight { sum } => counted_value(alloc, at, "weight", *sum),
-        Cause::Bits { count } => counted_value(alloc, at, "input bits", *count),
+        Cause::Bits { .. } => plain_value(alloc, at, "bits"),
     }
 }
 

@@ -124,7 +124,7 @@ fn each_limit_is_said(rt: HostRuntime) -> Result<(), Fail> {
         &rt,
         &skipped(Cause::Bits { count: 32 }),
         "-:7:1: skipped: 32 input bits\n",
-        "{\"cause\":\"input bits\",\"column\":1,\"count\":32,\"file\":\"-\",\"line\":7,\"type\":\"skipped\"}\n",
+        "{\"cause\":\"bits\",\"column\":1,\"file\":\"-\",\"line\":7,\"type\":\"skipped\"}\n",
     )
 }
 

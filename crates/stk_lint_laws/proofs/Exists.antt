@@ -5,20 +5,21 @@ use Rattle.stk_units.specs.Skimming.{kept_tokens, notes_of}
 use Rattle.stk_units.specs.Units.{units_of}
 use Rattle.stk_units.proofs.Cuts.{cut_joined}
 use Rattle.stk_text_laws.proofs.Cutting.{cut_of}
-use Rattle.stk_records.specs.Records.{summary_text}
+use Rattle.stk_options.specs.declared.options.Options.{Options}
+use Rattle.stk_lint.specs.Form.{written_summary}
 use Rattle.stk_lint.specs.LawfulText.{IsLawfulText, status_of}
 use Rattle.stk_lint.proofs.Units.{texts_of_units}
 
-pub records_of : (bytes : List ℕ) → (text : List ℕ) × ((status : Status) × IsLawfulText bytes text status)
-records_of bytes =
+pub records_of : (bytes : List ℕ) (o : Options) → (text : List ℕ) × ((status : Status) × IsLawfulText bytes o text status)
+records_of bytes o =
     let cut = cut_of bytes in
     let kept = kept_tokens bytes cut.0 in
     let notes = notes_of bytes cut.0 in
     let joined = cut_joined bytes kept notes (units_of bytes kept notes) (record { all = λ order. refl; bounds = refl }) in
-    let units = texts_of_units bytes kept [] 0 (units_of bytes kept notes) joined in (
-      units.lines ++ summary_text units.counts,
+    let units = texts_of_units bytes o kept [] 0 (units_of bytes kept notes) joined in (
+      units.lines ++ written_summary o.json o.without units.counts,
       (
-        status_of units.counts.unstable,
+        status_of units.counts.unstable units.counts.undecided,
         record {
           tokens = cut.0;
           cut = cut.1;

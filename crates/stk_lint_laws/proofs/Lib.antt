@@ -1,3 +1,6 @@
 pub mod Exists
+pub mod Accepted
 pub mod Unique
-pub mod Among
+pub mod Items
+pub mod RowNumbers
+pub mod Nodes

@@ -1,12 +1,13 @@
--- Laws of the text of records: each text has one, and one alone.
+-- Laws of lawful texts: for each text and options there is one, and one alone.
 use Rattle.std.specs.Prelude.{◌≡◌, ℕ, List}
 use Rattle.stk_base.specs.declared.status.Status.{Status}
+use Rattle.stk_options.specs.declared.options.Options.{Options}
 use Rattle.stk_lint.specs.LawfulText.{IsLawfulText}
 
--- each text has a lawful text of records, with a status
+-- for each text and options there are lawful records, with a status
 abbrev pub EachTextHasLawfulRecords : Type 0
-EachTextHasLawfulRecords = (bytes : List ℕ) → (text : List ℕ) × ((status : Status) × IsLawfulText bytes text status)
+EachTextHasLawfulRecords = (bytes : List ℕ) (o : Options) → (text : List ℕ) × ((status : Status) × IsLawfulText bytes o text status)
 
--- two lawful texts of records of one text are the same, and so are their statuses
+-- two lawful texts of records of one text, under the same options, are the same, and so are their statuses
 abbrev pub OneLawfulText : Type 0
-OneLawfulText = (bytes text other : List ℕ) (status also : Status) → IsLawfulText bytes text status → IsLawfulText bytes other also → (text ≡ other) × (status ≡ also)
+OneLawfulText = (bytes : List ℕ) (o : Options) (text other : List ℕ) (status also : Status) → IsLawfulText bytes o text status → IsLawfulText bytes o other also → (text ≡ other) × (status ≡ also)

@@ -4,6 +4,8 @@
 
 mod found;
 mod texts;
+mod words;
 
 pub use found::nodes_are_found;
 pub use texts::{each_text_has_lawful_records, one_lawful_text};
+pub use words::words_ask_for_one;
