@@ -11,6 +11,8 @@ fn main(rt: HostRuntime) -> ExitCode {
 }
 
 #[cfg(test)]
+mod files;
+#[cfg(test)]
 mod rows;
 #[cfg(test)]
 mod tests;
