@@ -1,5 +1,5 @@
 -- A table that takes up one path run after the other.
-use Rattle.std.proofs.Common.{◌≡◌, ℕ, suc, ◌+◌, ◌<◌, ◌≤◌, List, [], ◌∷◌, ◌++◌, length, slice_get, Option, Some, None, Result, Ok, Err, OnOk, ℤ, refl, sym, ap, subst, ◌∙◌, inl, inr, arith, length-append}
+use Rattle.std.proofs.Common.{◌≡◌, ℕ, zero, suc, ◌+◌, ◌/◌, ◌%◌, ◌^◌, ◌<◌, ◌≤◌, ◌⊎◌, pos, List, [], ◌∷◌, ◌++◌, length, slice_get, Option, Some, None, Result, Ok, Err, OnOk, ℤ, refl, sym, ap, subst, ◌∙◌, inl, inr, arith, length-append}
 use Rattle.stk_tree.specs.Syntax.{FunctionTree}
 use Rattle.stk_ctype.specs.declared.kind.IntKind.{IntKind}
 use Rattle.stk_numbers.specs.declared.conditions.Kinds.{Kinds}
@@ -8,7 +8,7 @@ use Rattle.stk_runs.specs.declared.entry.Entry.{Entry}
 use Rattle.stk_runs.specs.Typings.{Typing}
 use Rattle.stk_runs.specs.Keys.{keys_of}
 use Rattle.stk_runs.specs.Paths.{path}
-use Rattle.stk_maps.specs.Maps.{map_at}
+use Rattle.stk_maps.specs.Maps.{bits_in, map_at}
 use Rattle.stk_hit_tables.specs.Tables.{Table, Describes}
 use Rattle.stk_path_findings.specs.PathSubjects.{ArePathRuns, kinds_of}
 use Rattle.stk_function_findings.specs.Tables.{IsTableOf, wrapped}
@@ -20,11 +20,11 @@ weaker (Err e) g p = p
 -- the numbers of a map are in the ranges of their kinds
 pub wrapped_map : (ks : List IntKind) (n : ℕ) → wrapped ks (map_at ks n) ≡ map_at ks n
 wrapped_map [] n = refl
-wrapped_map (k ∷ ks) n = λ i. wrap_twice k _ i ∷ wrapped_map ks _ i
+wrapped_map (k ∷ ks) n = λ i. wrap_twice k (pos (n / 2 ^ bits_in ks)) i ∷ wrapped_map ks (n % 2 ^ bits_in ks) i
 
 get_front : {A : Type 0} (xs : List A) (y : A) (n : ℕ) → n < length xs → slice_get (xs ++ y ∷ []) n ≡ slice_get xs n
 get_front [] y n less = absurd (omega (arith, less))
-get_front (x ∷ xs) y 0 less = refl
+get_front (x ∷ xs) y zero less = refl
 get_front (x ∷ xs) y (suc n) less = get_front xs y n (omega (arith, less))
 
 get_last : {A : Type 0} (xs : List A) (y : A) → slice_get (xs ++ y ∷ []) (length xs) ≡ Some y
@@ -32,13 +32,13 @@ get_last [] y = refl
 get_last (x ∷ xs) y = get_last xs y
 
 last_or_less : (n m : ℕ) → n < m + 1 → (n < m) ⊎ (n ≡ m)
-last_or_less 0 0 less = inr refl
-last_or_less 0 (suc m) less = inl (omega arith)
-last_or_less (suc n) 0 less = absurd (omega (arith, less))
+last_or_less zero zero less = inr refl
+last_or_less zero (suc m) less = inl (omega arith)
+last_or_less (suc n) zero less = absurd (omega (arith, less))
 last_or_less (suc n) (suc m) less = elim (last_or_less n m (omega (arith, less))) [ inl a ↦ inl (omega (arith, a)) | inr e ↦ inr (ap suc e) ]
 
 module _ (ty : Typing) (without : Kinds) (f : FunctionTree) where
-  numbered : ℕ → List Entry
+  abbrev numbered : ℕ → List Entry
   numbered n = path ty without f (map_at (kinds_of (keys_of ty without f)) n)
 
   pub nothing : (table : Table) → Describes [] [] table → IsTableOf ty without f 0 table

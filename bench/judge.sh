@@ -1,0 +1,49 @@
+#!/bin/bash
+# Times the checker on functions of at most 16 input bits, all of whose input maps are run.
+#   bash bench/judge.sh [PROGRAM]
+# With no program it takes ./stack. For each text it prints the processor seconds of the whole run, the most memory in KiB, and the last
+# line of the records.
+set -eu
+top=$(cd "$(dirname "$0")/.." && pwd)
+program=${1:-$top/stack}
+"$program" < /dev/null > /dev/null
+text=$(mktemp)
+result=$(mktemp)
+trap 'rm -f "$text" "$result"' EXIT
+measure() { # the name $1 of what stands in the file text
+    python3 - "$program" "$text" "$result" "$1" <<'PY'
+import resource, subprocess, sys
+program, text, result, name = sys.argv[1:]
+with open(text) as given, open(result, "w") as taken:
+    subprocess.run([program], stdin=given, stdout=taken, stderr=subprocess.DEVNULL)
+used = resource.getrusage(resource.RUSAGE_CHILDREN)
+print(f"{name}: {used.ru_utime:.2f} s, {used.ru_maxrss} KiB, {open(result).read().splitlines()[-1]}")
+PY
+}
+tests() { # a function of $1 with $2 divisions by sums of its parameters and $3 tests behind them
+    python3 - "$@" > "$text" <<'PY'
+import sys
+params, divisions, tests = sys.argv[1], int(sys.argv[2]), int(sys.argv[3])
+print(f"int f({params}) {{ int s = 0;")
+for k in range(divisions):
+    print(f"s += {k + 1} / (a + b + {k % 7});")
+for k in range(tests):
+    print(f"if (a + b == {k % 11}) s += {k};")
+print("return s; }")
+PY
+}
+bytes='unsigned char a, unsigned char b'
+tests "$bytes" 30 7
+measure '16 input bits, 30 divisions, 7 tests: 21 candidates'
+tests "$bytes" 60 7
+measure '60 divisions'
+tests "$bytes" 30 14
+measure '14 tests'
+tests '_Bool a, unsigned char b' 30 7
+measure '9 input bits'
+tests '_Bool a, _Bool b' 30 7
+measure '2 input bits'
+printf 'int f(unsigned char a, unsigned char b) { int s = 1; for (unsigned char i = 0; i < 0; i++) s = 2; while (a > b) { if (10 / b > a) return 1; break; } switch (a) { case 1: s = 10 / b; case 2: if (b == 0) return 3; default: s = 5; } return s; }' > "$text"
+measure 'with loops and a switch, 24 input bits: skipped'
+printf 'int f(unsigned char a, unsigned char b) { int s = 1; while (a > b) { if (10 / b > a) return 1; break; } switch (a) { case 1: s = 10 / b; case 2: if (b == 0) return 3; default: s = 5; } return s; }' > "$text"
+measure 'with a loop and a switch'
