@@ -4,3 +4,7 @@ pub mod Rulings
 pub mod Layouts
 pub mod LaidNodes
 pub mod From
+pub mod Raw
+pub mod Names
+pub mod Calls
+pub mod Expressions
