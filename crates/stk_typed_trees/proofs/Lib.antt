@@ -8,3 +8,5 @@ pub mod Raw
 pub mod Names
 pub mod Calls
 pub mod Expressions
+pub mod Initialisers
+pub mod Locals
