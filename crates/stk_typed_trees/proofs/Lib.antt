@@ -10,3 +10,5 @@ pub mod Calls
 pub mod Expressions
 pub mod Initialisers
 pub mod Locals
+pub mod Statements
+pub mod Bodies

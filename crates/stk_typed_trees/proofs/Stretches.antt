@@ -75,7 +75,7 @@ is_good : {A : Type 0} → Outcome A → Type 0
 is_good (Good x t) = Unit {0}
 is_good (Refused n r) = ⊥
 
-not_refused : {A : Type 0} (n r : ℕ) (y : A) (u : List Fact) → Refused n r ≡ Good y u → ⊥
+pub not_refused : {A : Type 0} (n r : ℕ) (y : A) (u : List Fact) → Refused n r ≡ Good y u → ⊥
 unfolding is_good
 not_refused n r y u e = subst is_good (sym e) tt
 
