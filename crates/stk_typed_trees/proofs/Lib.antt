@@ -12,3 +12,4 @@ pub mod Initialisers
 pub mod Locals
 pub mod Statements
 pub mod Bodies
+pub mod Parameters

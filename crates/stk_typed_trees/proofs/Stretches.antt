@@ -128,6 +128,9 @@ counts_given x t m count = record { by = λ y ts e. ap length (given x y t ts e)
 pub counts_refused : {A : Type 0} (o : Outcome A) (n r m : ℕ) → o ≡ Refused n r → Counts o m
 counts_refused o n r m refused = record { by = λ y ts e. absurd (not_refused n r y ts (sym refused ∙ e)) }
 
+pub counts_as : {A : Type 0} {o : Outcome A} {m p : ℕ} → m ≡ p → Counts o m → Counts o p
+counts_as {o = o} same c = subst (Counts o) same c
+
 pub counts_one : {A : Type 0} {o : Outcome A} {m : ℕ} (k : ℕ) (r : A → Ruled) → Counts o m → Counts (and_then o (λ x. finish k (r x))) (m + 1)
 counts_one {o = o} {m = m} k r c = counts_then o (λ x. finish k (r x)) m 1 (m + 1) refl c (λ x. counts_own k (r x))
 
