@@ -13,3 +13,4 @@ pub mod Locals
 pub mod Statements
 pub mod Bodies
 pub mod Parameters
+pub mod Meanings
