@@ -135,10 +135,13 @@ mutual
       let vc = maybe_statement_visits (typing w) y in
       let part_b = part_right va (both_visits vb vc) part in
       let stand_b = rest_stands w.facts n (expression_nodes e) ts o.first o.rest o.all ((expression_count e (in_force w ls None)).by o.value o.first o.gives) stand in
-      let stand_c = rest_stands w.facts (n + expression_nodes e) (statement_nodes x) o.rest o.then.first o.then.rest o.then.all ((statement_count x b p.held).by o.then.value o.then.first o.then.gives) stand_b in
-      ((expression_known w e n as_test ls None o.value o.first declared o.gives (first_stands w.facts n ts o.first o.rest o.all stand) from.0 (part_left va (both_visits vb vc) part)).sites (test_fits o.value u l.rule),
-      (statement_known w x true (n + expression_nodes e) ls a o.then.value o.then.first p.held declared o.then.gives (first_stands w.facts (n + expression_nodes e) o.rest o.then.first o.then.rest o.then.all stand_b) from.1 (part_left vb vc part_b),
-      maybe_statement_known w y (n + expression_nodes e + statement_nodes x) ls a l.value l.first p.other declared l.gives (first_stands w.facts (n + expression_nodes e + statement_nodes x) o.then.rest l.first (u ∷ []) l.all stand_c) from.2 (part_right vb vc part_b)))
+      let stand_c = rest_stands w.facts (n + expression_nodes e) (statement_nodes x) o.rest o.then.first o.then.rest o.then.all ((statement_count x b p.held).by o.then.value o.then.first o.then.gives) stand_b in (
+        (expression_known w e n as_test ls None o.value o.first declared o.gives (first_stands w.facts n ts o.first o.rest o.all stand) from.0 (part_left va (both_visits vb vc) part)).sites (test_fits o.value u l.rule),
+        (
+          statement_known w x true (n + expression_nodes e) ls a o.then.value o.then.first p.held declared o.then.gives (first_stands w.facts (n + expression_nodes e) o.rest o.then.first o.then.rest o.then.all stand_b) from.1 (part_left vb vc part_b),
+          maybe_statement_known w y (n + expression_nodes e + statement_nodes x) ls a l.value l.first p.other declared l.gives (first_stands w.facts (n + expression_nodes e + statement_nodes x) o.then.rest l.first (u ∷ []) l.all stand_c) from.2 (part_right vb vc part_b),
+        ),
+      )
   form_known w (s.switch_statement e ss) k n ls a u ts placed declared eq stand from part =
       let b = body_in w ls a in
       let p = both_true (expression_placed comma_level e) (sections_placed ss) placed in
@@ -146,27 +149,30 @@ mutual
       let l = one (sections_typed (switched b) (kind_of o.value.ty) unlabelled ss) (λ z. switch_rule (kind_of o.value.ty)) k u o.rest o.then in
       let va = expression_visits (typing w) reading e in
       let vb = sections_visits (typing w) ss in
-      let stand_b = rest_stands w.facts n (expression_nodes e) ts o.first o.rest o.all ((expression_count e (in_force w ls None)).by o.value o.first o.gives) stand in
-      ((expression_known w e n reading ls None o.value o.first declared o.gives (first_stands w.facts n ts o.first o.rest o.all stand) from.0 (part_left va vb part)).sites (switch_at o.value u (kind_of o.value.ty) refl l.rule),
-      sections_known w ss (n + expression_nodes e) ls (switched_around a) (kind_of o.value.ty) unlabelled l.value l.first p.1 declared l.gives (first_stands w.facts (n + expression_nodes e) o.rest l.first (u ∷ []) l.all stand_b) from.1 (part_right va vb part))
+      let stand_b = rest_stands w.facts n (expression_nodes e) ts o.first o.rest o.all ((expression_count e (in_force w ls None)).by o.value o.first o.gives) stand in (
+        (expression_known w e n reading ls None o.value o.first declared o.gives (first_stands w.facts n ts o.first o.rest o.all stand) from.0 (part_left va vb part)).sites (switch_at o.value u (kind_of o.value.ty) refl l.rule),
+        sections_known w ss (n + expression_nodes e) ls (switched_around a) (kind_of o.value.ty) unlabelled l.value l.first p.1 declared l.gives (first_stands w.facts (n + expression_nodes e) o.rest l.first (u ∷ []) l.all stand_b) from.1 (part_right va vb part),
+      )
   form_known w (s.while_statement e x) k n ls a u ts placed declared eq stand from part =
       let b = body_in w ls a in
       let p = both_true (expression_placed comma_level e) (statement_placed x) placed in
       let o = two (expression_typed (in_force w ls None) e) (statement_typed (looped b) x) (λ (t : Fact) (v : Fact). test_rule (Some t)) k u ts eq in
       let va = expression_visits (typing w) as_test e in
       let vb = statement_visits (typing w) true x in
-      let stand_b = rest_stands w.facts n (expression_nodes e) ts o.first o.rest o.all ((expression_count e (in_force w ls None)).by o.value o.first o.gives) stand in
-      ((expression_known w e n as_test ls None o.value o.first declared o.gives (first_stands w.facts n ts o.first o.rest o.all stand) from.0 (part_left va vb part)).sites (test_fits o.value u o.then.rule),
-      statement_known w x true (n + expression_nodes e) ls (looped_around a) o.then.value o.then.first p.1 declared o.then.gives (first_stands w.facts (n + expression_nodes e) o.rest o.then.first (u ∷ []) o.then.all stand_b) from.1 (part_right va vb part))
+      let stand_b = rest_stands w.facts n (expression_nodes e) ts o.first o.rest o.all ((expression_count e (in_force w ls None)).by o.value o.first o.gives) stand in (
+        (expression_known w e n as_test ls None o.value o.first declared o.gives (first_stands w.facts n ts o.first o.rest o.all stand) from.0 (part_left va vb part)).sites (test_fits o.value u o.then.rule),
+        statement_known w x true (n + expression_nodes e) ls (looped_around a) o.then.value o.then.first p.1 declared o.then.gives (first_stands w.facts (n + expression_nodes e) o.rest o.then.first (u ∷ []) o.then.all stand_b) from.1 (part_right va vb part),
+      )
   form_known w (s.do_statement x e) k n ls a u ts placed declared eq stand from part =
       let b = body_in w ls a in
       let p = both_true (statement_placed x) (expression_placed comma_level e) placed in
       let o = two (statement_typed (looped b) x) (expression_typed (in_force w ls None) e) (λ (v : Fact) (t : Fact). test_rule (Some t)) k u ts eq in
       let va = statement_visits (typing w) true x in
       let vb = expression_visits (typing w) as_test e in
-      let stand_b = rest_stands w.facts n (statement_nodes x) ts o.first o.rest o.all ((statement_count x (looped b) p.0).by o.value o.first o.gives) stand in
-      (statement_known w x true n ls (looped_around a) o.value o.first p.0 declared o.gives (first_stands w.facts n ts o.first o.rest o.all stand) from.0 (part_left va vb part),
-      (expression_known w e (n + statement_nodes x) as_test ls None o.then.value o.then.first declared o.then.gives (first_stands w.facts (n + statement_nodes x) o.rest o.then.first (u ∷ []) o.then.all stand_b) from.1 (part_right va vb part)).sites (test_fits o.then.value u o.then.rule))
+      let stand_b = rest_stands w.facts n (statement_nodes x) ts o.first o.rest o.all ((statement_count x (looped b) p.0).by o.value o.first o.gives) stand in (
+        statement_known w x true n ls (looped_around a) o.value o.first p.0 declared o.gives (first_stands w.facts n ts o.first o.rest o.all stand) from.0 (part_left va vb part),
+        (expression_known w e (n + statement_nodes x) as_test ls None o.then.value o.then.first declared o.then.gives (first_stands w.facts (n + statement_nodes x) o.rest o.then.first (u ∷ []) o.then.all stand_b) from.1 (part_right va vb part)).sites (test_fits o.then.value u o.then.rule),
+      )
   form_known w (s.for_statement first test step x) k n ls a u ts placed declared eq stand from part =
       let inside = opened_around ls a in
       let b = body_in w ls inside in
@@ -191,11 +197,16 @@ mutual
       let all = declared_append w ls st.locals declared begin.declared in
       let stand_b = rest_stands w.facts n (start_nodes first) ts o.first o.rest o.all ((start_count first b p.start).by st o.first o.gives) stand in
       let stand_c = rest_stands w.facts nb (maybe_expression_nodes test) o.rest l.first l.rest l.all ((maybe_count test (in_force w more None)).by l.value l.first l.gives) stand_b in
-      let stand_d = rest_stands w.facts nc (maybe_expression_nodes step) l.rest l.then.first l.then.rest l.then.all ((maybe_count step (in_force w more None)).by l.then.value l.then.first l.then.gives) stand_c in
-      (begin.sites f.first,
-      (maybe_known w test as_test nb more l.value l.first all l.gives (first_stands w.facts nb o.rest l.first l.rest l.all stand_b) from.1 (part_left vb (both_visits vc vd) part_b) f.tested,
-      (maybe_known w step reading nc more l.then.value l.then.first all l.then.gives (first_stands w.facts nc l.rest l.then.first l.then.rest l.then.all stand_c) from.2 (part_left vc vd part_c) f.stepped,
-      statement_known w x true nd more (looped_around inside) h.value h.first p.body all h.gives (first_stands w.facts nd l.then.rest h.first (u ∷ []) h.all stand_d) from.3 (part_right vc vd part_c))))
+      let stand_d = rest_stands w.facts nc (maybe_expression_nodes step) l.rest l.then.first l.then.rest l.then.all ((maybe_count step (in_force w more None)).by l.then.value l.then.first l.then.gives) stand_c in (
+        begin.sites f.first,
+        (
+          maybe_known w test as_test nb more l.value l.first all l.gives (first_stands w.facts nb o.rest l.first l.rest l.all stand_b) from.1 (part_left vb (both_visits vc vd) part_b) f.tested,
+          (
+            maybe_known w step reading nc more l.then.value l.then.first all l.then.gives (first_stands w.facts nc l.rest l.then.first l.then.rest l.then.all stand_c) from.2 (part_left vc vd part_c) f.stepped,
+            statement_known w x true nd more (looped_around inside) h.value h.first p.body all h.gives (first_stands w.facts nd l.then.rest h.first (u ∷ []) h.all stand_d) from.3 (part_right vc vd part_c),
+          ),
+        ),
+      )
   form_known w s.break_statement k n ls a u ts placed declared eq stand from part = tt
   form_known w s.continue_statement k n ls a u ts placed declared eq stand from part = tt
   form_known w (s.return_statement e) k n ls a u ts placed declared eq stand from part =
@@ -218,9 +229,10 @@ mutual
       let o = steps (statement_typed b x) (λ v. statements_typed b xs) u ts eq in
       let va = statement_visits (typing w) false x in
       let vb = statements_visits (typing w) xs in
-      let stand_b = rest_stands w.facts n (statement_nodes x) ts o.first o.rest o.all ((statement_count x b p.0).by o.value o.first o.gives) stand in
-      (statement_known w x false n ls a o.value o.first p.0 declared o.gives (first_stands w.facts n ts o.first o.rest o.all stand) from.0 (part_left va vb part),
-      statements_known w xs (n + statement_nodes x) ls a u o.rest p.1 declared o.then stand_b from.1 (part_right va vb part))
+      let stand_b = rest_stands w.facts n (statement_nodes x) ts o.first o.rest o.all ((statement_count x b p.0).by o.value o.first o.gives) stand in (
+        statement_known w x false n ls a o.value o.first p.0 declared o.gives (first_stands w.facts n ts o.first o.rest o.all stand) from.0 (part_left va vb part),
+        statements_known w xs (n + statement_nodes x) ls a u o.rest p.1 declared o.then stand_b from.1 (part_right va vb part),
+      )
 
   pub parts_known : (w : World) (xs : PartTrees) (n : ℕ) (ls : List Local) (a : Around) (u : Unit {0}) (ts : List Fact) → parts_placed xs ≡ true → AreDeclared w ls → parts_typed (body_in w ls a) xs ≡ Good u ts
       → Stand w.facts n ts → parts_from n xs → Part (parts_visits (typing w) xs) w.whole → EachSite (RawSite (ground w)) (parts_visits (typing w) xs)
@@ -252,9 +264,10 @@ mutual
       let o = steps (section_typed b kind l x) (λ z. sections_typed b kind z xs) m ts eq in
       let va = section_visits (typing w) x in
       let vb = sections_visits (typing w) xs in
-      let stand_b = rest_stands w.facts n (section_nodes x) ts o.first o.rest o.all ((section_count x b kind l q).by o.value o.first o.gives) stand in
-      (section_known w x n ls a kind l o.value o.first q declared o.gives (first_stands w.facts n ts o.first o.rest o.all stand) from.0 (part_left va vb part),
-      sections_known w xs (n + section_nodes x) ls a kind o.value m o.rest p.1 declared o.then stand_b from.1 (part_right va vb part))
+      let stand_b = rest_stands w.facts n (section_nodes x) ts o.first o.rest o.all ((section_count x b kind l q).by o.value o.first o.gives) stand in (
+        section_known w x n ls a kind l o.value o.first q declared o.gives (first_stands w.facts n ts o.first o.rest o.all stand) from.0 (part_left va vb part),
+        sections_known w xs (n + section_nodes x) ls a kind o.value m o.rest p.1 declared o.then stand_b from.1 (part_right va vb part),
+      )
 
   section_known : (w : World) (x : SectionTree) (n : ℕ) (ls : List Local) (a : Around) (kind : Option IntKind) (l m : Labelled) (ts : List Fact) → section_placed x ≡ true → AreDeclared w ls → section_typed (body_in w ls a) kind l x ≡ Good m ts
       → Stand w.facts n ts → section_from n x → Part (section_visits (typing w) x) w.whole → EachSite (RawSite (ground w)) (section_visits (typing w) x)
@@ -266,6 +279,7 @@ mutual
       let va = labels_visits (typing w) labels in
       let vb = statements_visits (typing w) xs in
       let vc = visit (at_section node.number labels) in
-      let stand_b = rest_stands w.facts n (labels_nodes labels) ts o.first o.rest o.all ((labels_count labels (in_force w ls None) kind (carried l)).by o.value o.first o.gives) stand in
-      (labels_each (RawSite (ground w)) (typing w) labels,
-      (statements_known w xs (n + labels_nodes labels) ls a q.value q.first p.1 declared q.gives (first_stands w.facts (n + labels_nodes labels) o.rest q.first q.rest q.all stand_b) from (part_left vb vc (part_right va (both_visits vb vc) part)), tt))
+      let stand_b = rest_stands w.facts n (labels_nodes labels) ts o.first o.rest o.all ((labels_count labels (in_force w ls None) kind (carried l)).by o.value o.first o.gives) stand in (
+        labels_each (RawSite (ground w)) (typing w) labels,
+        (statements_known w xs (n + labels_nodes labels) ls a q.value q.first p.1 declared q.gives (first_stands w.facts (n + labels_nodes labels) o.rest q.first q.rest q.all stand_b) from (part_left vb vc (part_right va (both_visits vb vc) part)), tt),
+      )

@@ -185,7 +185,7 @@ mutual
         place = λ q. (
           subst (λ t. is_struct t ≡ true) (sym (type_known w inner e o.value sub)) m.struct,
           subst (λ t. (typing w).offset_of t at + object_size (typing w) ((typing w).type_at k) ≤ object_size (typing w) t) (sym (type_known w inner e o.value sub))
-          (subst (λ (z : Fact). (typing w).offset_of o.value.ty at + object_size (typing w) z.ty ≤ object_size (typing w) o.value.ty) (sym here) (member_within w o.value x at m.found m.is m.place (place_part x q))),
+              (subst (λ (z : Fact). (typing w).offset_of o.value.ty at + object_size (typing w) z.ty ≤ object_size (typing w) o.value.ty) (sym here) (member_within w o.value x at m.found m.is m.place (place_part x q))),
           sub.place (inr m.struct),
         );
       }

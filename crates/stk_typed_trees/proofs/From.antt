@@ -200,9 +200,11 @@ module _ (spans : List Span) where
     form_laid (s.size_name x) n t = tt
     form_laid (s.cast x e) n t = expression_moved _ (add refl (type_name_same (node_at spans) x n (t + 1))) (expression_laid e (n + type_name_nodes x) _)
     form_laid (s.binary op a b) n t = (expression_laid a n _, expression_moved _ (add refl (expression_same (node_at spans) a n t)) (expression_laid b (n + expression_nodes a) _))
-    form_laid (s.choice a b c) n t =
-        (expression_laid a n _, expression_moved _ (add refl (expression_same (node_at spans) a n t)) (expression_laid b (n + expression_nodes a) _),
-        expression_moved _ (add (add refl (expression_same (node_at spans) a n t)) (expression_same (node_at spans) b _ _)) (expression_laid c (n + expression_nodes a + expression_nodes b) _))
+    form_laid (s.choice a b c) n t = (
+      expression_laid a n _,
+      expression_moved _ (add refl (expression_same (node_at spans) a n t)) (expression_laid b (n + expression_nodes a) _),
+      expression_moved _ (add (add refl (expression_same (node_at spans) a n t)) (expression_same (node_at spans) b _ _)) (expression_laid c (n + expression_nodes a + expression_nodes b) _),
+    )
     form_laid (s.assign op a b) n t = (expression_laid a n _, expression_moved _ (add refl (expression_same (node_at spans) a n t)) (expression_laid b (n + expression_nodes a) _))
 
     expressions_laid : (es : ExprTrees) (n t : ℕ) → expressions_from n (laid_expressions (node_at spans) n t es)
@@ -230,9 +232,10 @@ module _ (spans : List Span) where
   initial_laid (s.some_initialiser i) n t = initialiser_laid i n t
 
   declarator_laid : (d : DeclrTree) (n t : ℕ) → declarator_from n (laid_declarator (node_at spans) n t d)
-  declarator_laid (s.declarator node count at x i) n t =
-      (sym (add (add refl (tail_same (node_at spans) x n _)) (maybe_initialiser_same (node_at spans) i _ _)),
-      initial_moved _ (add refl (tail_same (node_at spans) x n _)) (initial_laid i (n + tail_nodes x) _))
+  declarator_laid (s.declarator node count at x i) n t = (
+    sym (add (add refl (tail_same (node_at spans) x n _)) (maybe_initialiser_same (node_at spans) i _ _)),
+    initial_moved _ (add refl (tail_same (node_at spans) x n _)) (initial_laid i (n + tail_nodes x) _),
+  )
 
   declarators_laid : (ds : DeclrTrees) (n t : ℕ) → declarators_from n (laid_declarators (node_at spans) n t ds)
   declarators_laid s.no_declarators n t = tt
@@ -247,9 +250,10 @@ module _ (spans : List Span) where
 
   parameters_laid : (ps : ParamTrees) (n t : ℕ) → parameters_from n (laid_parameters (node_at spans) n t ps)
   parameters_laid s.no_parameters n t = tt
-  parameters_laid (s.then_parameter (s.parameter node b d) ps) n t =
-      (declarator_moved _ (add refl (base_same (node_at spans) b n t)) (declarator_laid d (n + base_nodes b) _),
-      parameters_moved _ (add refl (parameter_same (node_at spans) (s.parameter node b d) n t)) (parameters_laid ps (n + parameter_nodes (s.parameter node b d)) _))
+  parameters_laid (s.then_parameter (s.parameter node b d) ps) n t = (
+    declarator_moved _ (add refl (base_same (node_at spans) b n t)) (declarator_laid d (n + base_nodes b) _),
+    parameters_moved _ (add refl (parameter_same (node_at spans) (s.parameter node b d) n t)) (parameters_laid ps (n + parameter_nodes (s.parameter node b d)) _),
+  )
 
   pub head_laid : (d : DeclrTree) (n t : ℕ) → head_from n (laid_declarator (node_at spans) n t d)
   head_laid (s.declarator node count at (s.arrays ds) i) n t = tt
@@ -264,17 +268,21 @@ module _ (spans : List Span) where
     statement_form_laid : (f : StmtFormTree) (n t : ℕ) → statement_form_from n (laid_statement_form (node_at spans) n t f)
     statement_form_laid (s.block ps) n t = parts_laid ps n _
     statement_form_laid (s.expression_statement e) n t = maybe_laid e n t
-    statement_form_laid (s.if_statement e x y) n t =
-        (expression_laid e n _, statement_moved _ (add refl (expression_same (node_at spans) e n _)) (statement_laid x (n + expression_nodes e) _),
-        maybe_statement_moved _ (add (add refl (expression_same (node_at spans) e n _)) (statement_same (node_at spans) x _ _)) (maybe_statement_laid y (n + expression_nodes e + statement_nodes x) _))
+    statement_form_laid (s.if_statement e x y) n t = (
+      expression_laid e n _,
+      statement_moved _ (add refl (expression_same (node_at spans) e n _)) (statement_laid x (n + expression_nodes e) _),
+      maybe_statement_moved _ (add (add refl (expression_same (node_at spans) e n _)) (statement_same (node_at spans) x _ _)) (maybe_statement_laid y (n + expression_nodes e + statement_nodes x) _),
+    )
     statement_form_laid (s.switch_statement e xs) n t = (expression_laid e n _, sections_moved _ (add refl (expression_same (node_at spans) e n _)) (sections_laid xs (n + expression_nodes e) _))
     statement_form_laid (s.while_statement e x) n t = (expression_laid e n _, statement_moved _ (add refl (expression_same (node_at spans) e n _)) (statement_laid x (n + expression_nodes e) _))
     statement_form_laid (s.do_statement x e) n t = (statement_laid x n _, expression_moved _ (add refl (statement_same (node_at spans) x n _)) (expression_laid e (n + statement_nodes x) _))
     statement_form_laid (s.for_statement first test step x) n t =
-        let p = start_same (node_at spans) first n (t + 2) in
-        (start_laid first n _, maybe_moved _ (add refl p) (maybe_laid test (n + start_nodes first) _),
-        maybe_moved _ (add (add refl p) (maybe_expression_same (node_at spans) test _ _)) (maybe_laid step (n + start_nodes first + maybe_expression_nodes test) _),
-        statement_moved _ (add (add (add refl p) (maybe_expression_same (node_at spans) test _ _)) (maybe_expression_same (node_at spans) step _ _)) (statement_laid x (n + start_nodes first + maybe_expression_nodes test + maybe_expression_nodes step) _))
+        let p = start_same (node_at spans) first n (t + 2) in (
+          start_laid first n _,
+          maybe_moved _ (add refl p) (maybe_laid test (n + start_nodes first) _),
+          maybe_moved _ (add (add refl p) (maybe_expression_same (node_at spans) test _ _)) (maybe_laid step (n + start_nodes first + maybe_expression_nodes test) _),
+          statement_moved _ (add (add (add refl p) (maybe_expression_same (node_at spans) test _ _)) (maybe_expression_same (node_at spans) step _ _)) (statement_laid x (n + start_nodes first + maybe_expression_nodes test + maybe_expression_nodes step) _),
+        )
     statement_form_laid s.break_statement n t = tt
     statement_form_laid s.continue_statement n t = tt
     statement_form_laid (s.return_statement e) n t = maybe_laid e n _

@@ -79,6 +79,7 @@ mutual
       let o = steps (item_typed (in_force w ls own) x) (λ a. and_then (items_typed (in_force w ls own) xs) (λ b. Good (merged a b) [])) leaves ts eq in
       let m = mapped (items_typed (in_force w ls own) xs) (merged o.value) leaves o.rest o.then in
       let stand_b = rest_stands w.facts n (item_nodes x) ts o.first o.rest o.all ((item_count x (in_force w ls own)).by o.value o.first o.gives) stand in
-      let plains = both_false o.value.has_struct m.value.has_struct (ap (λ (z : Leaves). z.has_struct) m.is ∙ plain) in
-      (item_known w x n ls own o.value o.first declared o.gives (first_stands w.facts n ts o.first o.rest o.all stand) from.0 (part_left (item_visits (typing w) x) (items_visits (typing w) xs) part) plains.0,
-      items_known w xs (n + item_nodes x) ls own m.value o.rest declared m.gives stand_b from.1 (part_right (item_visits (typing w) x) (items_visits (typing w) xs) part) plains.1)
+      let plains = both_false o.value.has_struct m.value.has_struct (ap (λ (z : Leaves). z.has_struct) m.is ∙ plain) in (
+        item_known w x n ls own o.value o.first declared o.gives (first_stands w.facts n ts o.first o.rest o.all stand) from.0 (part_left (item_visits (typing w) x) (items_visits (typing w) xs) part) plains.0,
+        items_known w xs (n + item_nodes x) ls own m.value o.rest declared m.gives stand_b from.1 (part_right (item_visits (typing w) x) (items_visits (typing w) xs) part) plains.1,
+      )

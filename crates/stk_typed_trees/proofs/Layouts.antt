@@ -200,7 +200,7 @@ lies_in S id name found (Some s) p l e =
       within = λ part.
           let some = sized l.before (type_of found.1) end.last.1 part in
           let same : unwrap_or (size_of S (type_of found.1)) 1 ≡ unwrap_or (size_of l.before (type_of found.1)) 0 =
-              ap (λ z. unwrap_or z 1) (size_stays l.before S l.keeps (type_of found.1) some) ∙ sym (known (size_of l.before (type_of found.1)) 1 some) in
+          ap (λ z. unwrap_or z 1) (size_stays l.before S l.keeps (type_of found.1) some) ∙ sym (known (size_of l.before (type_of found.1)) 1 some) in
           let up = round_up_least (greatest_alignment l.before l.members) (end_of l.before 0 l.members) (greatest_least l.before l.members) in
           omega (arith, same, whole, up, end.within);
     }

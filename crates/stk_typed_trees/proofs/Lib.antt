@@ -14,3 +14,4 @@ pub mod Statements
 pub mod Bodies
 pub mod Parameters
 pub mod Meanings
+pub mod Whole

@@ -265,9 +265,13 @@ sized_known w static node count at ds init n ls a whole sizes new ts declared eq
     let brought : IsDeclared w (record { name = name; node = node.number; ty = x.ty }) = record { type = inl (sym type); object = object; origin = origin } in
     record {
       declared = subst (AreDeclared w) m.is (brought, tt);
-      sites = (dimensions_each (RawSite (ground w)) (typing w) ds,
-      (initial_known w static init l n ls a o.value x.ty o.first declared self o.gives (first_stands w.facts n ts o.first o.rest o.all stand) from (part_left (initial_visits (typing w) static init) (visit (at_declarator node.number static (Some at) init)) rest) f.initial,
-      own_known (typing w) node.number static at init o.value x type f.initial));
+      sites = (
+        dimensions_each (RawSite (ground w)) (typing w) ds,
+        (
+          initial_known w static init l n ls a o.value x.ty o.first declared self o.gives (first_stands w.facts n ts o.first o.rest o.all stand) from (part_left (initial_visits (typing w) static init) (visit (at_declarator node.number static (Some at) init)) rest) f.initial,
+          own_known (typing w) node.number static at init o.value x type f.initial,
+        ),
+      );
     }
 
 local_known : (w : World) (d : DeclrTree) (static : Bool) (n : ℕ) (ls : List Local) (a : Around) (t : TypeTree) (new : List Local) (ts : List Fact) → has_name d ≡ true → has_arrays d ≡ true → AreDeclared w ls

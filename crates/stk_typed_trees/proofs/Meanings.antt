@@ -58,7 +58,7 @@ from_site : {A : Type 0} (F : Site → List A) (y : A) (v : Visits) → IsIn y (
 from_site F y no_visit i = absurd i
 from_site F y (visit z) i = record { site = z; occurs = refl; gives = i }
 from_site F y (both_visits a b) i = elim (in_either y (collected F a) (collected F b) i) [
-  inl j ↦ let r = from_site F y a j in record { site = r.site; occurs = inl r.occurs; gives = r.gives }
+  | inl j ↦ let r = from_site F y a j in record { site = r.site; occurs = inl r.occurs; gives = r.gives }
   | inr j ↦ let r = from_site F y b j in record { site = r.site; occurs = inr r.occurs; gives = r.gives }
 ]
 from_site F y (scope ks a) i = let r = from_site F y a i in record { site = r.site; occurs = r.occurs; gives = r.gives }
@@ -272,7 +272,8 @@ module _ (ty : Typing) (without : Kinds) (f : FunctionTree) where
         let w = mention_site ty (function_visits ty f) r.mention from.site from.occurs from.gives in
         let there = outside_type j w.role w.at w.occurs w.outside in
         let text : name ≡ text_of ty.bytes w.at = sym r.same ∙ w.name in
-        let same : ty.type_at k ≡ ty.type_at j = type ∙ same_object name (text_of ty.bytes w.at) t there.of text found there.found ∙ sym there.type in
+        let one : type_of t ≡ type_of there.of = same_object name (text_of ty.bytes w.at) t there.of text found there.found in
+        let same : ty.type_at k ≡ ty.type_at j = type ∙ one ∙ sym there.type in
         let object = mention_object j w.role w.at w.occurs w.outside (ap is_some (no_means j w.outside).1) (ap (λ z. mentioned_in z ms) (sym text) ∙ r.is) in
         meaning_at k j at (ap (λ z. unwrap_or z (unwrap_or (mentioned_in name ms) k)) p ∙ ap (λ z. unwrap_or z k) r.is) (inl same) (means_by j (λ none. object))
 

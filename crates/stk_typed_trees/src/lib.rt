@@ -1,2 +1,6 @@
-//! The law of typed trees: each function definition that is accepted has a typed tree.
+//! The law of typed trees: each function definition that typing accepts has a typed tree.
 #![tactic(auto)]
+
+mod typed_trees;
+
+pub use typed_trees::accepted_trees_are_typed;

@@ -1,0 +1,11 @@
+//! Laws of typed trees. Each is a function that does nothing, and whose contract is the law.
+
+ghost use Rattle.stk_typed_trees.specs.Accepted.{AcceptedTreesAreTyped};
+
+/// Each function definition that typing accepts meets what the laws over runs ask of a function, whichever kinds of conditions
+/// are taken out: its nodes are numbered children first, a name means a register or a memory object and has its type, what is
+/// read is a scalar or an array, what is stored to is a scalar, members lie within their struct, and scalars have their sizes.
+/// Asked of the names of file scope is what declarations leave in force.
+pub fn accepted_trees_are_typed()
+    ensures { AcceptedTreesAreTyped }
+{}
