@@ -259,6 +259,18 @@ module _ (ty : Typing) (without : Kinds) (f : FunctionTree) where
     origin_object o (local_origin static at init occurs) = means_by o (local_object o static at init occurs)
     origin_object o (parameter_origin n count at tail init same among) = subst (λ z. MeansObject ty (objects_of ty without f) z (target_at (setting_of ty without f) z)) same (means_by n.number (parameter_object n count at tail init among))
 
+    -- a name of file scope, by its first mention
+    mention_meaning : (k : ℕ) (at : Span) (t : CType) (m : Mention) → ty.means k ≡ None → ty.type_at k ≡ type_of t → find (text_of ty.bytes at) entries ≡ Some (symbol.Object t) → m.name ≡ text_of ty.bytes at
+        → mentioned_in (text_of ty.bytes at) (setting_of ty without f).mentions ≡ Some m.node → MentionedAt ty (function_visits ty f) m → Meaning k at
+    mention_meaning k at t m none type found named is w =
+        let ms = (setting_of ty without f).mentions in
+        let there = outside_type m.node w.role w.at w.occurs w.outside in
+        let text : text_of ty.bytes at ≡ text_of ty.bytes w.at = sym named ∙ w.name in
+        let one : type_of t ≡ type_of there.of = same_object (text_of ty.bytes at) (text_of ty.bytes w.at) t there.of text found there.found in
+        let same : ty.type_at k ≡ ty.type_at m.node = type ∙ one ∙ sym there.type in
+        let object = mention_object m.node w.role w.at w.occurs w.outside (ap is_some (no_means m.node w.outside).1) (ap (λ z. mentioned_in z ms) (sym text) ∙ is) in
+        meaning_at k m.node at (ap (λ z. unwrap_or z (unwrap_or (mentioned_in (text_of ty.bytes at) ms) k)) none ∙ ap (λ z. unwrap_or z k) is) (inl same) (means_by m.node (λ no. object))
+
     meaning_of : (k : ℕ) (at : Span) → Means (record { ty = ty; entries = entries; params = parameters_of f; whole = function_visits ty f }) k at → Meaning k at
     meaning_of k at (means_local o p type origin) = meaning_at k o at (ap (λ z. unwrap_or z (unwrap_or (mentioned_in (text_of ty.bytes at) (setting_of ty without f).mentions) k)) p) type (origin_object o origin)
     meaning_of k at (means_outside t role p q type found occurs) =
@@ -267,15 +279,8 @@ module _ (ty : Typing) (without : Kinds) (f : FunctionTree) where
         let m : Mention = record { name = name; node = k } in
         let i : IsIn m (site_mentions ty (at_expression k role (s.name at))) = subst (λ b. IsIn m (if b then m ∷ [] else [])) (sym (outside_of k p q)) (inl refl) in
         let r = first_mention name ms m (in_collected (site_mentions ty) m (at_expression k role (s.name at)) (function_visits ty f) occurs i) refl in
-        let j = r.mention.node in
         let from = from_site (site_mentions ty) r.mention (function_visits ty f) r.among in
-        let w = mention_site ty (function_visits ty f) r.mention from.site from.occurs from.gives in
-        let there = outside_type j w.role w.at w.occurs w.outside in
-        let text : name ≡ text_of ty.bytes w.at = sym r.same ∙ w.name in
-        let one : type_of t ≡ type_of there.of = same_object name (text_of ty.bytes w.at) t there.of text found there.found in
-        let same : ty.type_at k ≡ ty.type_at j = type ∙ one ∙ sym there.type in
-        let object = mention_object j w.role w.at w.occurs w.outside (ap is_some (no_means j w.outside).1) (ap (λ z. mentioned_in z ms) (sym text) ∙ r.is) in
-        meaning_at k j at (ap (λ z. unwrap_or z (unwrap_or (mentioned_in name ms) k)) p ∙ ap (λ z. unwrap_or z k) r.is) (inl same) (means_by j (λ none. object))
+        mention_meaning k at t r.mention p type found r.same r.is (mention_site ty (function_visits ty f) r.mention from.site from.occurs from.gives)
 
     -- ---- places by name
 
