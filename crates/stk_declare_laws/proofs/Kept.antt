@@ -1,7 +1,7 @@
 -- What a unit declares keeps the names in force orderly.
-use Rattle.std.proofs.Common.{◌≡◌, ◌≤◌, ◌<◌, ◌+◌, ◌⊎◌, ℕ, Bool, true, false, not, ◌||◌, ◌&&◌, ◌++◌, List, [], ◌∷◌, length, Option, Some, None, IsSome, refl, sym, ap, ◌∙◌, subst, inl, inr, arith, length-append, append_assoc, append-nil}
+use Rattle.std.proofs.Common.{◌≡◌, ◌≤◌, ◌<◌, ◌+◌, ℕ, Bool, true, false, not, ◌||◌, ◌&&◌, ◌++◌, List, [], ◌∷◌, length, Option, Some, None, IsSome, refl, sym, ap, ◌∙◌, subst, inl, inr, arith, append_assoc, append-nil}
 use Rattle.std.specs.Prelude.{if◌then◌else◌, IfSome}
-use Rattle.std.specs.Option.{is_some, option_map}
+use Rattle.std.specs.Option.{is_some}
 use Rattle.std.proofs.lemmas.List.Sums.{sum_by-cons}
 use Rattle.stk_base.specs.declared.span.Span.{Span}
 use Rattle.stk_base.specs.Text.{text_of, same_text}
@@ -23,10 +23,10 @@ use Rattle.stk_tree.specs.Syntax as s
 use Rattle.stk_facts.specs.declared.facts.Constancy.{Constancy}
 use Rattle.stk_facts.specs.declared.facts.Constancy.TheVariants.{Varies, Violates, Number}
 use Rattle.stk_facts.specs.Facts.{Fact, Ruled, Breaks, Fits, names_type}
-use Rattle.stk_facts.specs.Outcome.{Outcome, Good, Refused, and_then, finish}
+use Rattle.stk_facts.specs.Outcome.{Outcome, Good, and_then, finish}
 use Rattle.stk_rules.specs.Types.{is_complete}
 use Rattle.stk_declarators.specs.Parameters.{array_parts}
-use Rattle.stk_declarators.specs.Tails.{TailShape, of_arrays, of_function, tail_typed}
+use Rattle.stk_declarators.specs.Tails.{TailShape, tail_typed}
 use Rattle.stk_scope.specs.declared.arrays.Size.{Size}
 use Rattle.stk_scope.specs.Bases.{base_rule}
 use Rattle.stk_scope.specs.Arrays.{starred, declared_type}
@@ -37,15 +37,15 @@ use Rattle.stk_tags.specs.Uses.{base_uses, declarator_uses, dimensions_uses, exp
 use Rattle.stk_agree.specs.Making.{made, made_signature}
 use Rattle.stk_declare.specs.Tags.{at_file, with_struct, past, behind_uses}
 use Rattle.stk_declare.specs.Bases.{Based, plain_declared}
-use Rattle.stk_declare.specs.Enumerations.{Enumerated, none_enumerated, enumeration_rule, tag_before, with_number, with_value, enumerator_declared, enumerators_declared, enumeration_declared, with_enumeration}
-use Rattle.stk_declare.specs.Structs.{Membered, Opening, opening_new, opening, opening_named, struct_rule, member_name, has_member, is_empty, may_be_member, member_made, member_rule, member_size_first, with_member, member_typed, member_declarator, member_declarators, struct_closed, base_declared, form_declared, members_declared, member_declared, ends_members, ends_declarators}
+use Rattle.stk_declare.specs.Enumerations.{Enumerated, none_enumerated, enumeration_rule, tag_before, with_value, enumerator_declared, enumerators_declared, enumeration_declared, with_enumeration}
+use Rattle.stk_declare.specs.Structs.{Membered, Opening, opening_new, opening, opening_named, struct_rule, member_name, has_member, is_empty, may_be_member, member_made, member_rule, member_size_first, with_member, member_typed, member_declarator, member_declarators, struct_closed, base_declared, form_declared, members_declared, member_declared, ends_members}
 use Rattle.stk_declare.specs.Declaring.{declared_name, count_for, made_for, definition_rule, definition_word, head_declared, declarator_declared, declarators_declared, declaration_declared, definition_declared, unit_declared}
-use Rattle.stk_declare.specs.Symbols.{is_open_array, was_marked, agreement, meaning, holding, says_more, added, sort_of, declarator_rule, lacks_size, size_first}
+use Rattle.stk_declare.specs.Symbols.{is_open_array, was_marked, agreement, meaning, holding, says_more, added, sort_of, declarator_rule, lacks_size}
 use Rattle.stk_declare.specs.declared.symbols.Sort.{Sort}
-use Rattle.stk_declare_laws.specs.Orderly.{DeclaresObject, HaveObjectTypes, AreSized, GivesMembers, AreOrderly, UnitsKeepOrder}
+use Rattle.stk_declare_laws.specs.Orderly.{DeclaresObject, HaveObjectTypes, GivesMembers, AreOrderly, UnitsKeepOrder}
 use Rattle.stk_declare_laws.proofs.Leaving.{Leaves, good, refused, then_leaves, behind_leaves, left_by, leaves_less}
-use Rattle.stk_declare_laws.proofs.Sorts.{Held, held, passed, not_broken, HasEarlier, added_objects}
-use Rattle.stk_declare_laws.proofs.Growth.{Keeps, Kept, kept_same, kept_then, kept_one, AllSized, SizedSoFar, all_sized_stays, all_sized_append, sized_append, sized_so_far}
+use Rattle.stk_declare_laws.proofs.Sorts.{held, passed, not_broken, HasEarlier, added_objects}
+use Rattle.stk_declare_laws.proofs.Growth.{Kept, kept_same, kept_then, kept_one, AllSized, SizedSoFar, all_sized_stays, all_sized_append, sized_append, sized_so_far}
 
 -- ---- what a name means
 

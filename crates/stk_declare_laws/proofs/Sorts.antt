@@ -1,20 +1,17 @@
 -- What a declarator of file scope declares as an object has a type of one, and what it declares as a function has the type of one.
-use Rattle.std.proofs.Common.{◌≡◌, ℕ, Bool, true, false, not, ◌||◌, ◌&&◌, ◌++◌, List, [], ◌∷◌, Option, Some, None, refl, sym, ap, ◌∙◌, subst}
-use Rattle.std.specs.Prelude.{if◌then◌else◌, nat_le, ℤ, pos}
-use Rattle.stk_ctype.specs.declared.ctype.CType.{CType}
+use Rattle.std.proofs.Common.{◌≡◌, ℕ, Bool, true, false, ◌||◌, ◌&&◌, List, [], ◌∷◌, Option, Some, None, refl, sym, ap, subst}
+use Rattle.std.specs.Prelude.{if◌then◌else◌, nat_le, pos}
 use Rattle.stk_ctype.specs.declared.symbol.Symbol.{Symbol}
 use Rattle.stk_ctype.specs.declared.symbol.Symbol.TheVariants as symbol
-use Rattle.stk_ctype.specs.declared.symbol.NameEntry.{NameEntry}
 use Rattle.stk_ctype.specs.declared.symbol.NameEntry.TheVariants as entry
-use Rattle.stk_ctype.specs.Types.{TypeTree, void_type, integer_type, pointer_type, array_type, struct_type, function_type, SignatureTree, type_of, signature_of}
+use Rattle.stk_ctype.specs.Types.{TypeTree, void_type, integer_type, pointer_type, array_type, struct_type, function_type, type_of}
 use Rattle.stk_ctype.specs.Structs.{Structs, size_of, size_limit}
-use Rattle.stk_ctype.proofs.Views.{view_void, view_integer, view_pointer, view_array, view_struct, view_function}
+use Rattle.stk_ctype.proofs.Views.{view_integer, view_pointer, view_array, view_struct}
 use Rattle.stk_tree.specs.declared.declaration.Storage.{Storage}
 use Rattle.stk_tree.specs.declared.declaration.Storage.TheVariants as storage
 use Rattle.stk_tree.specs.Syntax.{MaybeInitTree}
 use Rattle.stk_facts.specs.declared.facts.Constancy.TheVariants.{Number}
 use Rattle.stk_facts.specs.Facts.{Fact, Ruled, Breaks, Fits, declares}
-use Rattle.stk_rules.specs.Types.{is_complete, is_void}
 use Rattle.stk_scope.specs.declared.arrays.Size.{Size}
 use Rattle.stk_scope.specs.declared.arrays.Size.TheVariants.{Open, Sized}
 use Rattle.stk_scope.specs.Arrays.{count_of, fitting, array_within, around, nested, lacks_element, declared_as, declared_type}
@@ -23,10 +20,10 @@ use Rattle.stk_declarators.specs.Parameters.{Parameter, have_unnamed}
 use Rattle.stk_declarators.specs.Tails.{TailShape, of_arrays, of_function, counted_sizes, tail_type}
 use Rattle.stk_agree.specs.declared.agreement.Agreement.{Agreement}
 use Rattle.stk_agree.specs.declared.agreement.Agreement.TheVariants.{Differ, Old, New}
-use Rattle.stk_agree.specs.Making.{made, made_signature}
+use Rattle.stk_agree.specs.Making.{made}
 use Rattle.stk_declare.specs.declared.symbols.Sort.{Sort}
 use Rattle.stk_declare.specs.declared.symbols.Sort.TheVariants as sort
-use Rattle.stk_declare.specs.Symbols.{sort_by_type, sort_by_tail, sort_of, clashes, agreement, may_be_object, may_be, may_begin, agreed_rule, made_rule, declarator_rule, size_first, was_marked, marked, signature_in, function_meaning, meaning, holding, says_more, added}
+use Rattle.stk_declare.specs.Symbols.{sort_by_type, sort_by_tail, sort_of, clashes, agreement, may_be_object, may_be, may_begin, agreed_rule, made_rule, declarator_rule, size_first, was_marked, signature_in, function_meaning, meaning, holding, says_more, added}
 use Rattle.stk_declare_laws.specs.Orderly.{is_object_type, HasObjectType, HaveObjectTypes}
 
 -- ---- rules that fit

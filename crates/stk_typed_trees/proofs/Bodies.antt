@@ -1,34 +1,34 @@
 -- What typing gives of the evaluated nodes of statements.
-use Rattle.std.proofs.Common.{◌≡◌, ℕ, ◌+◌, Bool, true, false, not, ◌||◌, ◌&&◌, List, [], ◌∷◌, ◌++◌, length, Option, Some, None, refl, sym, ap, ◌∙◌, subst, arith}
+use Rattle.std.proofs.Common.{◌≡◌, ℕ, ◌+◌, Bool, true, false, ◌||◌, ◌&&◌, List, [], ◌∷◌, ◌++◌, length, Option, Some, None, refl, ap, ◌∙◌, subst}
 use Rattle.std.specs.Prelude.{if◌then◌else◌}
 use Rattle.stk_ctype.specs.declared.kind.IntKind.{IntKind}
 use Rattle.stk_ctype.specs.Types.{TypeTree}
-use Rattle.stk_tree.specs.Syntax.{ExprTree, MaybeExprTree, StartTree, LabelTree, LabelTrees, StmtTree, StmtTrees, MaybeStmtTree, StmtFormTree, PartTree, PartTrees, SectionTree, SectionTrees, DeclarationTree}
+use Rattle.stk_tree.specs.Syntax.{MaybeExprTree, StartTree, LabelTree, LabelTrees, StmtTree, StmtTrees, MaybeStmtTree, StmtFormTree, PartTree, PartTrees, SectionTree, SectionTrees}
 use Rattle.stk_tree.specs.Syntax as s
 use Rattle.stk_tree.specs.Nodes.{expression_nodes, maybe_expression_nodes, start_nodes, labels_nodes, statement_nodes, part_nodes, section_nodes}
 use Rattle.stk_tree.specs.Levels.{comma_level}
 use Rattle.stk_tree.specs.Placed.{expression_placed, start_placed, labels_placed, some_labels, may_precede, statement_placed, statements_placed, statement_form_placed, part_placed, parts_placed, section_placed, sections_placed}
-use Rattle.stk_facts.specs.Facts.{Fact, Ruled, Breaks, Fits, plain}
-use Rattle.stk_facts.specs.Outcome.{Outcome, Good, and_then, finish}
-use Rattle.stk_rules.specs.Types.{decayed, is_scalar, is_struct, is_void, kind_of}
+use Rattle.stk_facts.specs.Facts.{Fact, Breaks, Fits, plain}
+use Rattle.stk_facts.specs.Outcome.{Good, and_then, finish}
+use Rattle.stk_rules.specs.Types.{decayed, is_scalar, is_struct, kind_of}
 use Rattle.stk_scope.specs.Locals.{Local}
 use Rattle.stk_typing.specs.Typing.{expression_typed}
-use Rattle.stk_bodies.specs.Bodies.{Body, with_more, opened, looped, switched}
+use Rattle.stk_bodies.specs.Bodies.{with_more, opened, looped, switched}
 use Rattle.stk_bodies.specs.Locals.{declaration_typed}
 use Rattle.stk_bodies.specs.Sections.{Labelled, unlabelled, carried, labels_typed, section_rule}
-use Rattle.stk_bodies.specs.Statements.{maybe_typed, has_struct, lacks_scalar, discarded_rule, test_rule, switch_rule, for_rule, return_value, return_rule, Started, start_typed, statement_typed, form_typed, maybe_statement_typed, statements_typed, parts_typed, part_typed, sections_typed, section_typed}
+use Rattle.stk_bodies.specs.Statements.{maybe_typed, has_struct, lacks_scalar, discarded_rule, test_rule, switch_rule, for_rule, return_rule, Started, start_typed, statement_typed, form_typed, maybe_statement_typed, statements_typed, parts_typed, part_typed, sections_typed, section_typed}
 use Rattle.stk_runs.specs.Typings.{Typing}
-use Rattle.stk_runs.specs.Visits.{Role, reading, as_test, Site, at_statement, at_section, Visits, both_visits, visit, expression_visits, maybe_visits, start_visits, start_declares, parts_declare, label_visits, labels_visits, statement_visits, statement_form_visits, maybe_statement_visits, statements_visits, parts_visits, part_visits, sections_visits, section_visits}
+use Rattle.stk_runs.specs.Visits.{Role, reading, as_test, Site, at_statement, at_section, both_visits, visit, expression_visits, maybe_visits, start_visits, start_declares, parts_declare, label_visits, labels_visits, statement_visits, statement_form_visits, maybe_statement_visits, statements_visits, parts_visits, part_visits, sections_visits, section_visits}
 use Rattle.stk_run_laws.specs.Sites.{EachSite}
-use Rattle.stk_typed_trees.proofs.Stretches.{Stand, first_stands, rest_stands, finished, steps, given, One, one, Two, two, Three, three, mapped}
+use Rattle.stk_typed_trees.proofs.Stretches.{Stand, first_stands, rest_stands, steps, one, two, three, mapped}
 use Rattle.stk_typed_trees.proofs.Counts.{expression_count}
 use Rattle.stk_typed_trees.proofs.Rulings.{passed, both_true, both_false, denied_true, not_broken, decayed_no_struct, kind_no_struct}
 use Rattle.stk_typed_trees.proofs.From.{maybe_from, start_from, statement_from, statement_form_from, maybe_statement_from, statements_from, parts_from, part_from, sections_from, section_from}
 use Rattle.stk_typed_trees.proofs.Raw.{Part, part_left, part_right, part_scope, RawSite, suits_any}
-use Rattle.stk_typed_trees.proofs.Names.{World, typing, ground, in_force, AreDeclared, declared_append}
+use Rattle.stk_typed_trees.proofs.Names.{World, typing, ground_of, in_force, AreDeclared, declared_append}
 use Rattle.stk_typed_trees.proofs.Expressions.{expression_known}
 use Rattle.stk_typed_trees.proofs.Locals.{Around, body_in, LocalKnown, declaration_known}
-use Rattle.stk_typed_trees.proofs.Statements.{labels_count, maybe_count, declares_only, starts_with, start_count, MaybePlaced, if_placed, for_placed, for_rest, section_rest, statement_count, maybe_statement_count, statements_count, parts_count, part_count, sections_count, section_count}
+use Rattle.stk_typed_trees.proofs.Statements.{labels_count, maybe_count, declares_only, starts_with, start_count, MaybePlaced, if_placed, for_placed, for_rest, section_rest, statement_count, part_count, section_count}
 
 -- ---- rules
 
@@ -64,7 +64,7 @@ return_fits t (Some x) u e = (passed (is_struct x.ty) _ 9 u e).test
 -- ---- expressions of statements
 
 maybe_known : (w : World) (e : MaybeExprTree) (role : Role) (n : ℕ) (ls : List Local) (o : Option Fact) (ts : List Fact) → AreDeclared w ls → maybe_typed (in_force w ls None) e ≡ Good o ts → Stand w.facts n ts → maybe_from n e
-    → Part (maybe_visits (typing w) role e) w.whole → has_struct o ≡ false → EachSite (RawSite (ground w)) (maybe_visits (typing w) role e)
+    → Part (maybe_visits (typing w) role e) w.whole → has_struct o ≡ false → EachSite (RawSite (ground_of w)) (maybe_visits (typing w) role e)
 maybe_known w s.no_expression role n ls o ts declared eq stand from part no_struct = tt
 maybe_known w (s.some_expression e) role n ls o ts declared eq stand from part no_struct =
     let m = mapped (expression_typed (in_force w ls None) e) (λ (x : Fact). Some x) o ts eq in
@@ -94,7 +94,7 @@ switched_around a = record { taken = a.taken; outer = a.outer; returns = a.retur
 -- the first part of a `for`
 record StartKnown (w : World) (x : StartTree) (first : Started) : Type 0 where
   declared : AreDeclared w first.locals
-  sites : has_struct first.value ≡ false → EachSite (RawSite (ground w)) (start_visits (typing w) x)
+  sites : has_struct first.value ≡ false → EachSite (RawSite (ground_of w)) (start_visits (typing w) x)
 
 start_known : (w : World) (x : StartTree) (n : ℕ) (ls : List Local) (a : Around) (first : Started) (ts : List Fact) → start_placed x ≡ true → AreDeclared w ls → start_typed (body_in w ls a) x ≡ Good first ts
     → Stand w.facts n ts → start_from n x → Part (start_visits (typing w) x) w.whole → StartKnown w x first
@@ -113,12 +113,12 @@ start_known w (s.start_expression e) n ls a first ts placed declared eq stand fr
 
 mutual
   pub statement_known : (w : World) (x : StmtTree) (arm : Bool) (n : ℕ) (ls : List Local) (a : Around) (u : Fact) (ts : List Fact) → statement_placed x ≡ true → AreDeclared w ls → statement_typed (body_in w ls a) x ≡ Good u ts
-      → Stand w.facts n ts → statement_from n x → Part (statement_visits (typing w) arm x) w.whole → EachSite (RawSite (ground w)) (statement_visits (typing w) arm x)
+      → Stand w.facts n ts → statement_from n x → Part (statement_visits (typing w) arm x) w.whole → EachSite (RawSite (ground_of w)) (statement_visits (typing w) arm x)
   statement_known w (s.statement node f) arm n ls a u ts placed declared eq stand from part =
       (form_known w f node.number n ls a u ts placed declared eq stand from (part_left (statement_form_visits (typing w) f) (visit (at_statement node.number arm f)) part), tt)
 
   form_known : (w : World) (f : StmtFormTree) (k n : ℕ) (ls : List Local) (a : Around) (u : Fact) (ts : List Fact) → statement_form_placed f ≡ true → AreDeclared w ls → form_typed (body_in w ls a) k f ≡ Good u ts
-      → Stand w.facts n ts → statement_form_from n f → Part (statement_form_visits (typing w) f) w.whole → EachSite (RawSite (ground w)) (statement_form_visits (typing w) f)
+      → Stand w.facts n ts → statement_form_from n f → Part (statement_form_visits (typing w) f) w.whole → EachSite (RawSite (ground_of w)) (statement_form_visits (typing w) f)
   form_known w (s.block ps) k n ls a u ts placed declared eq stand from part =
       let o = one (parts_typed (opened (body_in w ls a)) ps) (λ v. Fits plain) k u ts eq in
       parts_known w ps n ls (opened_around ls a) o.value o.first placed declared o.gives (first_stands w.facts n ts o.first (u ∷ []) o.all stand) from (part_scope (parts_declare ps) (parts_visits (typing w) ps) part)
@@ -214,14 +214,14 @@ mutual
       maybe_known w e reading n ls o.value o.first declared o.gives (first_stands w.facts n ts o.first (u ∷ []) o.all stand) from part (return_fits a.returns o.value u o.rule)
 
   maybe_statement_known : (w : World) (y : MaybeStmtTree) (n : ℕ) (ls : List Local) (a : Around) (u : Unit {0}) (ts : List Fact) → MaybePlaced y → AreDeclared w ls → maybe_statement_typed (body_in w ls a) y ≡ Good u ts
-      → Stand w.facts n ts → maybe_statement_from n y → Part (maybe_statement_visits (typing w) y) w.whole → EachSite (RawSite (ground w)) (maybe_statement_visits (typing w) y)
+      → Stand w.facts n ts → maybe_statement_from n y → Part (maybe_statement_visits (typing w) y) w.whole → EachSite (RawSite (ground_of w)) (maybe_statement_visits (typing w) y)
   maybe_statement_known w s.no_statement n ls a u ts placed declared eq stand from part = tt
   maybe_statement_known w (s.some_statement x) n ls a u ts placed declared eq stand from part =
       let m = mapped (statement_typed (body_in w ls a) x) (λ (v : Fact). tt) u ts eq in
       statement_known w x true n ls a m.value ts placed declared m.gives stand from part
 
   statements_known : (w : World) (xs : StmtTrees) (n : ℕ) (ls : List Local) (a : Around) (u : Unit {0}) (ts : List Fact) → statements_placed xs ≡ true → AreDeclared w ls → statements_typed (body_in w ls a) xs ≡ Good u ts
-      → Stand w.facts n ts → statements_from n xs → Part (statements_visits (typing w) xs) w.whole → EachSite (RawSite (ground w)) (statements_visits (typing w) xs)
+      → Stand w.facts n ts → statements_from n xs → Part (statements_visits (typing w) xs) w.whole → EachSite (RawSite (ground_of w)) (statements_visits (typing w) xs)
   statements_known w s.no_statements n ls a u ts placed declared eq stand from part = tt
   statements_known w (s.then_statement x xs) n ls a u ts placed declared eq stand from part =
       let b = body_in w ls a in
@@ -235,7 +235,7 @@ mutual
       )
 
   pub parts_known : (w : World) (xs : PartTrees) (n : ℕ) (ls : List Local) (a : Around) (u : Unit {0}) (ts : List Fact) → parts_placed xs ≡ true → AreDeclared w ls → parts_typed (body_in w ls a) xs ≡ Good u ts
-      → Stand w.facts n ts → parts_from n xs → Part (parts_visits (typing w) xs) w.whole → EachSite (RawSite (ground w)) (parts_visits (typing w) xs)
+      → Stand w.facts n ts → parts_from n xs → Part (parts_visits (typing w) xs) w.whole → EachSite (RawSite (ground_of w)) (parts_visits (typing w) xs)
   parts_known w s.no_parts n ls a u ts placed declared eq stand from part = tt
   parts_known w (s.then_part x xs) n ls a u ts placed declared eq stand from part =
       let b = body_in w ls a in
@@ -255,7 +255,7 @@ mutual
       record { declared = subst (AreDeclared w) m.is tt; sites = statement_known w x false n ls a m.value ts placed declared m.gives stand from part }
 
   sections_known : (w : World) (xs : SectionTrees) (n : ℕ) (ls : List Local) (a : Around) (kind : Option IntKind) (l m : Labelled) (ts : List Fact) → sections_placed xs ≡ true → AreDeclared w ls → sections_typed (body_in w ls a) kind l xs ≡ Good m ts
-      → Stand w.facts n ts → sections_from n xs → Part (sections_visits (typing w) xs) w.whole → EachSite (RawSite (ground w)) (sections_visits (typing w) xs)
+      → Stand w.facts n ts → sections_from n xs → Part (sections_visits (typing w) xs) w.whole → EachSite (RawSite (ground_of w)) (sections_visits (typing w) xs)
   sections_known w s.no_sections n ls a kind l m ts placed declared eq stand from part = tt
   sections_known w (s.then_section x xs) n ls a kind l m ts placed declared eq stand from part =
       let b = body_in w ls a in
@@ -270,7 +270,7 @@ mutual
       )
 
   section_known : (w : World) (x : SectionTree) (n : ℕ) (ls : List Local) (a : Around) (kind : Option IntKind) (l m : Labelled) (ts : List Fact) → section_placed x ≡ true → AreDeclared w ls → section_typed (body_in w ls a) kind l x ≡ Good m ts
-      → Stand w.facts n ts → section_from n x → Part (section_visits (typing w) x) w.whole → EachSite (RawSite (ground w)) (section_visits (typing w) x)
+      → Stand w.facts n ts → section_from n x → Part (section_visits (typing w) x) w.whole → EachSite (RawSite (ground_of w)) (section_visits (typing w) x)
   section_known w (s.section node labels xs) n ls a kind l m ts placed declared eq stand from part =
       let b = body_in w ls a in
       let p = both_true (some_labels labels && labels_placed labels) (statements_placed xs) placed in
@@ -280,6 +280,6 @@ mutual
       let vb = statements_visits (typing w) xs in
       let vc = visit (at_section node.number labels) in
       let stand_b = rest_stands w.facts n (labels_nodes labels) ts o.first o.rest o.all ((labels_count labels (in_force w ls None) kind (carried l)).by o.value o.first o.gives) stand in (
-        labels_each (RawSite (ground w)) (typing w) labels,
+        labels_each (RawSite (ground_of w)) (typing w) labels,
         (statements_known w xs (n + labels_nodes labels) ls a q.value q.first p.1 declared q.gives (first_stands w.facts (n + labels_nodes labels) o.rest q.first q.rest q.all stand_b) from (part_left vb vc (part_right va (both_visits vb vc) part)), tt),
       )

@@ -1,26 +1,25 @@
 -- What a call that fits tells of what it calls and of its arguments (C11 6.5.2.2).
-use Rattle.std.proofs.Common.{◌≡◌, ℕ, Bool, true, false, ◌||◌, ◌&&◌, List, [], ◌∷◌, Option, Some, None, refl, sym, ap, ◌∙◌, subst}
+use Rattle.std.proofs.Common.{◌≡◌, ℕ, Bool, false, ◌||◌, List, [], Option, Some, None, refl, sym, ap, ◌∙◌}
 use Rattle.std.specs.Prelude.{if◌then◌else◌, option_and_then}
 use Rattle.stk_base.specs.declared.span.Span.{Span}
 use Rattle.stk_base.specs.Text.{text_of}
 use Rattle.stk_ctype.specs.declared.symbol.Symbol.{Symbol}
 use Rattle.stk_ctype.specs.declared.symbol.Symbol.TheVariants as symbol
-use Rattle.stk_ctype.specs.Types.{TypeTree, void_type, TypeTrees, SignatureTree, signature, signature_of}
+use Rattle.stk_ctype.specs.Types.{TypeTree, TypeTrees, SignatureTree, signature}
 use Rattle.stk_ctype.specs.Names.{find}
 use Rattle.stk_tree.specs.Syntax.{ExprTree, ExprFormTree}
 use Rattle.stk_tree.specs.Syntax as s
-use Rattle.stk_facts.specs.Facts.{Fact, Ruled, Breaks, Fits, value}
+use Rattle.stk_facts.specs.Facts.{Fact, Breaks, Fits, value}
 use Rattle.stk_facts.specs.Outcome.{Outcome, Good, and_then, finish}
 use Rattle.stk_rules.specs.Types.{is_struct}
 use Rattle.stk_scope.specs.Locals.{Local, find_local}
-use Rattle.stk_scope.specs.Scope.{Scope, callee_rule, signature_named, signature_as}
-use Rattle.stk_scope.specs.Scope.{signature_in as scope_signature}
+use Rattle.stk_scope.specs.Scope.{callee_rule, signature_named, signature_as}
 use Rattle.stk_typing.specs.declared.calls.Arguments.{Arguments}
-use Rattle.stk_typing.specs.Calls.{no_argument, with_argument, parameter_count, takes, call_result, called, call_rule, name_in, callee_by}
+use Rattle.stk_typing.specs.Calls.{parameter_count, takes, call_result, called, call_rule, name_in, callee_by}
 use Rattle.stk_typing.specs.Typing.{form_typed, callee_typed}
 use Rattle.stk_runs.specs.Typings.{signature_in}
 use Rattle.stk_runs.specs.Libraries.{called_form as called_form_name, called_name, called_signature, result_in}
-use Rattle.stk_typed_trees.proofs.Stretches.{Mapped, mapped}
+use Rattle.stk_typed_trees.proofs.Stretches.{mapped}
 use Rattle.stk_typed_trees.proofs.Rulings.{held, passed, both_false, not_broken, same_fact}
 use Rattle.stk_typed_trees.proofs.Names.{World, typing, in_force}
 

@@ -1,24 +1,21 @@
 -- Typing gives an expression one fact for each of its nodes, its own the last one.
-use Rattle.std.proofs.Common.{◌≡◌, ℕ, ◌+◌, Bool, true, false, List, [], ◌∷◌, Option, Some, None, refl, sym, ap, ◌∙◌, subst, arith}
+use Rattle.std.proofs.Common.{ℕ, ◌+◌, List, [], ◌∷◌, Option, None, refl}
 use Rattle.stk_base.specs.Text.{text_of}
 use Rattle.stk_ctype.specs.Types.{SignatureTree}
-use Rattle.stk_tree.specs.Syntax.{BaseTree, BaseFormTree, DimensionTree, DimensionTrees, TypeNameTree, ExprTree, ExprTrees, MaybeExprTree, ExprFormTree}
+use Rattle.stk_tree.specs.Syntax.{BaseTree, DimensionTree, DimensionTrees, TypeNameTree, ExprTree, ExprTrees, ExprFormTree}
 use Rattle.stk_tree.specs.Syntax as s
-use Rattle.stk_tree.specs.Nodes.{base_nodes, base_form_nodes, dimension_nodes, dimensions_nodes, type_name_nodes, expression_nodes, expressions_nodes, maybe_expression_nodes, expression_form_nodes}
+use Rattle.stk_tree.specs.Nodes.{base_nodes, dimension_nodes, dimensions_nodes, type_name_nodes, expression_nodes, expressions_nodes, expression_form_nodes}
 use Rattle.stk_facts.specs.Facts.{Fact}
-use Rattle.stk_facts.specs.Outcome.{Outcome, Good, Refused, and_then, finish}
+use Rattle.stk_facts.specs.Outcome.{finish}
 use Rattle.stk_rules.specs.Rules.{paren_rule, dot_rule, arrow_rule, step_rule, unary_rule, index_rule, binary_rule, assign_rule, size_rule, type_size_rule, cast_rule, choice_rule}
 use Rattle.stk_scope.specs.declared.arrays.Size.{Size}
 use Rattle.stk_scope.specs.declared.arrays.Size.TheVariants.{Open, Sized}
-use Rattle.stk_scope.specs.Scope.{Scope, unevaluated, name_rule, callee_rule, signature_named}
-use Rattle.stk_scope.specs.Literals.{number_rule, character_rule, text_rule}
-use Rattle.stk_scope.specs.Bases.{base_rule}
+use Rattle.stk_scope.specs.Scope.{Scope, unevaluated, callee_rule, signature_named}
 use Rattle.stk_scope.specs.Arrays.{starred, sized_type}
-use Rattle.stk_typing.specs.declared.calls.Arguments.{Arguments}
 use Rattle.stk_typing.specs.Forms.{structs_in}
 use Rattle.stk_typing.specs.Calls.{no_argument, with_argument, call_rule, name_in, callee_by}
 use Rattle.stk_typing.specs.Typing.{base_typed, expression_typed, form_typed, callee_typed, arguments_typed, type_name_typed, dimension_typed, dimensions_typed}
-use Rattle.stk_typed_trees.proofs.Stretches.{Counts, counts_then, counts_own, counts_given, counts_refused, counts_one, counts_two, counts_three, counts_mapped, counts_joined, Ends, ends_own, ends_one, ends_two, ends_three}
+use Rattle.stk_typed_trees.proofs.Stretches.{Counts, counts_own, counts_given, counts_refused, counts_one, counts_two, counts_three, counts_mapped, counts_joined, Ends, ends_own, ends_one, ends_two, ends_three}
 
 -- ---- a node's own fact is the last one
 

@@ -1,42 +1,41 @@
 -- What typing gives of the evaluated nodes of an expression.
-use Rattle.std.proofs.Common.{◌≡◌, ◌≤◌, ℕ, ◌+◌, ◌⊎◌, Bool, true, false, ◌||◌, ◌&&◌, List, [], ◌∷◌, ◌++◌, length, Option, Some, None, refl, sym, ap, ◌∙◌, subst, inl, inr, arith}
-use Rattle.std.specs.Prelude.{if◌then◌else◌, unwrap_or, map}
+use Rattle.std.proofs.Common.{◌≡◌, ◌≤◌, ℕ, ◌+◌, Bool, true, false, ◌||◌, List, [], ◌∷◌, Option, Some, None, refl, sym, ap, ◌∙◌, subst, inl, inr, arith}
+use Rattle.std.specs.Prelude.{if◌then◌else◌, map}
 use Rattle.std.specs.Option.{option_map_or}
 use Rattle.stk_base.specs.declared.span.Span.{Span}
 use Rattle.stk_base.specs.Text.{text_of}
 use Rattle.stk_ctype.specs.declared.ctype.CType.{CType}
-use Rattle.stk_ctype.specs.declared.kind.IntKind.TheVariants as kind
-use Rattle.stk_ctype.specs.Types.{TypeTree, integer_type, array_type, type_of}
-use Rattle.stk_ctype.specs.Structs.{size_limit, member_of, structs_of}
+use Rattle.stk_ctype.specs.Types.{TypeTree, type_of}
+use Rattle.stk_ctype.specs.Structs.{member_of, structs_of}
 use Rattle.stk_tree.specs.declared.expression.UnaryOp.{UnaryOp}
 use Rattle.stk_tree.specs.declared.expression.UnaryOp.TheVariants as unary
 use Rattle.stk_tree.specs.Syntax.{ExprTree, ExprTrees, ExprFormTree, TypeNameTree, DimensionTree, DimensionTrees}
 use Rattle.stk_tree.specs.Syntax as s
-use Rattle.stk_tree.specs.Nodes.{expression_nodes, expressions_nodes, expression_form_nodes, type_name_nodes}
+use Rattle.stk_tree.specs.Nodes.{expression_nodes, expression_form_nodes, type_name_nodes}
 use Rattle.stk_constants.specs.Strings.{string_bytes}
-use Rattle.stk_facts.specs.Facts.{Fact, fact_at, Ruled, Breaks, Fits, place}
+use Rattle.stk_facts.specs.Facts.{Fact, fact_at, Fits, place}
 use Rattle.stk_facts.specs.Outcome.{Good}
-use Rattle.stk_rules.specs.Types.{is_scalar, is_struct, kind_of, pointee}
-use Rattle.stk_rules.specs.Rules.{paren_rule, dot_rule, arrow_rule, step_rule, unary_rule, index_rule, binary_rule, assign_rule, size_rule, type_size_rule, cast_rule, choice_rule, promoted_rule}
+use Rattle.stk_rules.specs.Types.{is_scalar, is_struct, kind_of}
+use Rattle.stk_rules.specs.Rules.{paren_rule, dot_rule, arrow_rule, step_rule, unary_rule, index_rule, binary_rule, assign_rule, cast_rule, choice_rule}
 use Rattle.stk_rules.specs.Constants.{converted, negated, flipped}
 use Rattle.stk_scope.specs.Locals.{Local}
-use Rattle.stk_scope.specs.Scope.{unevaluated}
-use Rattle.stk_scope.specs.Literals.{string_of, text_as, text_rule}
+use Rattle.stk_scope.specs.Literals.{text_as, text_rule}
 use Rattle.stk_typing.specs.declared.calls.Arguments.{Arguments}
 use Rattle.stk_typing.specs.Calls.{with_argument, call_rule}
 use Rattle.stk_typing.specs.Typing.{expression_typed, form_typed, callee_typed, arguments_typed, type_name_typed}
 use Rattle.stk_runs.specs.Typings.{Typing, node_of, type_in, is_array, object_size}
-use Rattle.stk_runs.specs.Libraries.{called_signature, result_in}
-use Rattle.stk_runs.specs.Visits.{Use, read, accessed, taken, Role, reading, accessing, taking, as_arm, as_test, accesses, inner_role, inside, indexed_role, unary_role, left_role, right_role, assigned_role, Site, at_expression, Visits, both_visits, visit}
+use Rattle.stk_runs.specs.Libraries.{result_in}
+use Rattle.stk_runs.specs.Visits.{Use, Role, reading, accessing, taking, as_arm, as_test, accesses, inner_role, inside, indexed_role, unary_role, left_role, right_role, assigned_role, Site, at_expression, both_visits, visit}
 use Rattle.stk_runs.specs.Visits.{expression_visits, form_visits, arguments_visits, type_name_visits, dimensions_visits, dimension_visits}
 use Rattle.stk_run_laws.specs.Sites.{EachSite}
 use Rattle.stk_gathering.specs.TypedTree.{IsReadWhole, IsTypedUnary}
-use Rattle.stk_typed_trees.proofs.Stretches.{Stand, first_stands, rest_stands, last_stands, finished, steps, given, One, one, Two, two, Three, three, mapped}
+use Rattle.stk_typed_trees.proofs.Stretches.{Stand, first_stands, rest_stands, last_stands, finished, steps, one, two, three, mapped}
 use Rattle.stk_typed_trees.proofs.Counts.{form_ends, expression_count, called_count, type_name_count}
-use Rattle.stk_typed_trees.proofs.Rulings.{is_object, both_false, not_broken, same_fact, held, promoted_fits, scalar_no_struct, pointee_no_struct, index_fits, dot_fits, arrow_fits, step_fits, assign_fits, not_fits, deref_fits, cast_fits, binary_fits, choice_fits, paren_fits}
+use Rattle.stk_declare_laws.specs.Orderly.{is_object_type}
+use Rattle.stk_typed_trees.proofs.Rulings.{both_false, not_broken, same_fact, held, promoted_fits, scalar_no_struct, pointee_no_struct, index_fits, dot_fits, arrow_fits, step_fits, assign_fits, not_fits, deref_fits, cast_fits, binary_fits, choice_fits, paren_fits}
 use Rattle.stk_typed_trees.proofs.From.{expression_from, form_from, expressions_from}
 use Rattle.stk_typed_trees.proofs.Raw.{Occurs, Part, part_left, part_right, RawPlace, RawPlaceForm, RawForm, RawSite, Suits, read_whole, suits_any}
-use Rattle.stk_typed_trees.proofs.Names.{World, typing, ground, in_force, AreDeclared, IsPlace, place_part, name_known}
+use Rattle.stk_typed_trees.proofs.Names.{World, typing, ground_of, in_force, AreDeclared, IsPlace, place_part, name_known}
 use Rattle.stk_typed_trees.proofs.Calls.{call_fits, callee_is}
 
 -- ---- what isn't evaluated
@@ -67,20 +66,20 @@ inner_suits whole u t = by (accesses whole u)
 -- stored to or a struct, it is a place by name, if it is one, as it is asked
 pub record Known (w : World) (role : Role) (e : ExprTree) (x : Fact) : Type 0 where
   pub at : fact_at w.facts (node_of e) ≡ x
-  pub sites : Suits role.use_of x.ty → EachSite (RawSite (ground w)) (expression_visits (typing w) role e)
-  pub place : IsPlace x → RawPlace (ground w) e
+  pub sites : Suits role.use_of x.ty → EachSite (RawSite (ground_of w)) (expression_visits (typing w) role e)
+  pub place : IsPlace x → RawPlace (ground_of w) e
 
 pub type_known : (w : World) (role : Role) (e : ExprTree) (x : Fact) → Known w role e x → type_in (typing w) e ≡ x.ty
 type_known w role e x k = ap (λ (z : Fact). z.ty) k.at
 
 -- the same of the form of a node
 record Formed (w : World) (k : ℕ) (role : Role) (f : ExprFormTree) (x : Fact) : Type 0 where
-  inner : Suits role.use_of x.ty → EachSite (RawSite (ground w)) (form_visits (typing w) k role f)
-  own : Suits role.use_of x.ty → RawForm (ground w) k role f
-  place : IsPlace x → RawPlaceForm (ground w) k f
+  inner : Suits role.use_of x.ty → EachSite (RawSite (ground_of w)) (form_visits (typing w) k role f)
+  own : Suits role.use_of x.ty → RawForm (ground_of w) k role f
+  place : IsPlace x → RawPlaceForm (ground_of w) k f
 
 -- a place that is read is one whole
-read_at : (w : World) (k : ℕ) (u : Use) (x : Fact) → fact_at w.facts k ≡ x → is_object x.ty ≡ true → Suits u x.ty → IsReadWhole ((typing w).type_at k) u
+read_at : (w : World) (k : ℕ) (u : Use) (x : Fact) → fact_at w.facts k ≡ x → is_object_type x.ty ≡ true → Suits u x.ty → IsReadWhole ((typing w).type_at k) u
 read_at w k u x here object suits = subst (λ (z : Fact). IsReadWhole z.ty u) (sym here) (read_whole u x.ty object suits)
 
 -- ---- unary operators
@@ -93,7 +92,7 @@ of_unary : (w : World) (k : ℕ) (role : Role) (op : UnaryOp) (x y : Fact) → f
 of_unary w k role unary.Address x y here e = record { operand = tt; own = λ s. tt }
 of_unary w k role unary.Deref x y here e =
     let d = deref_fits (structs_of w.entries) x y e in
-    record { operand = pointee_no_struct x.ty d.target d.points; own = λ s. read_at w k role.use_of y here (subst (λ (z : Fact). is_object z.ty ≡ true) (sym d.is) d.object) s }
+    record { operand = pointee_no_struct x.ty d.target d.points; own = λ s. read_at w k role.use_of y here (subst (λ (z : Fact). is_object_type z.ty ≡ true) (sym d.is) d.object) s }
 of_unary w k role unary.Plus x y here e = record { operand = promoted_fits converted x y (kind_of x.ty) x.constancy refl e; own = λ s. tt }
 of_unary w k role unary.Minus x y here e = record { operand = promoted_fits negated x y (kind_of x.ty) x.constancy refl e; own = λ s. tt }
 of_unary w k role unary.Flip x y here e = record { operand = promoted_fits flipped x y (kind_of x.ty) x.constancy refl e; own = λ s. tt }
@@ -160,7 +159,7 @@ mutual
       let r = index_fits (structs_of w.entries) o.value o.then.value x o.then.rule in
       record {
         inner = λ suits. (p.sites (suits_any left.use_of o.value.ty (pointee_no_struct o.value.ty r.points.target r.points.points)), q.sites r.index);
-        own = λ suits. read_at w k role.use_of x here (subst (λ (z : Fact). is_object z.ty ≡ true) (sym r.points.is) r.points.object) suits;
+        own = λ suits. read_at w k role.use_of x here (subst (λ (z : Fact). is_object_type z.ty ≡ true) (sym r.points.is) r.points.object) suits;
         place = λ z. tt;
       }
   form_known w (s.call f args) k n role ls own x ts declared eq stand from part occurs here =
@@ -181,7 +180,7 @@ mutual
       let lies = w.members o.value.ty (text_of w.bytes at) m.found m.is in
       record {
         inner = λ suits. sub.sites (inner_suits ((typing w).type_at k) role.use_of o.value.ty);
-        own = λ suits. read_at w k role.use_of x here (subst (λ (z : Fact). is_object z.ty ≡ true) (sym m.place) lies.object) suits;
+        own = λ suits. read_at w k role.use_of x here (subst (λ (z : Fact). is_object_type z.ty ≡ true) (sym m.place) lies.object) suits;
         place = λ q. (
           subst (λ t. is_struct t ≡ true) (sym (type_known w inner e o.value sub)) m.struct,
           subst (λ t. (typing w).offset_of t at + object_size (typing w) ((typing w).type_at k) ≤ object_size (typing w) t) (sym (type_known w inner e o.value sub))
@@ -196,7 +195,7 @@ mutual
       let lies = w.members m.target (text_of w.bytes at) m.member.found m.member.is in
       record {
         inner = λ suits. sub.sites (pointee_no_struct o.value.ty m.target m.points);
-        own = λ suits. read_at w k role.use_of x here (subst (λ (z : Fact). is_object z.ty ≡ true) (sym m.member.place) lies.object) suits;
+        own = λ suits. read_at w k role.use_of x here (subst (λ (z : Fact). is_object_type z.ty ≡ true) (sym m.member.place) lies.object) suits;
         place = λ z. tt;
       }
   form_known w (s.step op e) k n role ls own x ts declared eq stand from part occurs here =
@@ -214,13 +213,13 @@ mutual
       let r = of_unary w k role op o.value x here o.rule in
       record { inner = λ suits. sub.sites r.operand; own = r.own; place = λ z. tt }
   form_known w (s.size_expression e) k n role ls own x ts declared eq stand from part occurs here = record { inner = λ suits. tt; own = λ suits. tt; place = λ p. tt }
-  form_known w (s.size_name t) k n role ls own x ts declared eq stand from part occurs here = record { inner = λ suits. type_name_each (RawSite (ground w)) (typing w) t; own = λ suits. tt; place = λ p. tt }
+  form_known w (s.size_name t) k n role ls own x ts declared eq stand from part occurs here = record { inner = λ suits. type_name_each (RawSite (ground_of w)) (typing w) t; own = λ suits. tt; place = λ p. tt }
   form_known w (s.cast t e) k n role ls own x ts declared eq stand from part occurs here =
       let o = two (type_name_typed (in_force w ls own) t) (expression_typed (in_force w ls own) e) (λ (z : Fact). cast_rule z.ty) k x ts eq in
       let stand_b = rest_stands w.facts n (type_name_nodes t) ts o.first o.rest o.all ((type_name_count t (in_force w ls own)).by o.value o.first o.gives) stand in
       let q = expression_known w e (n + type_name_nodes t) reading ls own o.then.value o.then.first declared o.then.gives (first_stands w.facts (n + type_name_nodes t) o.rest o.then.first (x ∷ []) o.then.all stand_b) from (part_right (type_name_visits (typing w) t) (expression_visits (typing w) reading e) part) in
       record {
-        inner = λ suits. (type_name_each (RawSite (ground w)) (typing w) t, q.sites (cast_fits o.value.ty o.then.value x o.then.rule));
+        inner = λ suits. (type_name_each (RawSite (ground_of w)) (typing w) t, q.sites (cast_fits o.value.ty o.then.value x o.then.rule));
         own = λ suits. tt;
         place = λ z. tt;
       }
@@ -266,7 +265,7 @@ mutual
       }
 
   arguments_known : (w : World) (es : ExprTrees) (n : ℕ) (ls : List Local) (own : Option ℕ) (a : Arguments) (ts : List Fact) → AreDeclared w ls → arguments_typed (in_force w ls own) es ≡ Good a ts
-      → Stand w.facts n ts → expressions_from n es → Part (arguments_visits (typing w) es) w.whole → a.has_struct ≡ false → EachSite (RawSite (ground w)) (arguments_visits (typing w) es)
+      → Stand w.facts n ts → expressions_from n es → Part (arguments_visits (typing w) es) w.whole → a.has_struct ≡ false → EachSite (RawSite (ground_of w)) (arguments_visits (typing w) es)
   arguments_known w s.no_expressions n ls own a ts declared eq stand from part plain = tt
   arguments_known w (s.then_expression e es) n ls own a ts declared eq stand from part plain =
       let o = steps (expression_typed (in_force w ls own) e) _ a ts eq in

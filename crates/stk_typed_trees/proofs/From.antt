@@ -1,12 +1,11 @@
 -- Trees whose evaluated nodes are numbered children first from a number on, and that what is laid out is.
-use Rattle.std.proofs.Common.{◌≡◌, ℕ, ◌+◌, List, refl, sym, ap, subst, ◌∙◌, arith}
-use Rattle.std.specs.Prelude.{length}
+use Rattle.std.proofs.Common.{◌≡◌, ℕ, ◌+◌, List, refl, sym, subst}
 use Rattle.stk_base.specs.declared.span.Span.{Span}
 use Rattle.stk_tree.specs.Syntax.{DeclrTree, DeclrTrees, TailTree, ParamTree, ParamTrees, InitTree, MaybeInitTree, ItemTree, ItemTrees, ExprTree, ExprTrees, MaybeExprTree, ExprFormTree}
 use Rattle.stk_tree.specs.Syntax.{DeclarationTree, StartTree, StmtTree, StmtTrees, MaybeStmtTree, StmtFormTree, PartTree, PartTrees, SectionTree, SectionTrees}
 use Rattle.stk_tree.specs.Syntax as s
 use Rattle.stk_tree.specs.Nodes.{base_nodes, declarator_nodes, designators_nodes, expression_form_nodes, expression_nodes, item_nodes, labels_nodes, maybe_expression_nodes, maybe_initialiser_nodes, parameter_nodes, part_nodes, section_nodes, start_nodes, statement_nodes, tail_nodes, type_name_nodes}
-use Rattle.stk_tree.specs.Layout.{node_at, laid_declarator, laid_declarators, laid_tail, laid_parameter, laid_parameters, laid_initialiser, laid_maybe_initialiser, laid_item, laid_items, laid_expression, laid_expressions, laid_maybe_expression, laid_expression_form, laid_declaration, laid_start, laid_statement, laid_statements, laid_maybe_statement, laid_statement_form, laid_part, laid_parts, laid_section, laid_sections}
+use Rattle.stk_tree.specs.Layout.{node_at, laid_declarator, laid_declarators, laid_parameters, laid_initialiser, laid_maybe_initialiser, laid_item, laid_items, laid_expression, laid_expressions, laid_maybe_expression, laid_expression_form, laid_declaration, laid_start, laid_statement, laid_statements, laid_maybe_statement, laid_statement_form, laid_part, laid_parts, laid_section, laid_sections}
 use Rattle.stk_typed_trees.proofs.LaidNodes.{add, base_same, declarator_same, designators_same, expression_same, expression_form_same, item_same, labels_same, maybe_expression_same, maybe_initialiser_same, parameter_same, part_same, section_same, start_same, statement_same, tail_same, type_name_same}
 
 -- ---- expressions: a node's number is behind those of its operands

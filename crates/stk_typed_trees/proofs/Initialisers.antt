@@ -1,11 +1,10 @@
 -- What typing gives of the evaluated nodes of an initialiser.
-use Rattle.std.proofs.Common.{◌≡◌, ℕ, ◌+◌, Bool, true, false, ◌||◌, List, [], ◌∷◌, ◌++◌, Option, Some, None, refl, sym, ap, ◌∙◌, subst, arith}
+use Rattle.std.proofs.Common.{◌≡◌, ℕ, ◌+◌, false, List, [], Option, refl, ap, ◌∙◌}
 use Rattle.stk_tree.specs.Syntax.{InitTree, ItemTree, ItemTrees, DesigTree, DesigTrees}
 use Rattle.stk_tree.specs.Syntax as s
 use Rattle.stk_tree.specs.Nodes.{initialiser_nodes, item_nodes, items_nodes, designator_nodes, designators_nodes}
 use Rattle.stk_facts.specs.Facts.{Fact}
-use Rattle.stk_facts.specs.Outcome.{Outcome, Good, and_then}
-use Rattle.stk_rules.specs.Types.{is_struct}
+use Rattle.stk_facts.specs.Outcome.{Good, and_then}
 use Rattle.stk_scope.specs.Locals.{Local}
 use Rattle.stk_scope.specs.Scope.{Scope, unevaluated}
 use Rattle.stk_typing.specs.Typing.{expression_typed}
@@ -20,7 +19,7 @@ use Rattle.stk_typed_trees.proofs.Counts.{expression_count}
 use Rattle.stk_typed_trees.proofs.Rulings.{both_false}
 use Rattle.stk_typed_trees.proofs.From.{initialiser_from, items_from, item_from}
 use Rattle.stk_typed_trees.proofs.Raw.{Part, part_left, part_right, RawSite}
-use Rattle.stk_typed_trees.proofs.Names.{World, typing, ground, in_force, AreDeclared}
+use Rattle.stk_typed_trees.proofs.Names.{World, typing, ground_of, in_force, AreDeclared}
 use Rattle.stk_typed_trees.proofs.Expressions.{expression_known}
 
 -- ---- one fact for each node
@@ -59,21 +58,21 @@ designators_each P ty (s.then_designator d ds) = (designator_each P ty d, design
 
 mutual
   pub initialiser_known : (w : World) (i : InitTree) (n : ℕ) (ls : List Local) (own : Option ℕ) (leaves : Leaves) (ts : List Fact) → AreDeclared w ls → initialiser_typed (in_force w ls own) i ≡ Good leaves ts
-      → Stand w.facts n ts → initialiser_from n i → Part (initialiser_visits (typing w) i) w.whole → leaves.has_struct ≡ false → EachSite (RawSite (ground w)) (initialiser_visits (typing w) i)
+      → Stand w.facts n ts → initialiser_from n i → Part (initialiser_visits (typing w) i) w.whole → leaves.has_struct ≡ false → EachSite (RawSite (ground_of w)) (initialiser_visits (typing w) i)
   initialiser_known w (s.plain e) n ls own leaves ts declared eq stand from part plain =
       let m = mapped (expression_typed (in_force w ls own) e) leaf leaves ts eq in
       (expression_known w e n reading ls own m.value ts declared m.gives stand from part).sites (ap (λ (z : Leaves). z.has_struct) m.is ∙ plain)
   initialiser_known w (s.braces items comma) n ls own leaves ts declared eq stand from part plain = items_known w items n ls own leaves ts declared eq stand from part plain
 
   item_known : (w : World) (x : ItemTree) (n : ℕ) (ls : List Local) (own : Option ℕ) (leaves : Leaves) (ts : List Fact) → AreDeclared w ls → item_typed (in_force w ls own) x ≡ Good leaves ts
-      → Stand w.facts n ts → item_from n x → Part (item_visits (typing w) x) w.whole → leaves.has_struct ≡ false → EachSite (RawSite (ground w)) (item_visits (typing w) x)
+      → Stand w.facts n ts → item_from n x → Part (item_visits (typing w) x) w.whole → leaves.has_struct ≡ false → EachSite (RawSite (ground_of w)) (item_visits (typing w) x)
   item_known w (s.item ds i) n ls own leaves ts declared eq stand from part plain =
       let o = steps (designators_typed (unevaluated (in_force w ls own)) ds) (λ u. initialiser_typed (in_force w ls own) i) leaves ts eq in
       let stand_b = rest_stands w.facts n (designators_nodes ds) ts o.first o.rest o.all ((designators_count ds (unevaluated (in_force w ls own))).by o.value o.first o.gives) stand in
-      (designators_each (RawSite (ground w)) (typing w) ds, initialiser_known w i (n + designators_nodes ds) ls own leaves o.rest declared o.then stand_b from (part_right (designators_visits (typing w) ds) (initialiser_visits (typing w) i) part) plain)
+      (designators_each (RawSite (ground_of w)) (typing w) ds, initialiser_known w i (n + designators_nodes ds) ls own leaves o.rest declared o.then stand_b from (part_right (designators_visits (typing w) ds) (initialiser_visits (typing w) i) part) plain)
 
   items_known : (w : World) (xs : ItemTrees) (n : ℕ) (ls : List Local) (own : Option ℕ) (leaves : Leaves) (ts : List Fact) → AreDeclared w ls → items_typed (in_force w ls own) xs ≡ Good leaves ts
-      → Stand w.facts n ts → items_from n xs → Part (items_visits (typing w) xs) w.whole → leaves.has_struct ≡ false → EachSite (RawSite (ground w)) (items_visits (typing w) xs)
+      → Stand w.facts n ts → items_from n xs → Part (items_visits (typing w) xs) w.whole → leaves.has_struct ≡ false → EachSite (RawSite (ground_of w)) (items_visits (typing w) xs)
   items_known w s.no_items n ls own leaves ts declared eq stand from part plain = tt
   items_known w (s.then_item x xs) n ls own leaves ts declared eq stand from part plain =
       let o = steps (item_typed (in_force w ls own) x) (λ a. and_then (items_typed (in_force w ls own) xs) (λ b. Good (merged a b) [])) leaves ts eq in

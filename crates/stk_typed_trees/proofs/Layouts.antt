@@ -1,7 +1,7 @@
 -- A member lies within its struct, and has a type that an object has (C11 6.7.2.1).
-use Rattle.std.proofs.Common.{◌≡◌, ◌≤◌, ◌<◌, ◌+◌, ◌⊎◌, ℕ, zero, suc, Bool, true, false, ◌||◌, List, [], ◌∷◌, ◌++◌, Option, Some, None, IsSome, length, refl, sym, ap, subst, ◌∙◌, inl, inr, arith}
+use Rattle.std.proofs.Common.{◌≡◌, ◌≤◌, ◌+◌, ◌⊎◌, ℕ, zero, suc, Bool, true, false, ◌||◌, List, [], ◌∷◌, ◌++◌, Option, Some, None, IsSome, refl, sym, ap, subst, ◌∙◌, inl, inr, arith}
 use mathlib.Core.Logic.{⊎_elim}
-use Rattle.std.specs.Prelude.{IfSome, if◌then◌else◌, slice_index_or, slice_set, unwrap_or}
+use Rattle.std.specs.Prelude.{IfSome, if◌then◌else◌, slice_set, unwrap_or}
 use Rattle.std.specs.Option.{option_map, option_map_or}
 use Rattle.std.proofs.lemmas.Bool.{cases_eq}
 use Rattle.std.proofs.lemmas.List.{get_or-set_same, get_or-set_other}
@@ -10,48 +10,15 @@ use Rattle.stk_ctype.specs.declared.ctype.CType.{CType}
 use Rattle.stk_ctype.specs.declared.symbol.MemberInfo.{MemberInfo}
 use Rattle.stk_ctype.specs.declared.symbol.NameEntry.{NameEntry}
 use Rattle.stk_ctype.specs.declared.symbol.NameEntry.TheVariants as entry
-use Rattle.stk_ctype.specs.Kinds.{bytes_of}
 use Rattle.stk_ctype.specs.Types.{TypeTree, void_type, integer_type, pointer_type, array_type, struct_type, function_type, type_of}
-use Rattle.stk_ctype.specs.Structs.{Structs, StructLayout, struct_at, array_size, size_of, alignment_of, offset_behind, end_behind, offsets_behind, end_of, greatest_alignment, struct_size, laid_out, member_named, member_in, member_of, after, structs_behind, structs_of}
-use Rattle.stk_ctype.specs.Sound.{IsSound, IsOpenArray, IsLastMember, IsMember, AreMembers, RestsOn}
-use Rattle.stk_ctype.specs.Facts.{AreLawful}
+use Rattle.stk_ctype.specs.Structs.{Structs, StructLayout, struct_at, size_of, alignment_of, offset_behind, end_behind, offsets_behind, end_of, greatest_alignment, struct_size, laid_out, member_named, member_in, member_of, after, structs_behind, structs_of}
+use Rattle.stk_ctype.specs.Sound.{IsOpenArray}
 use Rattle.stk_ctype.proofs.Noting.{default-append}
 use Rattle.stk_ctype.proofs.Placing.{HaveAlignments, round_up_least}
 use Rattle.stk_ctype.proofs.SizesOfTypes.{bytes_least}
-use Rattle.stk_ctype.proofs.Staying.{Stays}
+use Rattle.stk_declare_laws.proofs.Growth.{Keeps, size_stays, stays_then, keeps_once}
 use Rattle.stk_rules.specs.Types.{is_scalar, is_struct}
-use Rattle.stk_typed_trees.proofs.Rulings.{is_object}
-
--- ---- sizes that are known stay
-
-abbrev Keeps : Structs → Structs → Type 0
-Keeps S T = (id : ℕ) → Stays (struct_at S id) (struct_at T id)
-
-struct_size_stays : (before now : Option StructLayout) → Stays before now → IsSome (option_map (λ s. s.size) before) → option_map (λ s. s.size) now ≡ option_map (λ s. s.size) before
-struct_size_stays None now stays some = cc
-struct_size_stays (Some s) now stays some = ⊎_elim (λ none. cc) (λ same. ap (option_map (λ s. s.size)) same) stays
-
-element_some : (count size : Option ℕ) → IsSome (array_size count size) → IsSome size
-element_some None size some = cc
-element_some (Some c) None some = cc
-element_some (Some c) (Some s) some = refl
-
-size_stays : (S T : Structs) → Keeps S T → (t : TypeTree) → IsSome (size_of S t) → size_of T t ≡ size_of S t
-size_stays S T keeps void_type some = refl
-size_stays S T keeps (integer_type k) some = refl
-size_stays S T keeps (pointer_type t) some = refl
-size_stays S T keeps (array_type t count) some = ap (array_size count) (size_stays S T keeps t (element_some count (size_of S t) some))
-size_stays S T keeps (struct_type id) some = struct_size_stays (struct_at S id) (struct_at T id) (keeps id) some
-size_stays S T keeps (function_type f) some = refl
-
-stays_then : (a b c : Option StructLayout) → Stays a b → Stays b c → Stays a c
-stays_then a b c first second = ⊎_elim (λ none. inl none) (λ same. ⊎_elim (λ none. inl (sym same ∙ none)) (λ next. inr (next ∙ same)) second) first
-
-keeps_once : (S : Structs) (e : NameEntry) → RestsOn S e → Keeps S (after S e)
-keeps_once S (entry.Symbol n x) rests id = inr refl
-keeps_once S (entry.Struct t) rests id = inr (default-append S None id)
-keeps_once S (entry.Members i ms) rests id = ⊎_elim (λ same. inl (ap (struct_at S) same ∙ rests.1)) (λ other. inr (get_or-set_other S i id (Some (laid_out S ms)) None other)) (cases_eq id i)
-keeps_once S (entry.Enumeration t) rests id = inr refl
+use Rattle.stk_declare_laws.specs.Orderly.{is_object_type, AreSized, GivesMembers, AreLaidOut}
 
 -- ---- how a struct was laid out
 
@@ -76,7 +43,7 @@ record Laid (S : Structs) (s : StructLayout) : Type 0 where
   before : Structs
   members : List MemberInfo
   is : s ≡ laid_out before members
-  are : AreMembers before members
+  are : AreSized before members
   aligned : HaveAlignments before
   keeps : Keeps before S
 
@@ -95,22 +62,22 @@ are_aligned : (S : Structs) → AreLaid S → HaveAlignments S
 unfolding AreLaid
 are_aligned S l id = laid_aligned S (struct_at S id) (l id)
 
-laid_once : (S : Structs) (e : NameEntry) → RestsOn S e → AreLaid S → AreLaid (after S e)
+laid_once : (S : Structs) (e : NameEntry) → GivesMembers S e → AreLaid S → AreLaid (after S e)
 unfolding AreLaid
-laid_once S (entry.Symbol n x) rests l id = l id
-laid_once S (entry.Struct t) rests l id =
-    subst (λ o. IfSome o (Laid (S ++ None ∷ []))) (sym (default-append S None id)) (still_laid S (S ++ None ∷ []) (struct_at S id) (keeps_once S (entry.Struct t) rests) (l id))
-laid_once S (entry.Members i ms) rests l id =
+laid_once S (entry.Symbol n x) gives l id = l id
+laid_once S (entry.Struct t) gives l id =
+    subst (λ o. IfSome o (Laid (S ++ None ∷ []))) (sym (default-append S None id)) (still_laid S (S ++ None ∷ []) (struct_at S id) (keeps_once S (entry.Struct t) gives) (l id))
+laid_once S (entry.Members i ms) gives l id =
     let new = slice_set S i (Some (laid_out S ms)) in
-    let keeps : Keeps S (slice_set S i (Some (laid_out S ms))) = keeps_once S (entry.Members i ms) rests in
+    let keeps : Keeps S (slice_set S i (Some (laid_out S ms))) = keeps_once S (entry.Members i ms) gives in
     ⊎_elim
-    (λ same. subst (λ o. IfSome o (Laid new)) (sym (ap (struct_at new) same ∙ get_or-set_same S i (Some (laid_out S ms)) None rests.0))
-    (record { before = S; members = ms; is = refl; are = rests.2; aligned = are_aligned S l; keeps = keeps }))
+    (λ same. subst (λ o. IfSome o (Laid new)) (sym (ap (struct_at new) same ∙ get_or-set_same S i (Some (laid_out S ms)) None gives.0))
+    (record { before = S; members = ms; is = refl; are = gives.2; aligned = are_aligned S l; keeps = keeps }))
     (λ other. subst (λ o. IfSome o (Laid new)) (sym (get_or-set_other S i id (Some (laid_out S ms)) None other)) (still_laid S new (struct_at S id) keeps (l id)))
     (cases_eq id i)
-laid_once S (entry.Enumeration t) rests l id = l id
+laid_once S (entry.Enumeration t) gives l id = l id
 
-laid_behind : (S : Structs) (es : List NameEntry) → AreLawful S es → AreLaid S → AreLaid (structs_behind S es)
+laid_behind : (S : Structs) (es : List NameEntry) → AreLaidOut S es → AreLaid S → AreLaid (structs_behind S es)
 laid_behind S [] so l = l
 laid_behind S (e ∷ es) so l = laid_behind (after S e) es so.1 (laid_once S e so.0 l)
 
@@ -126,12 +93,12 @@ none_laid id = by id
 
 -- a member has a type that an object has, and lies within its struct where it is a scalar or a struct
 pub record Lies (S : Structs) (t : TypeTree) (m : ℕ × CType) : Type 0 where
-  pub object : is_object (type_of m.1) ≡ true
+  pub object : is_object_type (type_of m.1) ≡ true
   pub within : (is_scalar (type_of m.1) || is_struct (type_of m.1)) ≡ true → m.0 + unwrap_or (size_of S (type_of m.1)) 1 ≤ unwrap_or (size_of S t) 1
 
 -- where a member ends that is found among members
 record Ending (S : Structs) (m : ℕ × CType) (end : ℕ) : Type 0 where
-  last : IsSound S (type_of m.1) × (IsSome (size_of S (type_of m.1)) ⊎ IsOpenArray (type_of m.1))
+  last : IsSome (size_of S (type_of m.1)) ⊎ IsOpenArray (type_of m.1)
   within : m.0 + unwrap_or (size_of S (type_of m.1)) 0 ≤ end
 
 end_behind_least : (S : Structs) → HaveAlignments S → (behind : ℕ) (m : MemberInfo) → behind ≤ end_behind S behind m
@@ -141,18 +108,18 @@ end_of_least : (S : Structs) → HaveAlignments S → (behind : ℕ) (ms : List 
 end_of_least S have behind [] = omega arith
 end_of_least S have behind (m ∷ ms) = omega (arith, end_behind_least S have behind m, end_of_least S have (end_behind S behind m) ms)
 
-first_member : (S : Structs) (m : MemberInfo) (ms : List MemberInfo) → AreMembers S (m ∷ ms) → IsLastMember S m
+first_member : (S : Structs) (m : MemberInfo) (ms : List MemberInfo) → AreSized S (m ∷ ms) → IsSome (size_of S (type_of m.ty)) ⊎ IsOpenArray (type_of m.ty)
 first_member S m [] so = so
-first_member S m (next ∷ ms) so = (so.0.0, inl so.0.1)
+first_member S m (next ∷ ms) so = inl so.0
 
-rest_members : (S : Structs) (m : MemberInfo) (ms : List MemberInfo) → AreMembers S (m ∷ ms) → AreMembers S ms
+rest_members : (S : Structs) (m : MemberInfo) (ms : List MemberInfo) → AreSized S (m ∷ ms) → AreSized S ms
 rest_members S m [] so = tt
 rest_members S m (next ∷ ms) so = so.1
 
 moved : (S : Structs) (m n : ℕ × CType) (end : ℕ) → m ≡ n → Ending S m end → Ending S n end
 moved S m n end same e = subst (λ z. Ending S z end) same e
 
-either : (S : Structs) (name : List ℕ) (m : MemberInfo) (ms : List MemberInfo) (behind : ℕ) (found : ℕ × CType) → HaveAlignments S → AreMembers S (m ∷ ms)
+either : (S : Structs) (name : List ℕ) (m : MemberInfo) (ms : List MemberInfo) (behind : ℕ) (found : ℕ × CType) → HaveAlignments S → AreSized S (m ∷ ms)
     → (member_named name ms (offsets_behind S (end_behind S behind m) ms) ≡ Some found → Ending S found (end_of S (end_behind S behind m) ms))
     → (same : Bool) → (if same then Some (offset_behind S behind m, m.ty) else member_named name ms (offsets_behind S (end_behind S behind m) ms)) ≡ Some found → Ending S found (end_of S (end_behind S behind m) ms)
 either S name m ms behind found have are others true e =
@@ -161,7 +128,7 @@ either S name m ms behind found have are others true e =
     moved S here found (end_of S (end_behind S behind m) ms) (cc) own
 either S name m ms behind found have are others false e = others e
 
-ending : (S : Structs) → HaveAlignments S → (name : List ℕ) (ms : List MemberInfo) (behind : ℕ) (found : ℕ × CType) → AreMembers S ms → member_named name ms (offsets_behind S behind ms) ≡ Some found → Ending S found (end_of S behind ms)
+ending : (S : Structs) → HaveAlignments S → (name : List ℕ) (ms : List MemberInfo) (behind : ℕ) (found : ℕ × CType) → AreSized S ms → member_named name ms (offsets_behind S behind ms) ≡ Some found → Ending S found (end_of S behind ms)
 ending S have name [] behind found are e = absurd cc
 ending S have name (m ∷ ms) behind found are e = either S name m ms behind found have are (ending S have name ms (end_behind S behind m) found (rest_members S m ms are)) (same_text m.name name) e
 
@@ -169,7 +136,7 @@ known : (o : Option ℕ) (m : ℕ) → IsSome o → unwrap_or o 0 ≡ unwrap_or 
 known None m some = absurd cc
 known (Some n) m some = refl
 
-last_object : (S : Structs) (t : TypeTree) → IsSome (size_of S t) ⊎ IsOpenArray t → is_object t ≡ true
+last_object : (S : Structs) (t : TypeTree) → IsSome (size_of S t) ⊎ IsOpenArray t → is_object_type t ≡ true
 last_object S void_type (inl some) = absurd cc
 last_object S void_type (inr o) = absurd o
 last_object S (integer_type k) h = refl
@@ -196,16 +163,16 @@ lies_in S id name found (Some s) p l e =
     let size : size_of S (struct_type id) ≡ Some (struct_size l.before l.members) = ap (option_map (λ (x : StructLayout). x.size)) (p ∙ ap Some l.is) in
     let whole : unwrap_or (size_of S (struct_type id)) 1 ≡ struct_size l.before l.members = ap (λ z. unwrap_or z 1) size in
     record {
-      object = last_object l.before (type_of found.1) end.last.1;
+      object = last_object l.before (type_of found.1) end.last;
       within = λ part.
-          let some = sized l.before (type_of found.1) end.last.1 part in
+          let some = sized l.before (type_of found.1) end.last part in
           let same : unwrap_or (size_of S (type_of found.1)) 1 ≡ unwrap_or (size_of l.before (type_of found.1)) 0 =
           ap (λ z. unwrap_or z 1) (size_stays l.before S l.keeps (type_of found.1) some) ∙ sym (known (size_of l.before (type_of found.1)) 1 some) in
           let up = round_up_least (greatest_alignment l.before l.members) (end_of l.before 0 l.members) (greatest_least l.before l.members) in
           omega (arith, same, whole, up, end.within);
     }
 
-pub member_lies : (es : List NameEntry) → AreLawful [] es → (t : TypeTree) (name : List ℕ) (found : ℕ × CType) → member_of (structs_of es) t name ≡ Some found → Lies (structs_of es) t found
+pub member_lies : (es : List NameEntry) → AreLaidOut [] es → (t : TypeTree) (name : List ℕ) (found : ℕ × CType) → member_of (structs_of es) t name ≡ Some found → Lies (structs_of es) t found
 unfolding AreLaid
 member_lies es so void_type name found e = absurd cc
 member_lies es so (integer_type k) name found e = absurd cc

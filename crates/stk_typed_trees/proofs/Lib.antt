@@ -15,3 +15,4 @@ pub mod Bodies
 pub mod Parameters
 pub mod Meanings
 pub mod Whole
+pub mod Examples

@@ -1,6 +1,6 @@
 -- What typing gives of local declarations: their evaluated nodes, and the locals that they bring into force.
-use Rattle.std.proofs.Common.{◌≡◌, ◌<◌, ℕ, zero, suc, ◌+◌, ◌⊎◌, Bool, true, false, not, ◌||◌, ◌&&◌, List, [], ◌∷◌, ◌++◌, length, Option, Some, None, refl, sym, ap, ◌∙◌, subst, inl, inr, arith}
-use Rattle.std.specs.Prelude.{if◌then◌else◌, nat_le, ℤ, pos}
+use Rattle.std.proofs.Common.{◌≡◌, ℕ, zero, suc, ◌+◌, Bool, true, false, not, ◌||◌, ◌&&◌, List, [], ◌∷◌, ◌++◌, length, Option, Some, None, refl, sym, ap, ◌∙◌, subst, inl, inr, arith}
+use Rattle.std.specs.Prelude.{if◌then◌else◌, nat_le, pos}
 use Rattle.stk_base.specs.declared.span.Span.{Span}
 use Rattle.stk_base.specs.Text.{text_of}
 use Rattle.stk_ctype.specs.Types.{TypeTree, void_type, integer_type, pointer_type, array_type, struct_type, function_type}
@@ -8,40 +8,39 @@ use Rattle.stk_ctype.specs.Structs.{Structs, size_of, size_limit, structs_of}
 use Rattle.stk_tree.specs.declared.node.Node.{Node}
 use Rattle.stk_tree.specs.declared.declaration.Storage.{Storage}
 use Rattle.stk_tree.specs.declared.declaration.Storage.TheVariants as storage
-use Rattle.stk_tree.specs.Syntax.{DeclrTree, DeclrTrees, DeclarationTree, InitTree, MaybeInitTree, DimensionTrees, TailTree}
+use Rattle.stk_tree.specs.Syntax.{DeclrTree, DeclrTrees, DeclarationTree, InitTree, MaybeInitTree, DimensionTrees}
 use Rattle.stk_tree.specs.Syntax as s
-use Rattle.stk_tree.specs.Nodes.{base_nodes, declarator_nodes, declarators_nodes, declaration_nodes, tail_nodes, dimensions_nodes, initialiser_nodes, maybe_initialiser_nodes}
+use Rattle.stk_tree.specs.Nodes.{base_nodes, declarator_nodes, declarators_nodes, declaration_nodes, dimensions_nodes, initialiser_nodes, maybe_initialiser_nodes}
 use Rattle.stk_tree.specs.Placed.{has_name, has_arrays, local_declarators, local_placed, local_storage, is_unbraced, base_placed, some_declarators, declarators_placed}
 use Rattle.stk_facts.specs.declared.facts.Constancy.TheVariants.{Number}
 use Rattle.stk_facts.specs.Facts.{Fact, fact_at, Ruled, Breaks, Fits, declares}
-use Rattle.stk_facts.specs.Outcome.{Outcome, Good, and_then, finish}
+use Rattle.stk_facts.specs.Outcome.{Good, and_then, finish}
 use Rattle.stk_rules.specs.Types.{is_complete, is_scalar}
 use Rattle.stk_scope.specs.declared.arrays.Size.{Size}
 use Rattle.stk_scope.specs.declared.arrays.Size.TheVariants.{Open, Sized}
 use Rattle.stk_scope.specs.Locals.{Local}
-use Rattle.stk_scope.specs.Scope.{Scope, unevaluated}
-use Rattle.stk_scope.specs.Arrays.{starred, counted, fitting, array_within, around, nested, has_open, lacks_element, declared_as, declared_type}
+use Rattle.stk_scope.specs.Scope.{unevaluated}
+use Rattle.stk_scope.specs.Arrays.{starred, counted, fitting, array_within, around, nested, has_open, declared_as, declared_type}
 use Rattle.stk_typing.specs.Typing.{base_typed, dimensions_typed}
 use Rattle.stk_initialisers.specs.declared.leaves.Leaves.{Leaves}
 use Rattle.stk_initialisers.specs.Leaves.{no_leaf}
-use Rattle.stk_initialisers.specs.Typing.{initialiser_typed}
-use Rattle.stk_initialisers.specs.Fitting.{takes_braces, fits, initial_refused}
+use Rattle.stk_initialisers.specs.Fitting.{takes_braces, fits}
 use Rattle.stk_declarators.specs.Counting.{given_count}
-use Rattle.stk_declarators.specs.Parameters.{array_parts, with_locals}
 use Rattle.stk_declarators.specs.Tails.{counted_sizes, are_scalars}
 use Rattle.stk_taken.specs.Statements.{is_static as taken_static}
 use Rattle.stk_bodies.specs.Bodies.{Body, with_more, is_in_block}
-use Rattle.stk_bodies.specs.Locals.{local_name, own_type, is_register, plain_nodes, initial_scope, initial_typed, refused_initial, by_initial, initial_rule, complete_rule, local_rule, lacks_size, counted_rule, declared_rule, own_local, local_by, local_sized, local_declared, locals_declared, declaration_typed}
+use Rattle.stk_bodies.specs.Locals.{local_name, own_type, is_register, plain_nodes, initial_scope, initial_typed, refused_initial, by_initial, initial_rule, complete_rule, local_rule, lacks_size, declared_rule, own_local, local_by, local_sized, local_declared, locals_declared, declaration_typed}
 use Rattle.stk_runs.specs.Typings.{Typing, is_array}
-use Rattle.stk_runs.specs.Visits.{Site, at_declarator, Visits, both_visits, visit, is_static, initialiser_visits, tail_visits, initial_visits, declarator_visits, declarators_visits, declaration_visits}
+use Rattle.stk_runs.specs.Visits.{at_declarator, Visits, both_visits, visit, is_static, tail_visits, initial_visits, declarator_visits, declarators_visits, declaration_visits}
 use Rattle.stk_run_laws.specs.Sites.{EachSite}
-use Rattle.stk_gathering.specs.TypedTree.{HasTypeOf, IsBracedWell, IsTypedDeclarator}
-use Rattle.stk_typed_trees.proofs.Stretches.{Counts, counts_then, counts_own, counts_given, counts_mapped, counts_joined, Stand, first_stands, rest_stands, last_stands, finished, steps, given, mapped}
+use Rattle.stk_gathering.specs.TypedTree.{HasTypeOf, IsTypedDeclarator}
+use Rattle.stk_typed_trees.proofs.Stretches.{Counts, counts_then, counts_own, counts_given, counts_mapped, Stand, first_stands, rest_stands, last_stands, finished, steps, given, mapped}
 use Rattle.stk_typed_trees.proofs.Counts.{base_count, dimensions_count}
-use Rattle.stk_typed_trees.proofs.Rulings.{is_object, passed, held, both_true, not_broken, same_fact, complete_object}
+use Rattle.stk_declare_laws.specs.Orderly.{is_object_type}
+use Rattle.stk_typed_trees.proofs.Rulings.{passed, held, both_true, not_broken, same_fact, complete_object}
 use Rattle.stk_typed_trees.proofs.From.{initial_from, declarator_from, declarators_from, declaration_from}
-use Rattle.stk_typed_trees.proofs.Raw.{Occurs, Part, part_left, part_right, Origin, local_origin, RawSite}
-use Rattle.stk_typed_trees.proofs.Names.{World, typing, ground, in_force, IsDeclared, AreDeclared, declared_append}
+use Rattle.stk_typed_trees.proofs.Raw.{Part, part_left, part_right, Origin, local_origin, RawSite}
+use Rattle.stk_typed_trees.proofs.Names.{World, typing, ground_of, in_force, IsDeclared, AreDeclared, declared_append}
 use Rattle.stk_typed_trees.proofs.Expressions.{dimensions_each}
 use Rattle.stk_typed_trees.proofs.Initialisers.{initialiser_count, initialiser_known}
 
@@ -170,12 +169,12 @@ local_at structs twice lacking static init leaves made x e =
 
 record OwnType (t u : TypeTree) : Type 0 where
   type : HasTypeOf t u
-  object : is_object t ≡ true
+  object : is_object_type t ≡ true
 
-own_as : (structs : Structs) (sizes : List Size) (whole : TypeTree) (x : Fact) → declared_type structs sizes whole ≡ Fits x → is_object x.ty ≡ true → OwnType (own_type (declared_type structs sizes whole)) x.ty
+own_as : (structs : Structs) (sizes : List Size) (whole : TypeTree) (x : Fact) → declared_type structs sizes whole ≡ Fits x → is_object_type x.ty ≡ true → OwnType (own_type (declared_type structs sizes whole)) x.ty
 own_as structs sizes whole x e object =
     let same : own_type (declared_type structs sizes whole) ≡ x.ty = ap own_type e in
-    record { type = inl same; object = subst (λ t. is_object t ≡ true) (sym same) object }
+    record { type = inl same; object = subst (λ t. is_object_type t ≡ true) (sym same) object }
 
 -- an array of counted elements
 fitting_array : (o : Option ℕ) (t u : TypeTree) → fitting o t ≡ Some u → t ≡ u
@@ -200,7 +199,7 @@ own_open structs n true inner x e = absurd (not_broken 4 x e)
 own_open structs n false None x e = absurd (not_broken 5 x e)
 own_open structs n false (Some t) x e = record { type = inr (array_counted structs (counted (pos n)) t x.ty (declared_some (array_within structs (counted (pos n)) t) x e)); object = refl }
 
-own_counted : (structs : Structs) (c : Option ℕ) (sizes : List Size) (whole : TypeTree) (x : Fact) → declared_type structs (counted_sizes c sizes) whole ≡ Fits x → is_object x.ty ≡ true → OwnType (own_type (declared_type structs sizes whole)) x.ty
+own_counted : (structs : Structs) (c : Option ℕ) (sizes : List Size) (whole : TypeTree) (x : Fact) → declared_type structs (counted_sizes c sizes) whole ≡ Fits x → is_object_type x.ty ≡ true → OwnType (own_type (declared_type structs sizes whole)) x.ty
 own_counted structs None sizes whole x e object = own_as structs sizes whole x e object
 own_counted structs (Some n) [] whole x e object = own_as structs [] whole x e object
 own_counted structs (Some n) (Sized c ∷ sizes) whole x e object = own_as structs (Sized c ∷ sizes) whole x e object
@@ -211,12 +210,12 @@ own_counted structs (Some n) (Open ∷ sizes) whole x e object = own_open struct
 -- the locals that it brings into force are declared, and its evaluated nodes are as they are asked
 pub record LocalKnown (w : World) (v : Visits) (new : List Local) : Type 0 where
   pub declared : AreDeclared w new
-  pub sites : EachSite (RawSite (ground w)) v
+  pub sites : EachSite (RawSite (ground_of w)) v
 
 -- its initialiser
 initial_known : (w : World) (static : Bool) (init : MaybeInitTree) (l : Local) (n : ℕ) (ls : List Local) (a : Around) (leaves : Leaves) (t : TypeTree) (ts : List Fact) → AreDeclared w ls → IsDeclared w l
     → initial_typed (body_in w ls a) static l init ≡ Good leaves ts → Stand w.facts n ts → initial_from n init → Part (initial_visits (typing w) static init) w.whole → IsInitial static init leaves t
-    → EachSite (RawSite (ground w)) (initial_visits (typing w) static init)
+    → EachSite (RawSite (ground_of w)) (initial_visits (typing w) static init)
 initial_known w static s.no_initialiser l n ls a leaves t ts declared own eq stand from part initial = tt
 initial_known w true (s.some_initialiser i) l n ls a leaves t ts declared own eq stand from part initial = tt
 initial_known w false (s.some_initialiser i) l n ls a leaves t ts declared own eq stand from part initial =
@@ -257,16 +256,16 @@ sized_known w static node count at ds init n ls a whole sizes new ts declared eq
     let place : n + maybe_initialiser_nodes init ≡ n + maybe_initialiser_nodes init + 0 = omega arith in
     let here : fact_at w.facts node.number ≡ x = ap (fact_at w.facts) (number ∙ place) ∙ last_stands w.facts (n + maybe_initialiser_nodes init) 0 o.rest [] x own.all (ap length own.all) stand_b in
     let type : (typing w).type_at node.number ≡ x.ty = ap (λ (z : Fact). z.ty) here in
-    let object : is_object x.ty ≡ true = complete_object structs x.ty f.complete in
+    let object : is_object_type x.ty ≡ true = complete_object structs x.ty f.complete in
     let rest = part_right (tail_visits (typing w) (s.arrays ds)) (both_visits (initial_visits (typing w) static init) (visit (at_declarator node.number static (Some at) init))) part in
-    let origin : Origin (ground w) node.number = local_origin static at init (rest.by (at_declarator node.number static (Some at) init) (inr refl)) in
+    let origin : Origin (ground_of w) node.number = local_origin static at init (rest.by (at_declarator node.number static (Some at) init) (inr refl)) in
     let t = own_counted structs counts sizes whole x f.is object in
     let self : IsDeclared w l = record { type = subst (λ u. HasTypeOf l.ty u) (sym type) t.type; object = t.object; origin = origin } in
     let brought : IsDeclared w (record { name = name; node = node.number; ty = x.ty }) = record { type = inl (sym type); object = object; origin = origin } in
     record {
       declared = subst (AreDeclared w) m.is (brought, tt);
       sites = (
-        dimensions_each (RawSite (ground w)) (typing w) ds,
+        dimensions_each (RawSite (ground_of w)) (typing w) ds,
         (
           initial_known w static init l n ls a o.value x.ty o.first declared self o.gives (first_stands w.facts n ts o.first o.rest o.all stand) from (part_left (initial_visits (typing w) static init) (visit (at_declarator node.number static (Some at) init)) rest) f.initial,
           own_known (typing w) node.number static at init o.value x type f.initial,

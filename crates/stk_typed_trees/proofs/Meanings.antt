@@ -7,23 +7,22 @@ use Rattle.std.proofs.lemmas.Slice.Eq.{bytes_eq-Decides}
 use Rattle.stk_base.specs.declared.span.Span.{Span}
 use Rattle.stk_base.specs.Text.{text_of, same_text}
 use Rattle.stk_ctype.specs.declared.ctype.CType.{CType}
-use Rattle.stk_ctype.specs.declared.symbol.Symbol.{Symbol}
 use Rattle.stk_ctype.specs.declared.symbol.Symbol.TheVariants as symbol
 use Rattle.stk_ctype.specs.declared.symbol.NameEntry.{NameEntry}
 use Rattle.stk_ctype.specs.Types.{TypeTree, void_type, integer_type, pointer_type, array_type, struct_type, function_type, type_of}
 use Rattle.stk_ctype.specs.Names.{find}
 use Rattle.stk_tree.specs.declared.node.Node.{Node}
-use Rattle.stk_tree.specs.Syntax.{ExprTree, ExprFormTree, DeclrTree, TailTree, MaybeInitTree, FunctionTree}
+use Rattle.stk_tree.specs.Syntax.{ExprTree, ExprFormTree, TailTree, MaybeInitTree, FunctionTree}
 use Rattle.stk_tree.specs.Syntax as s
 use Rattle.stk_numbers.specs.declared.conditions.Kinds.{Kinds}
 use Rattle.stk_rules.specs.Types.{is_scalar, is_struct}
 use Rattle.stk_runs.specs.Typings.{Typing, is_among, is_array, declarator_node}
-use Rattle.stk_runs.specs.Places.{Mention, mentioned_in, Setting, Target, in_register, in_object, object_named, position_behind, object_target, target_at}
+use Rattle.stk_runs.specs.Places.{Mention, mentioned_in, in_register, in_object, object_named, position_behind, object_target, target_at}
 use Rattle.stk_runs.specs.Visits.{Role, Site, at_expression, at_declarator, at_statement, at_section, Visits, no_visit, visit, both_visits, scope, unevaluated, collected}
-use Rattle.stk_runs.specs.Keys.{address_key, KeyInfo, parameters_of, function_visits, is_register, site_registers, registers_of, names_outside, form_mentions, site_mentions, is_node, address_info, parameter_info, memory_info, register_parameters, memory_parameters, mention_keys, load_keys, name_keys, declarator_keys, site_keys, keys_in, Object, object_of, key_objects, objects_in, first_setting, keys_of, objects_of, setting_of}
+use Rattle.stk_runs.specs.Keys.{address_key, KeyInfo, parameters_of, function_visits, is_register, site_registers, registers_of, names_outside, form_mentions, site_mentions, is_node, address_info, parameter_info, memory_info, register_parameters, memory_parameters, mention_keys, load_keys, declarator_keys, site_keys, object_of, key_objects, objects_in, first_setting, keys_of, objects_of, setting_of}
 use Rattle.stk_run_laws.specs.Sites.{IsIn, EachSite}
 use Rattle.stk_run_laws.proofs.Nodes.{in_left, in_right, in_either}
-use Rattle.stk_gathering.specs.TypedTree.{HasTypeOf, IsReadWhole, IsNamedObject, MeansObject, NameMeans, NameAgrees, PlaceAgrees, FormAgrees, IsTypedName, IsTypedForm, IsTypedSite}
+use Rattle.stk_gathering.specs.TypedTree.{HasTypeOf, IsNamedObject, MeansObject, PlaceAgrees, FormAgrees, IsTypedName, IsTypedForm, IsTypedSite}
 use Rattle.stk_gathering.proofs.KeyLists.{in_map}
 use Rattle.stk_gathering.proofs.Objects.{among_of}
 use Rattle.stk_typed_trees.proofs.Raw.{Occurs, Ground, Origin, local_origin, parameter_origin, Means, means_local, means_outside, RawPlace, RawPlaceForm, RawName, RawForm, RawSite, each_at, each_mapped}

@@ -1,5 +1,5 @@
 -- What a name that fits means, among the locals in force and the names of file scope.
-use Rattle.std.proofs.Common.{◌≡◌, ℕ, ◌⊎◌, Bool, true, false, ◌||◌, ◌&&◌, List, [], ◌∷◌, ◌++◌, Option, Some, None, refl, sym, ap, ◌∙◌, subst, inl, inr}
+use Rattle.std.proofs.Common.{◌≡◌, ℕ, ◌⊎◌, Bool, true, false, ◌||◌, List, [], ◌∷◌, ◌++◌, Option, Some, None, refl, sym, ap, ◌∙◌, subst, inl, inr}
 use Rattle.std.specs.Prelude.{IfSome, if◌then◌else◌, ℤ}
 use Rattle.stk_base.specs.declared.span.Span.{Span}
 use Rattle.stk_base.specs.Text.{text_of, same_text}
@@ -8,20 +8,21 @@ use Rattle.stk_ctype.specs.declared.kind.IntKind.TheVariants as kind
 use Rattle.stk_ctype.specs.declared.symbol.Symbol.{Symbol}
 use Rattle.stk_ctype.specs.declared.symbol.Symbol.TheVariants as symbol
 use Rattle.stk_ctype.specs.declared.symbol.NameEntry.{NameEntry}
-use Rattle.stk_ctype.specs.Types.{TypeTree, void_type, integer_type, pointer_type, array_type, struct_type, function_type, type_of}
-use Rattle.stk_ctype.specs.Structs.{Structs, member_of, structs_of}
+use Rattle.stk_ctype.specs.Types.{TypeTree, integer_type, type_of}
+use Rattle.stk_ctype.specs.Structs.{member_of, structs_of}
 use Rattle.stk_ctype.specs.Names.{later_of, find}
-use Rattle.stk_tree.specs.Syntax.{DeclrTree, ExprFormTree}
+use Rattle.stk_tree.specs.Syntax.{DeclrTree}
 use Rattle.stk_tree.specs.Syntax as s
-use Rattle.stk_facts.specs.Facts.{Fact, fact_at, Ruled, Breaks, Fits, place, named, literal}
+use Rattle.stk_facts.specs.Facts.{Fact, fact_at, Fits, place, named, literal}
 use Rattle.stk_rules.specs.Types.{is_scalar, is_struct}
 use Rattle.stk_scope.specs.Locals.{Local, local_named, find_local}
-use Rattle.stk_scope.specs.Scope.{Scope, is_one, local_rule, symbol_rule, named_as, name_rule}
+use Rattle.stk_scope.specs.Scope.{Scope, is_one, named_as, name_rule}
 use Rattle.stk_runs.specs.Typings.{Typing, typing_of}
-use Rattle.stk_runs.specs.Visits.{Role, Site, at_expression, Visits}
+use Rattle.stk_runs.specs.Visits.{Role, at_expression, Visits}
 use Rattle.stk_gathering.specs.TypedTree.{HasTypeOf, IsReadWhole}
 use Rattle.stk_typed_trees.proofs.Layouts.{Lies}
-use Rattle.stk_typed_trees.proofs.Rulings.{is_object, passed, not_broken, same_fact}
+use Rattle.stk_declare_laws.specs.Orderly.{is_object_type}
+use Rattle.stk_typed_trees.proofs.Rulings.{passed, not_broken, same_fact}
 use Rattle.stk_typed_trees.proofs.Raw.{Occurs, Ground, Origin, Means, means_local, means_outside, RawPlaceForm, RawName, Suits, read_whole}
 
 -- ---- what a function is typed in
@@ -36,13 +37,13 @@ pub record World : Type 0 where
   pub params : List DeclrTree
   pub whole : Visits
   pub members : (t : TypeTree) (name : List ℕ) (found : ℕ × CType) → member_of (structs_of entries) t name ≡ Some found → Lies (structs_of entries) t found
-  pub objects : (name : List ℕ) (t : CType) → find name entries ≡ Some (symbol.Object t) → is_object (type_of t) ≡ true
+  pub objects : (name : List ℕ) (t : CType) → find name entries ≡ Some (symbol.Object t) → is_object_type (type_of t) ≡ true
 
 abbrev pub typing : World → Typing
 typing w = typing_of w.bytes w.entries w.taken w.facts
 
-abbrev pub ground : World → Ground
-ground w = record { ty = typing w; entries = w.entries; params = w.params; whole = w.whole }
+abbrev pub ground_of : World → Ground
+ground_of w = record { ty = typing w; entries = w.entries; params = w.params; whole = w.whole }
 
 -- the names in force with these locals
 abbrev pub in_force : World → List Local → Option ℕ → Scope
@@ -53,8 +54,8 @@ in_force w ls own = record { bytes = w.bytes; entries = w.entries; locals = ls; 
 -- a local has a declarator with its type, which an object has
 pub record IsDeclared (w : World) (l : Local) : Type 0 where
   pub type : HasTypeOf l.ty ((typing w).type_at l.node)
-  pub object : is_object l.ty ≡ true
-  pub origin : Origin (ground w) l.node
+  pub object : is_object_type l.ty ≡ true
+  pub origin : Origin (ground_of w) l.node
 
 abbrev pub AreDeclared : World → List Local → Type 0
 AreDeclared w [] = Unit {0}
@@ -115,19 +116,19 @@ place_part x (inr q) = either_part (is_scalar x.ty) (is_struct x.ty) (inr q)
 
 -- what is known of a name's node
 pub record NameKnown (w : World) (k : ℕ) (role : Role) (at : Span) (x : Fact) : Type 0 where
-  pub own : Suits role.use_of x.ty → RawName (ground w) k role at ((typing w).number_at k)
-  pub place : IsPlace x → RawPlaceForm (ground w) k (s.name at)
+  pub own : Suits role.use_of x.ty → RawName (ground_of w) k role at ((typing w).number_at k)
+  pub place : IsPlace x → RawPlaceForm (ground_of w) k (s.name at)
 
 no_number : (v : ℤ) (x : Fact) → x ≡ literal (integer_type kind.Int) v → IsPlace x → ⊥
 no_number v x is (inl p) = let q : false ≡ true = sym (ap (λ (z : Fact). z.lvalue) is) ∙ p.0 in absurd cc
 no_number v x is (inr p) = let q : false ≡ true = sym (ap (λ (z : Fact). is_struct z.ty) is) ∙ p in absurd cc
 
-meant : (w : World) (k : ℕ) (role : Role) (at : Span) (x : Fact) → fact_at w.facts k ≡ x → x.number ≡ None → is_object x.ty ≡ true → Means (ground w) k at → NameKnown w k role at x
+meant : (w : World) (k : ℕ) (role : Role) (at : Span) (x : Fact) → fact_at w.facts k ≡ x → x.number ≡ None → is_object_type x.ty ≡ true → Means (ground_of w) k at → NameKnown w k role at x
 meant w k role at x here number object m =
     let type : (typing w).type_at k ≡ x.ty = ap (λ (z : Fact). z.ty) here in
     let none : (typing w).number_at k ≡ None = ap (λ (z : Fact). z.number) here ∙ number in
     record {
-      own = λ suits. subst (λ n. RawName (ground w) k role at n) (sym none) (m, subst (λ t. IsReadWhole t role.use_of) (sym type) (read_whole role.use_of x.ty object suits));
+      own = λ suits. subst (λ n. RawName (ground_of w) k role at n) (sym none) (m, subst (λ t. IsReadWhole t role.use_of) (sym type) (read_whole role.use_of x.ty object suits));
       place = λ p. (subst (λ t. (is_scalar t || is_struct t) ≡ true) (sym type) (place_part x p), m);
     }
 
@@ -140,13 +141,13 @@ name_known w ls own k role at x declared rule here occurs = by (name_fits w ls o
         let d = found_declared w (text_of w.bytes at) ls l declared found in
         let same : fact_at w.facts k ≡ named l.ty l.node = here ∙ is in
         let type : (typing w).type_at k ≡ l.ty = ap (λ (z : Fact). z.ty) same in
-        meant w k role at x here (ap (λ (z : Fact). z.number) is) (subst (λ (z : Fact). is_object z.ty ≡ true) (sym is) d.object)
+        meant w k role at x here (ap (λ (z : Fact). z.number) is) (subst (λ (z : Fact). is_object_type z.ty ≡ true) (sym is) d.object)
         (means_local l.node (ap (λ (z : Fact). z.means) same) (subst (λ t. HasTypeOf t ((typing w).type_at l.node)) (sym type) d.type) d.origin)
     by (fits_outside t found is) =
         let same : fact_at w.facts k ≡ place (type_of t) = here ∙ is in
-        meant w k role at x here (ap (λ (z : Fact). z.number) is) (subst (λ (z : Fact). is_object z.ty ≡ true) (sym is) (w.objects (text_of w.bytes at) t found))
+        meant w k role at x here (ap (λ (z : Fact). z.number) is) (subst (λ (z : Fact). is_object_type z.ty ≡ true) (sym is) (w.objects (text_of w.bytes at) t found))
         (means_outside t role (ap (λ (z : Fact). z.means) same) (ap (λ (z : Fact). z.number) same) (ap (λ (z : Fact). z.ty) same) found occurs)
     by (fits_number v is) = record {
-      own = λ suits. subst (λ n. RawName (ground w) k role at n) (sym (ap (λ (z : Fact). z.number) (here ∙ is))) tt;
+      own = λ suits. subst (λ n. RawName (ground_of w) k role at n) (sym (ap (λ (z : Fact). z.number) (here ∙ is))) tt;
       place = λ p. absurd (no_number v x is p);
     }

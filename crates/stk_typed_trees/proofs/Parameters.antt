@@ -1,25 +1,22 @@
 -- What typing gives of the head of a function: one fact for each node, and its parameters in force.
-use Rattle.std.proofs.Common.{◌≡◌, ℕ, ◌+◌, Bool, true, false, not, ◌||◌, ◌&&◌, List, [], ◌∷◌, ◌++◌, length, Option, Some, None, refl, sym, ap, ◌∙◌, subst, inl, inr, arith}
+use Rattle.std.proofs.Common.{◌≡◌, ℕ, ◌+◌, Bool, true, false, not, ◌&&◌, List, [], ◌∷◌, ◌++◌, length, Some, None, refl, sym, ap, ◌∙◌, subst, inl, inr, arith}
 use Rattle.std.specs.Prelude.{if◌then◌else◌}
-use Rattle.stk_base.specs.declared.span.Span.{Span}
-use Rattle.stk_base.specs.Text.{text_of}
 use Rattle.stk_ctype.specs.Types.{TypeTree, void_type, integer_type, pointer_type, array_type, struct_type, function_type}
-use Rattle.stk_ctype.specs.Structs.{Structs, structs_of}
+use Rattle.stk_ctype.specs.Structs.{Structs}
 use Rattle.stk_tree.specs.declared.node.Node.{Node}
-use Rattle.stk_tree.specs.Syntax.{DeclrTree, TailTree, ParamTree, ParamTrees, MaybeInitTree, DimensionTrees, BaseTree}
+use Rattle.stk_tree.specs.Syntax.{DeclrTree, TailTree, ParamTree, ParamTrees, BaseTree}
 use Rattle.stk_tree.specs.Syntax as s
 use Rattle.stk_tree.specs.Nodes.{base_nodes, declarator_nodes, tail_nodes, dimensions_nodes, parameter_nodes, parameters_nodes}
-use Rattle.stk_tree.specs.Placed.{has_name, has_arrays, has_initialiser, parameter_declarator, function_declarator, is_unbraced, base_placed, declarator_placed, tail_placed, some_parameters, lone_void, maybe_initialiser_placed, parameter_placed, parameters_placed}
+use Rattle.stk_tree.specs.Placed.{has_name, has_arrays, parameter_declarator, function_declarator, is_unbraced, base_placed, declarator_placed, tail_placed, some_parameters, lone_void, maybe_initialiser_placed, parameter_placed, parameters_placed}
 use Rattle.stk_facts.specs.Facts.{Fact, fact_at, Ruled, Breaks, Fits, plain, declares}
-use Rattle.stk_facts.specs.Outcome.{Outcome, Good, and_then, finish}
+use Rattle.stk_facts.specs.Outcome.{Good, and_then, finish}
 use Rattle.stk_rules.specs.Types.{is_complete}
 use Rattle.stk_scope.specs.declared.arrays.Size.{Size}
-use Rattle.stk_scope.specs.Locals.{Local}
 use Rattle.stk_scope.specs.Scope.{Scope, unevaluated}
 use Rattle.stk_scope.specs.Arrays.{starred, declared_type}
 use Rattle.stk_typing.specs.Forms.{structs_in}
 use Rattle.stk_typing.specs.Typing.{base_typed, dimensions_typed}
-use Rattle.stk_declarators.specs.Parameters.{Parameter, struct_parameter, adjusted, adjusted_from, parameter_rule, is_taken, name_text, as_local, array_parts, with_locals, declarator_given, parameter_type, parameter_typed, declared_by, parameter_of, parameters_typed, as_locals}
+use Rattle.stk_declarators.specs.Parameters.{Parameter, adjusted, adjusted_from, parameter_rule, is_taken, name_text, as_local, with_locals, declarator_given, parameter_type, parameter_typed, declared_by, parameter_of, parameters_typed, as_locals}
 use Rattle.stk_declarators.specs.Tails.{TailShape, of_arrays, of_function, tail_typed, tail_type}
 use Rattle.stk_declarators.specs.Rows.{locals_in}
 use Rattle.stk_bodies.specs.Functions.{Headed, head_typed}
@@ -27,12 +24,13 @@ use Rattle.stk_runs.specs.Typings.{Typing}
 use Rattle.stk_runs.specs.Visits.{Site, tail_visits, parameters_visits, parameter_visits, head_visits}
 use Rattle.stk_runs.specs.Keys.{parameter_declarators, tail_parameters, head_parameters}
 use Rattle.stk_run_laws.specs.Sites.{IsIn, EachSite}
-use Rattle.stk_typed_trees.proofs.Stretches.{Counts, counts_then, counts_own, counts_given, counts_as, counts_one, counts_mapped, Stand, first_stands, rest_stands, last_stands, steps, given, One, one, mapped}
+use Rattle.stk_typed_trees.proofs.Stretches.{Counts, counts_then, counts_own, counts_given, counts_as, counts_one, counts_mapped, Stand, first_stands, rest_stands, last_stands, steps, given, one, mapped}
 use Rattle.stk_typed_trees.proofs.Counts.{base_count, dimensions_count}
-use Rattle.stk_typed_trees.proofs.Rulings.{is_object, passed, both_true, denied_false, not_broken, same_fact}
-use Rattle.stk_typed_trees.proofs.From.{declarator_from, parameter_from, parameters_from, tail_from, head_from}
-use Rattle.stk_typed_trees.proofs.Raw.{Origin, parameter_origin}
-use Rattle.stk_typed_trees.proofs.Names.{World, typing, ground, IsDeclared, AreDeclared, declared_append}
+use Rattle.stk_declare_laws.specs.Orderly.{is_object_type}
+use Rattle.stk_typed_trees.proofs.Rulings.{passed, both_true, not_broken, same_fact}
+use Rattle.stk_typed_trees.proofs.From.{declarator_from, parameters_from, tail_from, head_from}
+use Rattle.stk_typed_trees.proofs.Raw.{parameter_origin}
+use Rattle.stk_typed_trees.proofs.Names.{World, AreDeclared, declared_append}
 use Rattle.stk_typed_trees.proofs.Expressions.{dimensions_each}
 
 -- ---- what isn't evaluated
@@ -107,21 +105,21 @@ head_count (s.declarator k count at tail (s.some_initialiser i)) scope t head pl
 
 -- ---- the type of a parameter is one that an object has
 
-adjusted_object : (structs : Structs) (defines : Bool) (t : TypeTree) (y : Fact) → adjusted structs defines t ≡ Fits y → is_object y.ty ≡ true
+adjusted_object : (structs : Structs) (defines : Bool) (t : TypeTree) (y : Fact) → adjusted structs defines t ≡ Fits y → is_object_type y.ty ≡ true
 adjusted_object structs defines void_type y e = absurd (not_broken 4 y e)
-adjusted_object structs defines (integer_type k) y e = ap (λ (z : Fact). is_object z.ty) (sym (same_fact (declares (integer_type k)) y e))
-adjusted_object structs defines (pointer_type t) y e = ap (λ (z : Fact). is_object z.ty) (sym (same_fact (declares (pointer_type t)) y e))
-adjusted_object structs defines (array_type t count) y e = ap (λ (z : Fact). is_object z.ty) (sym (same_fact (declares (pointer_type t)) y e))
+adjusted_object structs defines (integer_type k) y e = ap (λ (z : Fact). is_object_type z.ty) (sym (same_fact (declares (integer_type k)) y e))
+adjusted_object structs defines (pointer_type t) y e = ap (λ (z : Fact). is_object_type z.ty) (sym (same_fact (declares (pointer_type t)) y e))
+adjusted_object structs defines (array_type t count) y e = ap (λ (z : Fact). is_object_type z.ty) (sym (same_fact (declares (pointer_type t)) y e))
 adjusted_object structs defines (struct_type id) y e =
     let p = passed (defines && not (is_complete structs (struct_type id))) (Fits (declares (struct_type id))) 4 y e in
-    ap (λ (z : Fact). is_object z.ty) (sym (same_fact (declares (struct_type id)) y p.rule))
+    ap (λ (z : Fact). is_object_type z.ty) (sym (same_fact (declares (struct_type id)) y p.rule))
 adjusted_object structs defines (function_type f) y e = absurd (not_broken 4 y e)
 
-adjusted_fits : (structs : Structs) (defines : Bool) (r : Ruled) (y : Fact) → adjusted_from structs defines r ≡ Fits y → is_object y.ty ≡ true
+adjusted_fits : (structs : Structs) (defines : Bool) (r : Ruled) (y : Fact) → adjusted_from structs defines r ≡ Fits y → is_object_type y.ty ≡ true
 adjusted_fits structs defines (Breaks n) y e = absurd (not_broken n y e)
 adjusted_fits structs defines (Fits x) y e = adjusted_object structs defines x.ty y e
 
-parameter_fits : (structs : Structs) (defines twice : Bool) (sizes : List Size) (t : TypeTree) (y : Fact) → parameter_rule structs defines twice sizes t ≡ Fits y → is_object y.ty ≡ true
+parameter_fits : (structs : Structs) (defines twice : Bool) (sizes : List Size) (t : TypeTree) (y : Fact) → parameter_rule structs defines twice sizes t ≡ Fits y → is_object_type y.ty ≡ true
 parameter_fits structs defines twice sizes t y e = adjusted_fits structs defines (declared_type structs sizes t) y (passed twice (adjusted_from structs defines (declared_type structs sizes t)) 3 y e).rule
 
 -- ---- parameters in force

@@ -1,8 +1,7 @@
 -- What typing gives of each evaluated node of a function, before it is known which objects there are: a name means a declarator that is
 -- visited, a parameter or an object of file scope, and the rest is as it is asked of a typed tree.
-use Rattle.std.proofs.Common.{◌≡◌, ℕ, ◌+◌, ◌≤◌, ◌⊎◌, Bool, true, false, ◌&&◌, ◌||◌, List, [], ◌∷◌, Option, Some, None, refl, sym, ap, ◌∙◌, subst, inl, inr}
+use Rattle.std.proofs.Common.{◌≡◌, ℕ, ◌+◌, ◌≤◌, ◌⊎◌, Bool, true, false, ◌||◌, List, Option, Some, None, refl, sym, subst, inl, inr}
 use Rattle.std.specs.Prelude.{ℤ}
-use Rattle.std.specs.Option.{is_some}
 use Rattle.stk_base.specs.declared.span.Span.{Span}
 use Rattle.stk_base.specs.Text.{text_of}
 use Rattle.stk_ctype.specs.declared.ctype.CType.{CType}
@@ -11,8 +10,6 @@ use Rattle.stk_ctype.specs.declared.symbol.NameEntry.{NameEntry}
 use Rattle.stk_ctype.specs.Types.{TypeTree, void_type, integer_type, pointer_type, array_type, struct_type, function_type, type_of}
 use Rattle.stk_ctype.specs.Names.{find}
 use Rattle.stk_tree.specs.declared.node.Node.{Node}
-use Rattle.stk_tree.specs.declared.expression.UnaryOp.{UnaryOp}
-use Rattle.stk_tree.specs.declared.expression.UnaryOp.TheVariants as unary
 use Rattle.stk_tree.specs.Syntax.{ExprTree, ExprFormTree, TailTree, MaybeInitTree, DeclrTree}
 use Rattle.stk_tree.specs.Syntax as s
 use Rattle.stk_rules.specs.Types.{is_scalar, is_struct}
@@ -21,7 +18,7 @@ use Rattle.stk_runs.specs.Libraries.{called_signature, result_in}
 use Rattle.stk_runs.specs.Visits.{Use, read, accessed, taken, Role, Site, at_expression, at_declarator, at_statement, at_section, Visits, no_visit, visit, both_visits, scope, unevaluated}
 use Rattle.stk_run_laws.specs.Sites.{IsIn, EachSite}
 use Rattle.stk_gathering.specs.TypedTree.{HasTypeOf, IsReadWhole, IsTypedUnary, IsTypedDeclarator}
-use Rattle.stk_typed_trees.proofs.Rulings.{is_object}
+use Rattle.stk_declare_laws.specs.Orderly.{is_object_type}
 
 -- ---- what is evaluated
 
@@ -150,7 +147,7 @@ Suits read t = is_struct t ≡ false
 Suits accessed t = Unit {0}
 Suits taken t = Unit {0}
 
-whole_of : (t : TypeTree) → is_object t ≡ true → is_struct t ≡ false → (is_scalar t || is_array t) ≡ true
+whole_of : (t : TypeTree) → is_object_type t ≡ true → is_struct t ≡ false → (is_scalar t || is_array t) ≡ true
 whole_of void_type o n = absurd cc
 whole_of (integer_type k) o n = refl
 whole_of (pointer_type t) o n = refl
@@ -158,7 +155,7 @@ whole_of (array_type t count) o n = refl
 whole_of (struct_type id) o n = absurd cc
 whole_of (function_type f) o n = absurd cc
 
-pub read_whole : (u : Use) (t : TypeTree) → is_object t ≡ true → Suits u t → IsReadWhole t u
+pub read_whole : (u : Use) (t : TypeTree) → is_object_type t ≡ true → Suits u t → IsReadWhole t u
 read_whole read t o n = whole_of t o n
 read_whole accessed t o n = tt
 read_whole taken t o n = tt

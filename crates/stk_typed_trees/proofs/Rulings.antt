@@ -1,12 +1,11 @@
 -- What a rule that fits tells of the operands and of the node (C11 6.5).
-use Rattle.std.proofs.Common.{◌≡◌, ℕ, Bool, true, false, not, ◌&&◌, ◌||◌, List, Option, Some, None, refl, sym, ap, ◌∙◌, subst}
+use Rattle.std.proofs.Common.{◌≡◌, ℕ, Bool, true, false, not, ◌&&◌, ◌||◌, List, Option, Some, None, refl, sym, ap, subst}
 use Rattle.std.specs.Prelude.{if◌then◌else◌}
 use Rattle.std.specs.Option.{is_some}
 use Rattle.stk_ctype.specs.declared.ctype.CType.{CType}
 use Rattle.stk_ctype.specs.declared.kind.IntKind.{IntKind}
 use Rattle.stk_ctype.specs.Types.{TypeTree, void_type, integer_type, pointer_type, array_type, struct_type, function_type, type_of}
-use Rattle.stk_ctype.specs.Structs.{Structs, size_of, member_of}
-use Rattle.stk_tree.specs.declared.expression.UnaryOp.{UnaryOp}
+use Rattle.stk_ctype.specs.Structs.{Structs, member_of}
 use Rattle.stk_tree.specs.declared.expression.UnaryOp.TheVariants as unary
 use Rattle.stk_tree.specs.declared.expression.BinaryOp.{BinaryOp}
 use Rattle.stk_tree.specs.declared.expression.BinaryOp.TheVariants as binary
@@ -17,9 +16,10 @@ use Rattle.stk_numbers.specs.declared.operators.ArithOp.TheVariants as arith
 use Rattle.stk_numbers.specs.declared.operators.ShiftOp.{ShiftOp}
 use Rattle.stk_numbers.specs.declared.operators.ShiftOp.TheVariants as shifts
 use Rattle.stk_facts.specs.declared.facts.Constancy.{Constancy}
-use Rattle.stk_facts.specs.Facts.{Fact, Ruled, Breaks, Fits, value, place, constant, literal}
-use Rattle.stk_rules.specs.Types.{decayed, kind_of, pointee, is_scalar, is_void, is_struct, is_complete, stride}
-use Rattle.stk_rules.specs.Rules.{has_scalar, paren_rule, pointed, indexed, index_rule, found, member_rule, dot_rule, arrow_to, arrow_rule, promoted_rule, unary_rule, assigned, unmoved, unstepped, step_rule, cast_rule, common_rule, moved_pointer, sum_rule, distance_rule, apart, difference_rule, shift_rule, comparison_rule, arithmetic_rule, cast_to, logical_rule, comma_rule, binary_rule, plain_refused, compound_left, compound_refused, is_additive, assign_refused, assign_rule, branches, chosen, choice_rule}
+use Rattle.stk_facts.specs.Facts.{Fact, Ruled, Breaks, Fits, value, place}
+use Rattle.stk_declare_laws.specs.Orderly.{is_object_type}
+use Rattle.stk_rules.specs.Types.{decayed, kind_of, pointee, is_scalar, is_void, is_struct, is_complete}
+use Rattle.stk_rules.specs.Rules.{has_scalar, paren_rule, pointed, indexed, index_rule, found, member_rule, dot_rule, arrow_to, arrow_rule, promoted_rule, unary_rule, assigned, unstepped, step_rule, cast_rule, common_rule, moved_pointer, sum_rule, apart, difference_rule, shift_rule, arithmetic_rule, cast_to, comma_rule, binary_rule, compound_left, compound_refused, is_additive, assign_refused, assign_rule, branches, chosen, choice_rule}
 use Rattle.stk_rules.specs.Constants.{arithmetic, both}
 
 -- ---- whether a rule fits
@@ -66,40 +66,19 @@ pub both_false : (a b : Bool) → a || b ≡ false → (a ≡ false) × (b ≡ f
 both_false true b e = absurd cc
 both_false false b e = (refl, e)
 
-pub denied_false : (a : Bool) → not a ≡ true → a ≡ false
-denied_false true e = absurd cc
-denied_false false e = refl
-
 pub denied_true : (a : Bool) → not a ≡ false → a ≡ true
 denied_true true e = refl
 denied_true false e = absurd cc
 
 -- ---- types
 
--- a type that an object has: a scalar, an array or a struct (C11 6.2.5p1)
-abbrev pub is_object : TypeTree → Bool
-is_object void_type = false
-is_object (integer_type k) = true
-is_object (pointer_type t) = true
-is_object (array_type t count) = true
-is_object (struct_type id) = true
-is_object (function_type f) = false
-
-pub complete_object : (structs : Structs) (t : TypeTree) → is_complete structs t ≡ true → is_object t ≡ true
+pub complete_object : (structs : Structs) (t : TypeTree) → is_complete structs t ≡ true → is_object_type t ≡ true
 complete_object structs void_type e = absurd cc
 complete_object structs (integer_type k) e = refl
 complete_object structs (pointer_type t) e = refl
 complete_object structs (array_type t count) e = refl
 complete_object structs (struct_type id) e = refl
 complete_object structs (function_type f) e = absurd cc
-
-pub scalar_object : (t : TypeTree) → is_scalar t ≡ true → is_object t ≡ true
-scalar_object void_type e = absurd cc
-scalar_object (integer_type k) e = refl
-scalar_object (pointer_type t) e = refl
-scalar_object (array_type t count) e = refl
-scalar_object (struct_type id) e = refl
-scalar_object (function_type f) e = absurd cc
 
 pub scalar_no_struct : (t : TypeTree) → is_scalar t ≡ true → is_struct t ≡ false
 scalar_no_struct void_type e = refl
@@ -148,7 +127,7 @@ pub record Points (structs : Structs) (t : Option TypeTree) (y : Fact) : Type 0 
   pub target : TypeTree
   pub points : t ≡ Some target
   pub is : y ≡ place target
-  pub object : is_object target ≡ true
+  pub object : is_object_type target ≡ true
 
 points_at : (structs : Structs) (t : Option TypeTree) (y : Fact) → pointed structs t ≡ Fits y → Points structs t y
 points_at structs None y e = absurd (not_broken 6 y e)

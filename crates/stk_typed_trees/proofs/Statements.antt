@@ -1,34 +1,25 @@
 -- Typing gives a statement one fact for each of its nodes.
-use Rattle.std.proofs.Common.{◌≡◌, ℕ, suc, ◌+◌, Bool, true, false, not, ◌||◌, ◌&&◌, List, [], ◌∷◌, ◌++◌, length, Option, Some, None, refl, sym, ap, ◌∙◌, subst, arith, length-append}
+use Rattle.std.proofs.Common.{◌≡◌, ℕ, suc, ◌+◌, true, not, ◌&&◌, List, [], ◌∷◌, length, Option, Some, None, refl, ap, ◌∙◌, arith}
 use Rattle.std.specs.Prelude.{if◌then◌else◌}
 use Rattle.stk_ctype.specs.declared.kind.IntKind.{IntKind}
-use Rattle.stk_ctype.specs.Types.{TypeTree}
-use Rattle.stk_tree.specs.Syntax.{ExprTree, MaybeExprTree, StartTree, LabelTree, LabelTrees, StmtTree, StmtTrees, MaybeStmtTree, StmtFormTree, PartTree, PartTrees, SectionTree, SectionTrees, DeclarationTree}
+use Rattle.stk_tree.specs.Syntax.{ExprTree, MaybeExprTree, StartTree, LabelTree, LabelTrees, StmtTree, StmtTrees, MaybeStmtTree, StmtFormTree, PartTree, PartTrees, SectionTree, SectionTrees}
 use Rattle.stk_tree.specs.Syntax as s
-use Rattle.stk_tree.specs.Nodes.{expression_nodes, maybe_expression_nodes, start_nodes, declaration_nodes, label_nodes, labels_nodes, statement_nodes, statements_nodes, maybe_statement_nodes, statement_form_nodes, part_nodes, parts_nodes, section_nodes, sections_nodes}
+use Rattle.stk_tree.specs.Nodes.{expression_nodes, maybe_expression_nodes, start_nodes, label_nodes, labels_nodes, statement_nodes, statements_nodes, maybe_statement_nodes, statement_form_nodes, part_nodes, parts_nodes, section_nodes, sections_nodes}
 use Rattle.stk_tree.specs.Levels.{comma_level}
-use Rattle.stk_tree.specs.Placed.{expression_placed, optional_placed, local_placed, start_placed, labels_placed, some_labels, may_precede, ends_open, statement_placed, statements_placed, statement_form_placed, part_placed, parts_placed, section_placed, sections_placed}
-use Rattle.stk_facts.specs.Facts.{Fact, Ruled, Breaks, Fits, plain}
+use Rattle.stk_tree.specs.Placed.{expression_placed, optional_placed, start_placed, labels_placed, some_labels, may_precede, ends_open, statement_placed, statements_placed, statement_form_placed, part_placed, parts_placed, section_placed, sections_placed}
+use Rattle.stk_facts.specs.Facts.{Fact, Fits, plain}
 use Rattle.stk_facts.specs.Outcome.{Outcome, Good, Refused, and_then, finish}
-use Rattle.stk_rules.specs.Types.{decayed, is_scalar, is_struct, is_void, kind_of}
+use Rattle.stk_rules.specs.Types.{kind_of}
 use Rattle.stk_scope.specs.Locals.{Local}
 use Rattle.stk_scope.specs.Scope.{Scope}
 use Rattle.stk_typing.specs.Typing.{expression_typed}
 use Rattle.stk_bodies.specs.Bodies.{Body, with_more, opened, looped, switched}
-use Rattle.stk_bodies.specs.Locals.{declaration_typed}
-use Rattle.stk_bodies.specs.Sections.{Labelled, unlabelled, carried, with_default, with_case, last_numbered, numbered, label_typed, labels_typed, section_rule, with_number}
-use Rattle.stk_bodies.specs.Statements.{maybe_typed, has_struct, lacks_scalar, discarded_rule, test_rule, switch_rule, for_rule, leave_rule, return_value, return_rule, Started, start_typed, statement_typed, form_typed, maybe_statement_typed, statements_typed, parts_typed, part_typed, sections_typed, section_typed}
-use Rattle.stk_runs.specs.Typings.{Typing}
-use Rattle.stk_runs.specs.Visits.{Role, reading, as_test, Site, at_statement, at_section, Visits, both_visits, visit, expression_visits, maybe_visits, declaration_visits, start_visits, start_declares, parts_declare, label_visits, labels_visits, statement_visits, statement_form_visits, maybe_statement_visits, statements_visits, parts_visits, part_visits, sections_visits, section_visits}
-use Rattle.stk_run_laws.specs.Sites.{EachSite}
-use Rattle.stk_typed_trees.proofs.Stretches.{Counts, counts_then, counts_own, counts_given, counts_one, counts_two, counts_three, counts_mapped, Stand, first_stands, rest_stands, finished, steps, given, not_refused, One, one, Two, two, Three, three, mapped}
+use Rattle.stk_bodies.specs.Sections.{Labelled, unlabelled, carried, with_default, with_case, last_numbered, numbered, label_typed, labels_typed, section_rule}
+use Rattle.stk_bodies.specs.Statements.{maybe_typed, discarded_rule, test_rule, switch_rule, for_rule, return_rule, Started, start_typed, statement_typed, form_typed, maybe_statement_typed, statements_typed, parts_typed, part_typed, sections_typed, section_typed}
+use Rattle.stk_typed_trees.proofs.Stretches.{Counts, counts_then, counts_own, counts_given, counts_one, counts_two, counts_three, counts_mapped, not_refused}
 use Rattle.stk_typed_trees.proofs.Counts.{expression_count}
-use Rattle.stk_typed_trees.proofs.Rulings.{passed, both_true, both_false, denied_true, not_broken, decayed_no_struct, kind_no_struct}
-use Rattle.stk_typed_trees.proofs.From.{expression_from, maybe_from, declaration_from, start_from, statement_from, statement_form_from, maybe_statement_from, statements_from, parts_from, part_from, sections_from, section_from}
-use Rattle.stk_typed_trees.proofs.Raw.{Part, part_left, part_right, part_scope, RawSite, suits_any}
-use Rattle.stk_typed_trees.proofs.Names.{World, typing, ground, in_force, AreDeclared, declared_append}
-use Rattle.stk_typed_trees.proofs.Expressions.{expression_known}
-use Rattle.stk_typed_trees.proofs.Locals.{Around, body_in, declaration_count, LocalKnown, declaration_known}
+use Rattle.stk_typed_trees.proofs.Rulings.{both_true}
+use Rattle.stk_typed_trees.proofs.Locals.{declaration_count}
 
 -- ---- one fact for each node: labels
 

@@ -1,5 +1,5 @@
 -- Facts from a position on, and the parts of an outcome that is good.
-use Rattle.std.proofs.Common.{◌≡◌, ◌<◌, ◌+◌, ℕ, zero, suc, List, [], ◌∷◌, ◌++◌, length, refl, sym, ap, ◌∙◌, subst, arith, length-append, append_assoc, append-nil}
+use Rattle.std.proofs.Common.{◌≡◌, ◌<◌, ◌+◌, ℕ, suc, List, [], ◌∷◌, ◌++◌, length, refl, sym, ap, ◌∙◌, subst, arith, length-append, append_assoc, append-nil}
 use Rattle.stk_facts.specs.Facts.{Fact, fact_at, Ruled, Breaks, Fits}
 use Rattle.stk_facts.specs.Outcome.{Outcome, Good, Refused, after, and_then, finish}
 use Rattle.stk_facts.proofs.Steps.{at_front}

@@ -3,4 +3,4 @@
 
 mod typed_trees;
 
-pub use typed_trees::accepted_trees_are_typed;
+pub use typed_trees::{accepted_trees_are_typed, accepted_units_are_typed};
