@@ -2,5 +2,7 @@
 #![tactic(auto)]
 
 mod entries;
+mod order;
 
 pub use entries::adds_few_entries;
+pub use order::units_keep_order;

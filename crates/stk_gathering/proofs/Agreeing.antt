@@ -3,6 +3,7 @@ use Rattle.std.proofs.Common.{◌≡◌, ℕ, ◌+◌, ◌≤◌, Bool, true, fa
 use Rattle.std.specs.Prelude.{if◌then◌else◌, map, unwrap_or}
 use Rattle.std.specs.Option.{is_some}
 use Rattle.stk_base.specs.declared.span.Span.{Span}
+use Rattle.stk_ctype.specs.declared.kind.IntKind.TheVariants as kind
 use Rattle.stk_ctype.specs.Kinds.{bytes_of}
 use Rattle.stk_ctype.specs.Types.{TypeTree, void_type, integer_type, pointer_type, array_type, struct_type, function_type}
 use Rattle.stk_tree.specs.declared.expression.UnaryOp.{UnaryOp}
@@ -21,7 +22,7 @@ use Rattle.stk_run_laws.specs.Sites.{IsIn, nodes_of, EachSite}
 use Rattle.stk_run_laws.proofs.Nodes.{in_left, in_right, ascends_right, distinct_of}
 use Rattle.stk_once.specs.TypedOperands.{IsNoArray, HasScalarOperand, SiteHasScalarOperand}
 use Rattle.stk_gathering.specs.Shown.{OneConditionServesAll}
-use Rattle.stk_gathering.specs.TypedTree.{kept_node, IsNamedObject, MeansObject, PlaceAgrees, FormAgrees, IsTypedName, IsTypedUnary, IsTypedForm, IsTypedDeclarator, IsTypedSite, IsTypedTree}
+use Rattle.stk_gathering.specs.TypedTree.{kept_node, HasTypeOf, IsNamedObject, MeansObject, PlaceAgrees, FormAgrees, IsTypedName, IsTypedUnary, IsTypedForm, IsTypedDeclarator, IsTypedSite, IsTypedTree}
 use Rattle.stk_gathering.proofs.WellTyped.{offset_in, form_offset, Suits, IsStored, IsObject, MeansWell, IsWellName, IsWellUnary, IsWellForm, IsWellDeclarator, IsWellSite}
 use Rattle.stk_gathering.proofs.Maps.{Good}
 use Rattle.stk_gathering.proofs.KeyLists.{in_map}
@@ -66,6 +67,24 @@ scalar_first false b h = absurd cc
 struct_second : (a b : Bool) → b ≡ true → a || b ≡ true
 struct_second true b h = refl
 struct_second false b h = h
+
+-- the kind of the address of an array, whatever its size
+array_kind : (t : TypeTree) → is_array t ≡ true → number_kind t ≡ kind.ULong
+array_kind void_type p = refl
+array_kind (integer_type k) p = absurd cc
+array_kind (pointer_type t) p = refl
+array_kind (array_type t count) p = refl
+array_kind (struct_type id) p = refl
+array_kind (function_type x) p = refl
+
+both_hold : (a b : Bool) → a && b ≡ true → (a ≡ true) × (b ≡ true)
+both_hold true true p = (refl, refl)
+both_hold true false p = absurd cc
+both_hold false b p = absurd cc
+
+same_kind : (t u : TypeTree) → HasTypeOf t u → number_kind t ≡ number_kind u
+same_kind t u (inl e) = ap number_kind e
+same_kind t u (inr arrays) = let b = both_hold (is_array t) (is_array u) arrays in array_kind t b.0 ∙ sym (array_kind u b.1)
 
 module _ (ty : Typing) (without : Kinds) (f : FunctionTree) (h : IsTypedTree ty without f) where
   abbrev g : Setting
@@ -158,15 +177,15 @@ module _ (ty : Typing) (without : Kinds) (f : FunctionTree) (h : IsTypedTree ty 
   named_object : (o : ℕ) → IsNamedObject ty (objects_of ty without f) o → IsObject (objects_of ty without f) o
   named_object o m = subst (IsObject (objects_of ty without f)) m.node (among_of m.object.node (map (λ (x : Object). x.node) (objects_of ty without f)) (in_map (λ (x : Object). x.node) m.object (objects_of ty without f) m.among))
 
-  means_well : (k o : ℕ) (t : Target) → HasNode (setting_of ty without f) o t → ty.type_at k ≡ ty.type_at o → MeansObject ty (objects_of ty without f) o t → MeansWell (setting_of ty without f) (objects_of ty without f) k o t
+  means_well : (k o : ℕ) (t : Target) → HasNode (setting_of ty without f) o t → number_kind (ty.type_at k) ≡ number_kind (ty.type_at o) → MeansObject ty (objects_of ty without f) o t → MeansWell (setting_of ty without f) (objects_of ty without f) k o t
   means_well k o (in_register i) n e m = tt
-  means_well k o (in_kept q) n e m = (named_object o m, ap number_kind (e ∙ ap ty.type_at (sym n)))
+  means_well k o (in_kept q) n e m = (named_object o m, e ∙ ap (λ z. number_kind (ty.type_at z)) (sym n))
   means_well k o (in_object p) n e m = named_object o m
   means_well k o unnamed n e m = named_object o m
 
   name_well : (k o : ℕ) (role : Role) (z : Option ℤ) → IsTypedName (setting_of ty without f) (objects_of ty without f) k role o z → IsWellName (setting_of ty without f) (objects_of ty without f) k role o z
   name_well k o role (Some z) a = tt
-  name_well k o role None a = (means_well k o (target_at (setting_of ty without f) o) (target_node (setting_of ty without f) o) a.0.type a.0.means, a.1)
+  name_well k o role None a = (means_well k o (target_at (setting_of ty without f) o) (target_node (setting_of ty without f) o) (same_kind (ty.type_at k) (ty.type_at o) a.0.type) a.0.means, a.1)
 
   unary_well : (k : ℕ) (role : Role) (op : UnaryOp) → IsTypedUnary ty k role op → IsWellUnary (setting_of ty without f) k role op
   unary_well k role unary.Address a = tt

@@ -74,7 +74,7 @@ turned_is_typed : IsTypedTree turned_typing all_kinds turned_tree
 turned_is_typed = record {
   numbered = ascends_by (map declarator_node (parameters_of turned_tree) ++ nodes_of (function_visits turned_typing turned_tree)) refl;
   sites =
-      ((tt, tt), ((((((tt, ((tt, tt), (refl, tt))), tt), ((((tt, ((record { type = refl; means = tt }), refl)), (tt, tt)), tt), (((tt, ((record { type = refl; means = tt }), refl)), (refl, (record { type = refl; means = tt }))), (((((((((tt, tt), ((((tt, ((record { type = refl; means = tt }), refl)), (tt, ((record { type = refl; means = tt }), refl))), tt), tt)), tt), (tt, tt)), tt), (((tt, ((record { type = refl; means = tt }), refl)), (tt, ((record { type = refl; means = tt }), refl))), tt)), tt), (((tt, tt), tt), tt)), tt)))), tt), (((tt, tt), tt), tt)), tt));
+      ((tt, tt), ((((((tt, ((tt, tt), (refl, tt))), tt), ((((tt, ((record { type = inl refl; means = tt }), refl)), (tt, tt)), tt), (((tt, ((record { type = inl refl; means = tt }), refl)), (refl, (record { type = refl; means = tt }))), (((((((((tt, tt), ((((tt, ((record { type = inl refl; means = tt }), refl)), (tt, ((record { type = inl refl; means = tt }), refl))), tt), tt)), tt), (tt, tt)), tt), (((tt, ((record { type = inl refl; means = tt }), refl)), (tt, ((record { type = inl refl; means = tt }), refl))), tt)), tt), (((tt, tt), tt), tt)), tt)))), tt), (((tt, tt), tt), tt)), tt));
   sizes = scalar_sizes;
 }
 
@@ -89,6 +89,6 @@ remembered_is_typed : IsTypedTree remembered_typing all_kinds remembered_tree
 remembered_is_typed = record {
   numbered = ascends_by (map declarator_node (parameters_of remembered_tree) ++ nodes_of (function_visits remembered_typing remembered_tree)) refl;
   sites =
-      ((tt, tt), ((((tt, ((tt, ((record { type = refl; means = tt }), refl)), (refl, tt))), tt), (((tt, (((tt, ((record { type = refl; means = record { object = object_of remembered_typing (Some (at 2 3)) 7 4; among = inl refl; node = refl; plain = λ h. refl } }), tt)), tt), (refl, tt))), tt), (((tt, ((((tt, tt), (tt, ((record { type = refl; means = record { object = object_of remembered_typing (Some (at 2 3)) 7 4; among = inl refl; node = refl; plain = λ h. refl } }), refl))), tt), (refl, tt))), tt), ((((((tt, ((record { type = refl; means = record { object = object_of remembered_typing (Some (at 2 3)) 7 4; among = inl refl; node = refl; plain = λ h. refl } }), refl)), (tt, tt)), tt), ((((tt, ((record { type = refl; means = tt }), refl)), refl), tt), tt)), tt), (((tt, ((record { type = refl; means = tt }), refl)), tt), tt))))), tt));
+      ((tt, tt), ((((tt, ((tt, ((record { type = inl refl; means = tt }), refl)), (refl, tt))), tt), (((tt, (((tt, ((record { type = inl refl; means = record { object = object_of remembered_typing (Some (at 2 3)) 7 4; among = inl refl; node = refl; plain = λ h. refl } }), tt)), tt), (refl, tt))), tt), (((tt, ((((tt, tt), (tt, ((record { type = inl refl; means = record { object = object_of remembered_typing (Some (at 2 3)) 7 4; among = inl refl; node = refl; plain = λ h. refl } }), refl))), tt), (refl, tt))), tt), ((((((tt, ((record { type = inl refl; means = record { object = object_of remembered_typing (Some (at 2 3)) 7 4; among = inl refl; node = refl; plain = λ h. refl } }), refl)), (tt, tt)), tt), ((((tt, ((record { type = inl refl; means = tt }), refl)), refl), tt), tt)), tt), (((tt, ((record { type = inl refl; means = tt }), refl)), tt), tt))))), tt));
   sizes = scalar_sizes;
 }

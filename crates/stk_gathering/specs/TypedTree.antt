@@ -1,7 +1,7 @@
 -- What is asked of a function where a path run is to show what an execution does: nodes are numbered children first, and typing agrees with the
 -- tree, node by node: a name has the type of the register or object that it means, what is read is a scalar or an array, what is stored to is a
 -- scalar, and members lie within their struct (C11 6.3.2.1, 6.5.1, 6.5.2.3, 6.5.2.4, 6.5.16, 6.7.9p11, p16).
-use Rattle.std.specs.Prelude.{ℕ, ◌+◌, ◌≤◌, ◌≡◌, ◌||◌, Bool, true, false, List, ◌++◌, map, Option, Some, None, ℤ, get_or}
+use Rattle.std.specs.Prelude.{ℕ, ◌+◌, ◌≤◌, ◌≡◌, ◌⊎◌, ◌&&◌, ◌||◌, Bool, true, false, List, ◌++◌, map, Option, Some, None, ℤ, get_or}
 use Rattle.std.specs.Option.{is_some}
 use Rattle.stk_base.specs.declared.span.Span.{Span}
 use Rattle.stk_ctype.specs.declared.kind.IntKind.{IntKind}
@@ -46,7 +46,16 @@ MeansObject ty objects o (in_kept q) = IsNamedObject ty objects o
 MeansObject ty objects o (in_object p) = IsNamedObject ty objects o
 MeansObject ty objects o unnamed = IsNamedObject ty objects o
 
--- a name means a register or a memory object, and has its type
+-- a name has the type of what it means; but an array has no size yet in the initialiser that counts its elements (C11 6.7.9p22)
+abbrev pub HasTypeOf : TypeTree → TypeTree → Type 0
+HasTypeOf t u = (t ≡ u) ⊎ ((is_array t && is_array u) ≡ true)
+
+-- a name means a register or a memory object
+pub record NameMeans (g : Setting) (objects : List Object) (k o : ℕ) : Type 0 where
+  pub type : HasTypeOf (g.typing.type_at k) (g.typing.type_at o)
+  pub means : MeansObject g.typing objects o (target_at g o)
+
+-- the same of a name that is a place by itself or by its members, whose type is then no array
 pub record NameAgrees (g : Setting) (objects : List Object) (k o : ℕ) : Type 0 where
   pub type : g.typing.type_at k ≡ g.typing.type_at o
   pub means : MeansObject g.typing objects o (target_at g o)
@@ -81,7 +90,7 @@ abbrev mutual
 -- an enumerator's name means its number
 abbrev pub IsTypedName : Setting → List Object → ℕ → Role → ℕ → Option ℤ → Type 0
 IsTypedName g objects k role o (Some z) = Unit {0}
-IsTypedName g objects k role o None = NameAgrees g objects k o × IsReadWhole (g.typing.type_at k) role.use_of
+IsTypedName g objects k role o None = NameMeans g objects k o × IsReadWhole (g.typing.type_at k) role.use_of
 
 abbrev pub IsTypedUnary : Typing → ℕ → Role → UnaryOp → Type 0
 IsTypedUnary ty k role unary.Address = Unit {0}
