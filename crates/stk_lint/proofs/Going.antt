@@ -15,6 +15,9 @@ use Rattle.stk_ctype.specs.declared.symbol.NameEntry.{NameEntry}
 use Rattle.stk_lint.specs.LawfulText.{body_of_piece, status_of, tokens_of_piece, AreUnitTexts, no_unit, then_unit, IsLawfulText}
 use Rattle.stk_lint.specs.Judged.{WroteUnit, WroteUnitPrefix, WroteUnits, WroteUnitsPrefix}
 use Rattle.stk_lint.specs.Lint.{AreUnitsOf, TookText, TookPrefix}
+use Rattle.stk_declare_laws.specs.Orderly.{AreOrderly}
+use Rattle.stk_declare_laws.proofs.Kept.{units_keep_order}
+use Rattle.stk_unit_lines.proofs.Typed.{stays_orderly}
 use Rattle.stk_unit_lines.proofs.Counted.{AreAtMost, unit_most}
 use Rattle.stk_lint.specs.Form.{written_summary}
 use Rattle.stk_lint.proofs.Units.{piece_some, joined_up, text_of_unit, texts_of_units}
@@ -46,9 +49,9 @@ on_err (Ok x) W w = tt
 on_err (Err e) W w = w
 
 -- nothing is a prefix of what may be written of a unit
-pub no_prefix : (bytes : List ℕ) (o : Options) (mark : Bool) (es : List NameEntry) (body : Option ℕ) (tokens : List Token) (before : Option (List ℕ)) → 0 < length tokens → WroteUnitPrefix bytes o mark es body tokens before before
-no_prefix bytes o mark es body tokens before some =
-    let unit = text_of_unit bytes o mark es body tokens some in
+pub no_prefix : (bytes : List ℕ) (o : Options) (mark : Bool) (es : List NameEntry) (body : Option ℕ) (tokens : List Token) (before : Option (List ℕ)) → AreOrderly es → 0 < length tokens → WroteUnitPrefix bytes o mark es body tokens before before
+no_prefix bytes o mark es body tokens before orderly some =
+    let unit = text_of_unit bytes o mark es body tokens orderly some in
     record { text = unit.text; counts = unit.counts; now = unit.now; is = unit.is; written = ([], unit.text, refl, nothing_appended before) }
 
 -- ---- counts
@@ -106,6 +109,7 @@ pub record AreSoFar (bytes : List ℕ) (o : Options) (tokens : List Token) (piec
   pub at : ℕ
   pub joined : AreJoined at (length tokens) (drop i pieces)
   pub most : AreAtMost (80000 * at) counts
+  pub orderly : AreOrderly now
   pub lines : List ℕ
   pub written : Appended before after lines
   pub goes_on : (more : List ℕ) (others : Counts) → AreUnitTexts bytes o tokens now (drop i pieces) more others → AreUnitTexts bytes o tokens [] pieces (lines ++ more) (counts_sum counts others)
@@ -123,6 +127,7 @@ module _ (bytes : List ℕ) (o : Options) (tokens : List Token) (pieces : List P
     at = 0;
     joined = joined;
     most = record { functions = omega arith; candidates = omega arith; unstable = omega arith; undecided = omega arith; skipped = omega arith };
+    orderly = units_keep_order.first;
     lines = [];
     written = nothing_appended before;
     goes_on = λ more others are. subst (λ c. AreUnitTexts bytes o tokens [] pieces more c) (sym (nothing_plus others)) are;
@@ -166,6 +171,7 @@ module _ (bytes : List ℕ) (o : Options) (tokens : List Token) (pieces : List P
         at = p.to;
         joined = n.rest;
         most = most_sum (80000 * h.at) (80000 * length (tokens_of_piece tokens p)) (80000 * p.to) counts unit (omega (arith, n.from, n.some, unit_length p n.within)) h.most most;
+        orderly = stays_orderly bytes o.without p.no_return now left (body_of_piece p) (tokens_of_piece tokens p) w.is.lines unit h.orderly w.is.are;
         lines = h.lines ++ w.text;
         written = appended_more before middle after h.lines w.text h.written w.written;
         goes_on = λ more others are.
@@ -180,7 +186,8 @@ module _ (bytes : List ℕ) (o : Options) (tokens : List Token) (pieces : List P
   stops_in_unit i d middle after counts now within h w =
       let p : Piece = get_or pieces i d in
       let n = next_unit i d middle counts now within h in
-      let rest = texts_of_units bytes o tokens w.now p.to (drop (i + 1) pieces) n.rest in
+      let left = stays_orderly bytes o.without p.no_return now w.now (body_of_piece p) (tokens_of_piece tokens p) w.is.lines w.counts h.orderly w.is.are in
+      let rest = texts_of_units bytes o tokens w.now p.to (drop (i + 1) pieces) left n.rest in
       let e : suc i ≡ i + 1 = omega arith in
       let here : drop i pieces ≡ p ∷ drop (i + 1) pieces = drop-cons pieces i d within ∙ ap (λ n. p ∷ drop n pieces) e in
       record {

@@ -8,7 +8,8 @@ use Rattle.stk_units.specs.Units.{AreJoined}
 use Rattle.stk_options.specs.declared.options.Options.{Options}
 use Rattle.stk_lines.specs.declared.counts.Counts.{Counts}
 use Rattle.stk_lines.specs.Counts.{nothing_counted, counts_sum}
-use Rattle.stk_unit_lines.proofs.Exists.{lines_of_unit}
+use Rattle.stk_declare_laws.specs.Orderly.{AreOrderly}
+use Rattle.stk_unit_lines.proofs.Exists.{lines_of_unit, left_orderly}
 use Rattle.stk_lint.specs.Form.{written_lines}
 use Rattle.stk_lint.specs.LawfulText.{AreUnitTexts, IsUnitText, body_of_piece, no_unit, then_unit, tokens_of_piece}
 
@@ -19,11 +20,12 @@ pub record IsWrittenOf (bytes : List ℕ) (o : Options) (mark : Bool) (es : List
   pub counts : Counts
   pub now : List NameEntry
   pub is : IsUnitText bytes o mark es body tokens text counts now
+  pub orderly : AreOrderly now
 
-pub text_of_unit : (bytes : List ℕ) (o : Options) (mark : Bool) (es : List NameEntry) (body : Option ℕ) (tokens : List Token) → 0 < length tokens → IsWrittenOf bytes o mark es body tokens
-text_of_unit bytes o mark es body tokens some =
-    let x = lines_of_unit bytes o.without mark es body tokens some in
-    record { text = written_lines o.json x.lines; counts = x.counts; now = x.now; is = record { lines = x.lines; are = x.is; same_text = refl } }
+pub text_of_unit : (bytes : List ℕ) (o : Options) (mark : Bool) (es : List NameEntry) (body : Option ℕ) (tokens : List Token) → AreOrderly es → 0 < length tokens → IsWrittenOf bytes o mark es body tokens
+text_of_unit bytes o mark es body tokens orderly some =
+    let x = lines_of_unit bytes o.without mark es body orderly tokens some in
+    record { text = written_lines o.json x.lines; counts = x.counts; now = x.now; is = record { lines = x.lines; are = x.is; same_text = refl }; orderly = left_orderly orderly x }
 
 -- ---- the texts of units
 
@@ -40,9 +42,9 @@ pub record AreWritten (bytes : List ℕ) (o : Options) (tokens : List Token) (es
   pub counts : Counts
   pub are : AreUnitTexts bytes o tokens es ps lines counts
 
-pub texts_of_units : (bytes : List ℕ) (o : Options) (tokens : List Token) (es : List NameEntry) (from : ℕ) (ps : List Piece) → AreJoined from (length tokens) ps → AreWritten bytes o tokens es ps
-texts_of_units bytes o tokens es from [] h = record { lines = []; counts = nothing_counted; are = no_unit }
-texts_of_units bytes o tokens es from (p ∷ ps) h =
-    let unit = text_of_unit bytes o p.no_return es (body_of_piece p) (tokens_of_piece tokens p) (piece_some tokens p (omega (arith, h.0, h.1)) (joined_up p.to (length tokens) ps h.3)) in
-    let others = texts_of_units bytes o tokens unit.now p.to ps h.3 in
+pub texts_of_units : (bytes : List ℕ) (o : Options) (tokens : List Token) (es : List NameEntry) (from : ℕ) (ps : List Piece) → AreOrderly es → AreJoined from (length tokens) ps → AreWritten bytes o tokens es ps
+texts_of_units bytes o tokens es from [] orderly h = record { lines = []; counts = nothing_counted; are = no_unit }
+texts_of_units bytes o tokens es from (p ∷ ps) orderly h =
+    let unit = text_of_unit bytes o p.no_return es (body_of_piece p) (tokens_of_piece tokens p) orderly (piece_some tokens p (omega (arith, h.0, h.1)) (joined_up p.to (length tokens) ps h.3)) in
+    let others = texts_of_units bytes o tokens unit.now p.to ps unit.orderly h.3 in
     record { lines = unit.text ++ others.lines; counts = counts_sum unit.counts others.counts; are = then_unit unit.is others.are }

@@ -6,7 +6,7 @@ ghost use Rattle.stk_base.specs.Limits.{most_bytes};
 ghost use Rattle.stk_base.specs.Causes.{Rose, HasCause};
 ghost use Rattle.stk_base.specs.Streams.{Came, Appended, AppendedPrefix, IsFlushed};
 ghost use Rattle.stk_units.specs.Units.{AreJoined};
-ghost use Rattle.stk_options.specs.Words.{AreLegal};
+ghost use Rattle.stk_declare_laws.specs.Orderly.{AreOrderly};
 ghost use Rattle.stk_lint.specs.Form.{written_summary};
 ghost use Rattle.stk_lint.specs.LawfulText.{body_of_piece, status_of, tokens_of_piece};
 ghost use Rattle.stk_lint.specs.Judged.{WroteUnit, WroteUnitPrefix, WroteUnits, WroteUnitsPrefix};
@@ -116,6 +116,7 @@ fn write_unit<K: Sink>(
 ) -> Result<Counts, Stop>
     requires some { 0 < length tokens.now }
     requires few { length tokens.now ≤ most_bytes }
+    requires names { AreOrderly names.old }
     ensures written { IfOk result (λ counts. WroteUnit input.now options piece.no_return names.old (body_of_piece piece) tokens.now (K.taken out.old) (K.taken out.new) counts names.new) }
     ensures prefix { OnErr result (WroteUnitPrefix input.now options piece.no_return names.old (body_of_piece piece) tokens.now (K.taken out.old) (K.taken out.new)) }
     ensures later { K.faults out.old ≤ K.faults out.new }

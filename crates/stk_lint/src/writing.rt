@@ -2,6 +2,7 @@
 
 ghost use Rattle.std.specs.Prelude.{◌≡◌, ◌≤◌, ◌<◌, ◌++◌, length, IfOk, OnOk};
 ghost use Rattle.stk_base.specs.Limits.{most_bytes};
+ghost use Rattle.stk_declare_laws.specs.Orderly.{AreOrderly};
 ghost use Rattle.stk_lint.specs.Form.{written_line, written_lines, written_summary};
 ghost use Rattle.stk_lint.specs.LawfulText.{IsUnitText};
 
@@ -74,6 +75,7 @@ pub(crate) fn unit_text(
 ) -> Result<UnitText, NoMemory>
     requires some { 0 < length tokens.now }
     requires few { length tokens.now ≤ most_bytes }
+    requires names { AreOrderly names.old }
     ensures { IfOk result (λ unit. IsUnitText input.now options mark names.old body tokens.now unit.text.items unit.counts names.new) }
 {
     let unit = unit_lines(alloc, input, options.without, mark, body, tokens, names)?;

@@ -14,11 +14,13 @@ use Rattle.stk_lines.specs.declared.counts.Counts.{Counts}
 use Rattle.stk_lines.specs.declared.line.Cause.{Cause}
 use Rattle.stk_lines.specs.declared.line.Line.{Line}
 use Rattle.stk_lines.specs.Counts.{nothing_counted}
+use Rattle.stk_declare_laws.specs.Orderly.{AreOrderly}
 use Rattle.stk_finding_laws.proofs.Paths.{path_findings}
 use Rattle.stk_unit_lines.specs.Functions.{unit_typing}
 use Rattle.stk_unit_lines.specs.Causes.{cause_of, body_cause}
 use Rattle.stk_unit_lines.specs.UnitLines.{one_skipped, one_judged, skip_line, function_lines, IsUnitLines, accepted, refused, unjudged, judged}
 use Rattle.stk_unit_lines.proofs.Measures.{small, few_bits}
+use Rattle.stk_unit_lines.proofs.Typed.{all_whole, stays_orderly, typed_well}
 
 pub record HasLines (bytes : List ℕ) (without : Kinds) (mark : Bool) (es : List NameEntry) (body : Option ℕ) (tokens : List Token) : Type 0 where
   pub lines : List Line
@@ -26,7 +28,11 @@ pub record HasLines (bytes : List ℕ) (without : Kinds) (mark : Bool) (es : Lis
   pub now : List NameEntry
   pub is : IsUnitLines bytes without mark es body tokens lines counts now
 
-module _ (bytes : List ℕ) (without : Kinds) (mark : Bool) (es : List NameEntry) (body : Option ℕ) where
+-- the names that are left are orderly too
+pub left_orderly : {bytes : List ℕ} {without : Kinds} {mark : Bool} {es : List NameEntry} {body : Option ℕ} {tokens : List Token} → AreOrderly es → (x : HasLines bytes without mark es body tokens) → AreOrderly x.now
+left_orderly {bytes} {without} {mark} {es} {body} {tokens} orderly x = stays_orderly bytes without mark es x.now body tokens x.lines x.counts orderly x.is
+
+module _ (bytes : List ℕ) (without : Kinds) (mark : Bool) (es : List NameEntry) (body : Option ℕ) (orderly : AreOrderly es) where
   lines_of_tree : (t : Token) (ts : List Token) (u : UnitTree) (now : List NameEntry) → Accepts bytes mark es (t ∷ ts) u now → HasLines bytes without mark es body (t ∷ ts)
   lines_of_tree t ts (s.empty_unit n) now h = record { lines = []; counts = nothing_counted; now = now; is = accepted (s.empty_unit n) h refl }
   lines_of_tree t ts (s.declares n d) now h = record { lines = []; counts = nothing_counted; now = now; is = accepted (s.declares n d) h refl }
@@ -35,9 +41,11 @@ module _ (bytes : List ℕ) (without : Kinds) (mark : Bool) (es : List NameEntry
     on (Some cause) e = record { lines = skip_line bytes t.span.from cause ∷ []; counts = one_skipped; now = now; is = unjudged n f cause h e }
     on None e =
         let ty = unit_typing bytes now (s.defines n f) in
-        let few = few_bits (weight ty without f) (input_bits (keys_of ty without f)) (small bytes without now (s.defines n f) e).measured in
+        let found = small bytes without now (s.defines n f) e in
+        let few = few_bits (weight ty without f) (input_bits (keys_of ty without f)) found.measured in
+        let typed = typed_well bytes without mark es now (t ∷ ts) n f orderly h found.result found.facts found.typed in
         let xs = path_findings ty without f few (candidates ty f) in
-        record { lines = function_lines bytes without now (s.defines n f) f xs.0; counts = one_judged xs.0; now = now; is = judged n f xs.0 h e xs.1 }
+        record { lines = function_lines bytes without now (s.defines n f) f xs.0; counts = one_judged xs.0; now = now; is = judged n f xs.0 h e (all_whole ty without f few typed (candidates ty f) xs.0 xs.1) }
 
   pub lines_of_unit : (tokens : List Token) → 0 < length tokens → HasLines bytes without mark es body tokens
   lines_of_unit [] some = absurd (omega arith)

@@ -76,6 +76,19 @@ few_nodes u e = leb-true (unit_nodes u) most_nodes (is_true (nat_le (unit_nodes 
 pub record IsSmall (bytes : List ℕ) (without : Kinds) (now : List NameEntry) (u : UnitTree) : Type 0 where
   pub nodes : unit_nodes u ≤ 20000
   pub measured : measured_cause (unit_typing bytes now u) without u ≡ None
+  pub result : Fact
+  pub facts : List Fact
+  pub typed : unit_typed bytes now u ≡ Good result facts
+
+-- what isn't refused has facts
+record HasFacts (o : Outcome Fact) : Type 0 where
+  result : Fact
+  facts : List Fact
+  is : o ≡ Good result facts
+
+has_facts : (bytes : List ℕ) (u : UnitTree) (o : Outcome Fact) (m : Option Cause) → first_cause (refused_cause bytes u o) m ≡ None → HasFacts o
+has_facts bytes u (Good x facts) m e = record { result = x; facts = facts; is = refl }
+has_facts bytes u (Refused k s) m e = absurd cc
 
 second_none : (a b : Option Cause) → first_cause a b ≡ None → b ≡ None
 second_none (Some x) b e = absurd cc
@@ -85,7 +98,9 @@ pub small : (bytes : List ℕ) (without : Kinds) (now : List NameEntry) (u : Uni
 small bytes without now u = on (has_many u) refl where
   on : (many : Bool) → has_many u ≡ many → (if many then Some (Nodes (unit_nodes u)) else first_cause (refused_cause bytes u (unit_typed bytes now u)) (measured_cause (unit_typing bytes now u) without u)) ≡ None → IsSmall bytes without now u
   on true e h = absurd cc
-  on false e h = record { nodes = few_nodes u e; measured = second_none _ _ h }
+  on false e h =
+      let found = has_facts bytes u (unit_typed bytes now u) (measured_cause (unit_typing bytes now u) without u) h in
+      record { nodes = few_nodes u e; measured = second_none _ _ h; result = found.result; facts = found.facts; typed = found.is }
 
 -- ---- what typing answers
 
@@ -93,17 +108,28 @@ small bytes without now u = on (has_many u) refl where
 pub record IsTypedUnit (bytes : List ℕ) (without : Kinds) (now : List NameEntry) (u : UnitTree) : Type 0 where
   pub cause : body_cause bytes without now u ≡ measured_cause (unit_typing bytes now u) without u
   pub nodes : unit_nodes u ≤ 20000
+  pub result : Fact
+  pub facts : List Fact
+  pub typed : unit_typed bytes now u ≡ Good result facts
 
 pub is_typed : {T : Type 0} (bytes : List ℕ) (without : Kinds) (now : List NameEntry) (u : UnitTree) (t : T) → Answers (has_many u) (unit_nodes u) (unit_typed bytes now u) (Ok t) → IsTypedUnit bytes without now u
-is_typed {T} bytes without now u t h = record { cause = same (has_many u) (unit_typed bytes now u) h; nodes = few_nodes u (none (has_many u) (unit_typed bytes now u) h) } where
-  none : (many : Bool) (o : Outcome Fact) → Answers {T} many (unit_nodes u) o (Ok t) → many ≡ false
-  none true o h = absurd h
-  none false o h = refl
+is_typed {T} bytes without now u t h =
+    let found = facts_by (has_many u) (unit_typed bytes now u) h in
+    record { cause = same (has_many u) (unit_typed bytes now u) h; nodes = few_nodes u (none (has_many u) (unit_typed bytes now u) h); result = found.result; facts = found.facts; typed = found.is }
+  where
+    facts_by : (many : Bool) (o : Outcome Fact) → Answers {T} many (unit_nodes u) o (Ok t) → HasFacts o
+    facts_by true o h = absurd h
+    facts_by false (Good x facts) h = record { result = x; facts = facts; is = refl }
+    facts_by false (Refused m s) h = absurd h
 
-  same : (many : Bool) (o : Outcome Fact) → Answers {T} many (unit_nodes u) o (Ok t) → (if many then Some (Nodes (unit_nodes u)) else first_cause (refused_cause bytes u o) (measured_cause (unit_typing bytes now u) without u)) ≡ measured_cause (unit_typing bytes now u) without u
-  same true o h = absurd h
-  same false (Good x facts) h = refl
-  same false (Refused m s) h = absurd h
+    none : (many : Bool) (o : Outcome Fact) → Answers {T} many (unit_nodes u) o (Ok t) → many ≡ false
+    none true o h = absurd h
+    none false o h = refl
+
+    same : (many : Bool) (o : Outcome Fact) → Answers {T} many (unit_nodes u) o (Ok t) → (if many then Some (Nodes (unit_nodes u)) else first_cause (refused_cause bytes u o) (measured_cause (unit_typing bytes now u) without u)) ≡ measured_cause (unit_typing bytes now u) without u
+    same true o h = absurd h
+    same false (Good x facts) h = refl
+    same false (Refused m s) h = absurd h
 
 -- a function that isn't typed has the line of its cause
 pub is_untyped : {T : Type 0} (bytes : List ℕ) (without : Kinds) (now : List NameEntry) (tokens : List Token) (u : UnitTree) (f : FunctionTree) (e : Untyped) (lines : List Line) (counts : Counts) → Answers {T} (has_many u) (unit_nodes u) (unit_typed bytes now u) (Err e)

@@ -6,7 +6,11 @@ use Rattle.stk_tree.specs.Syntax.{UnitTree, FunctionTree}
 use Rattle.stk_tree.specs.Nodes.{unit_nodes}
 use Rattle.stk_tree.specs.View.{view_unit}
 use Rattle.stk_numbers.specs.declared.conditions.Kinds.{Kinds}
+use Rattle.stk_facts.specs.Facts.{Fact}
+use Rattle.stk_facts.specs.Outcome.{Good}
+use Rattle.stk_gathering.specs.TypedTree.{IsTypedTree}
 use Rattle.stk_findings.specs.declared.finding.Finding.{Finding}
+use Rattle.stk_function_types.specs.Units.{unit_typed}
 use Rattle.stk_accept.specs.declared.accepting.Accepted.{Accepted}
 use Rattle.stk_accept.specs.declared.accepting.Accepted.TheVariants as accepted
 use Rattle.stk_accept.specs.Accepting.{beginning}
@@ -18,7 +22,7 @@ use Rattle.stk_lines.specs.declared.counts.Counts.{Counts}
 use Rattle.stk_lines.specs.declared.line.Cause.{Cause}
 use Rattle.stk_lines.specs.declared.line.Cause.TheVariants.{Rule, Nodes}
 use Rattle.stk_lines.specs.declared.line.Line.{Line}
-use Rattle.stk_unit_lines.specs.Functions.{IsLaidOut}
+use Rattle.stk_unit_lines.specs.Functions.{unit_typing, IsLaidOut}
 use Rattle.stk_unit_lines.specs.UnitLines.{one_skipped, one_judged, skip_line, function_lines, AreFindingsOf}
 
 -- the lines and the counts of a unit that is skipped: its first token begins where the line says
@@ -43,6 +47,10 @@ abbrev pub IsUntypedLine : List ℕ → List Token → UnitTree → Untyped → 
 IsUntypedLine bytes tokens u (untyped.Rule node rule) lines counts = IsSkipLine bytes tokens (Rule rule (spot_at bytes (beginning (unit_row u) node))) lines counts
 IsUntypedLine bytes tokens u (untyped.Nodes count) lines counts = IsSkipLine bytes tokens (Nodes count) lines counts
 IsUntypedLine bytes tokens u untyped.NoMemory lines counts = ⊥
+
+-- where typing accepts a function, its tree is typed
+abbrev pub IsTypedWell : List ℕ → Kinds → List NameEntry → UnitTree → FunctionTree → Type 0
+IsTypedWell bytes without now u f = (x : Fact) (facts : List Fact) → unit_typed bytes now u ≡ Good x facts → IsTypedTree (unit_typing bytes now u) without f
 
 -- the nodes of a unit have numbers of 32 bits and are laid out
 pub record IsReadWell (u : UnitTree) : Type 0 where

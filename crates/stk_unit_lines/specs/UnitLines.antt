@@ -4,12 +4,14 @@ use Rattle.stk_lex.specs.declared.token.Token.{Token}
 use Rattle.stk_ctype.specs.declared.symbol.NameEntry.{NameEntry}
 use Rattle.stk_tree.specs.declared.node.Node.{Node}
 use Rattle.stk_tree.specs.Syntax.{UnitTree, FunctionTree, defines}
+use Rattle.stk_numbers.specs.declared.conditions.Candidate.{Candidate}
+use Rattle.stk_numbers.specs.declared.conditions.Condition.{Condition}
 use Rattle.stk_numbers.specs.declared.conditions.Kinds.{Kinds}
 use Rattle.stk_runs.specs.Lists.{candidates}
 use Rattle.stk_findings.specs.declared.finding.Finding.{Finding}
 use Rattle.stk_findings.specs.declared.finding.Finding.TheVariants.{Clear, Unstable, Undecided}
 use Rattle.stk_findings.specs.Findings.{AreLawful}
-use Rattle.stk_path_findings.specs.PathSubjects.{path_subject}
+use Rattle.stk_findings.specs.PathFindings.{function_subject}
 use Rattle.stk_accept.specs.declared.accepting.Refusal.{Refusal}
 use Rattle.stk_accept.specs.Accepting.{Accepts, Refuses}
 use Rattle.stk_lines.specs.declared.counts.Counts.{Counts}
@@ -53,11 +55,16 @@ function_lines bytes without now u f findings =
     let q = unit_placed bytes u in
     findings_lines q ty f (function_keys q ty without f) (candidates ty f) findings
 
--- a function has these lawful findings, one for each of its candidates in order, with these kinds of conditions taken out
+-- no query is given up
+abbrev pub never_spent : Candidate → List Condition → Type 0
+never_spent c set = ⊥
+
+-- A function has these lawful findings, one for each of its candidates in order, with these kinds of conditions taken out: each set that is reported suffices in
+-- path runs and in every execution.
 abbrev pub AreFindingsOf : List ℕ → Kinds → List NameEntry → UnitTree → FunctionTree → List Finding → Type 0
 AreFindingsOf bytes without now u f findings =
     let ty = unit_typing bytes now u in
-    AreLawful (path_subject ty without f) (candidates ty f) findings
+    AreLawful (function_subject ty without f never_spent) (candidates ty f) findings
 
 -- The lines of a unit of these tokens, what it counts for, and the names that it leaves in force, where these are in force before it:
 -- an empty unit and a declaration that are accepted have none;

@@ -4,6 +4,7 @@ ghost use Rattle.std.specs.Prelude.{◌≡◌, ◌≤◌, ◌∷◌, [], IfOk, m
 ghost use Rattle.stk_tree.specs.View.{view_function, view_unit};
 ghost use Rattle.stk_runs.specs.Keys.{function_visits, input_bits};
 ghost use Rattle.stk_run_laws.specs.Sites.{IsNumbered};
+ghost use Rattle.stk_gathering.specs.TypedTree.{IsTypedTree};
 ghost use Rattle.stk_findings.specs.Findings.{AreLawful};
 ghost use Rattle.stk_function_types.specs.Nodes.{typing_in};
 ghost use Rattle.stk_sites.specs.Sites.{met_of, met_in};
@@ -166,7 +167,7 @@ pub(crate) fn judged(
     requires of { IsSettingOfFunction (view_function f.now) setting.now }
     requires numbered { IsNumbered (typing_in setting.now.types) (view_function f.now) }
     requires few { input_bits setting.now.keys ≤ 16 }
-    ensures { IfOk result (λ x. IsJudged setting.now.types.bytes setting.now.without setting.now.types.entries (view_unit setting.now.types.unit) (view_function f.now) x.lines.items x.counts) }
+    ensures { IsTypedTree (typing_in setting.now.types) setting.now.without (view_function f.now) → IfOk result (λ x. IsJudged setting.now.types.bytes setting.now.without setting.now.types.entries (view_unit setting.now.types.unit) (view_function f.now) x.lines.items x.counts) }
 {
     let list = candidates(alloc, setting.types(), f)?;
     let findings = findings_in(alloc, setting, f, list.as_slice())?;

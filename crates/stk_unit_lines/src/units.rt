@@ -6,12 +6,14 @@ ghost use Rattle.stk_tree.specs.Nodes.{unit_nodes};
 ghost use Rattle.stk_tree.specs.View.{view_function, view_unit};
 ghost use Rattle.stk_ctype.specs.declared.symbol.NameEntry.{NameEntry};
 ghost use Rattle.stk_function_types.specs.Nodes.{typing_in};
+ghost use Rattle.stk_declare_laws.specs.Orderly.{AreOrderly};
+ghost use Rattle.stk_gathering.specs.TypedTree.{IsTypedTree};
 ghost use Rattle.stk_accept.specs.Accepting.{Accepts, IsAnswered};
 ghost use Rattle.stk_lines.specs.Counts.{nothing_counted};
 ghost use Rattle.stk_unit_lines.specs.Functions.{IsDefinition};
 ghost use Rattle.stk_unit_lines.specs.Causes.{cause_of, body_cause, measured_cause};
 ghost use Rattle.stk_unit_lines.specs.UnitLines.{IsUnitLines};
-ghost use Rattle.stk_unit_lines.specs.Parts.{IsSkipLine, IsFunctionLines, IsUntypedLine, IsReadWell, AreReadWell};
+ghost use Rattle.stk_unit_lines.specs.Parts.{IsSkipLine, IsFunctionLines, IsUntypedLine, IsTypedWell, IsReadWell, AreReadWell};
 
 use crate::causes::{cause_of, measured_cause, rule_cause};
 use crate::functions::judged;
@@ -79,7 +81,7 @@ fn typed_lines(
     requires is { IsDefinition (view_unit types.now.unit) (view_function f.now) }
     requires read { IsReadWell (view_unit types.now.unit) }
     requires few { unit_nodes (view_unit types.now.unit) ≤ 20000 }
-    ensures { IfOk result (λ x. IsFunctionLines types.now.bytes without types.now.entries tokens.now (view_unit types.now.unit) (view_function f.now) (measured_cause (typing_in types.now) without (view_unit types.now.unit)) x.lines.items x.counts) }
+    ensures { IsTypedTree (typing_in types.now) without (view_function f.now) → IfOk result (λ x. IsFunctionLines types.now.bytes without types.now.entries tokens.now (view_unit types.now.unit) (view_function f.now) (measured_cause (typing_in types.now) without (view_unit types.now.unit)) x.lines.items x.counts) }
 {
     let setting = Setting::new(alloc, types, without, f)?;
     match measured_cause(alloc, &setting)? {
@@ -122,7 +124,7 @@ fn function_lines(
     requires some { 0 < length tokens.now }
     requires is { IsDefinition (view_unit unit.now) (view_function f.now) }
     requires read { IsReadWell (view_unit unit.now) }
-    ensures { IfOk result (λ x. IsFunctionLines input.now without names.now tokens.now (view_unit unit.now) (view_function f.now) (body_cause input.now without names.now (view_unit unit.now)) x.lines.items x.counts) }
+    ensures { IsTypedWell input.now without names.now (view_unit unit.now) (view_function f.now) → IfOk result (λ x. IsFunctionLines input.now without names.now tokens.now (view_unit unit.now) (view_function f.now) (body_cause input.now without names.now (view_unit unit.now)) x.lines.items x.counts) }
 {
     match types_of(alloc, input.bytes(), unit, names) {
         Ok(types) => typed_lines(alloc, input, without, tokens, &types, f),
@@ -141,7 +143,7 @@ fn lines_of_tree(
 ) -> Result<UnitLines, NoMemory>
     requires some { 0 < length tokens.now }
     requires read { IsReadWell (view_unit unit.now) }
-    ensures { (mark : Bool) → (es : List NameEntry) → (body : Option ℕ) → Accepts input.now mark es tokens.now (view_unit unit.now) names.now → IfOk result (λ x. IsUnitLines input.now without mark es body tokens.now x.lines.items x.counts names.now) }
+    ensures { (mark : Bool) → (es : List NameEntry) → (body : Option ℕ) → AreOrderly es → Accepts input.now mark es tokens.now (view_unit unit.now) names.now → IfOk result (λ x. IsUnitLines input.now without mark es body tokens.now x.lines.items x.counts names.now) }
 {
     match unit {
         Unit::Defines(_, f) => function_lines(alloc, input, without, tokens, unit, f, names),
@@ -160,7 +162,7 @@ fn lines_of_answer(
 ) -> Result<UnitLines, NoMemory>
     requires some { 0 < length tokens.now }
     requires read { AreReadWell found.now }
-    ensures { (mark : Bool) → (es : List NameEntry) → (body : Option ℕ) → IsAnswered input.now mark es tokens.now body found.now names.now → IfOk result (λ x. IsUnitLines input.now without mark es body tokens.now x.lines.items x.counts names.now) }
+    ensures { (mark : Bool) → (es : List NameEntry) → (body : Option ℕ) → AreOrderly es → IsAnswered input.now mark es tokens.now body found.now names.now → IfOk result (λ x. IsUnitLines input.now without mark es body tokens.now x.lines.items x.counts names.now) }
 {
     match found {
         Accepted::Tree(unit) => lines_of_tree(alloc, input, without, tokens, unit.get(), names),
@@ -175,7 +177,7 @@ fn lines_of_answer(
 /// declaration that are accepted; a line with the cause where no tree is the tokens, where a rule refuses the unit, and where it defines a function of
 /// over 20,000 nodes, of a weight over 8,000,000, or of over 16 input bits; and else the lines of the function's findings. The names are those that the
 /// unit leaves in force; `body` says how many of its tokens stand before a body, and `mark` that it is marked as one of functions that don't return.
-/// The only refusal is want of memory.
+/// The names before it are orderly, as units leave them (C11 6.7p7, 6.7.2.1). The only refusal is want of memory.
 pub fn unit_lines(
     alloc: Global,
     input: &Places,
@@ -187,6 +189,7 @@ pub fn unit_lines(
 ) -> Result<UnitLines, NoMemory>
     requires some { 0 < length tokens.now }
     requires few { length tokens.now ≤ most_bytes }
+    requires names { AreOrderly names.old }
     ensures { IfOk result (λ x. IsUnitLines input.now without mark names.old body tokens.now x.lines.items x.counts names.new) }
 {
     let found = accept(alloc, input.bytes(), mark, tokens, body, names)?;

@@ -40,3 +40,6 @@ loop-piece-init g c = record {
   so_far = rw (c.nothing-counts.ensures, c.new-names.ensures) (none_so_far c.args.input.now c.args.options c.args.tokens.now c.args.pieces.now (g.K.Sink.taken c.args.out.now) c.requires.joined);
   later = omega arith;
 }
+
+pub write_unit-requires-clause-names : goal.write_unit-requires-clause-names
+write_unit-requires-clause-names g c = c.loop-piece.invariant.so_far.orderly

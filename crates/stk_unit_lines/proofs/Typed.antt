@@ -1,0 +1,103 @@
+-- The trees of accepted functions are typed, so what suffices in path runs suffices in every execution; and units leave orderly names.
+use Rattle.std.proofs.Common.{◌≡◌, ℕ, ◌≤◌, Bool, true, List, [], ◌∷◌, take, Option, Some, None, ℤ, refl, sym, ap, subst}
+use Rattle.std.proofs.lemmas.Bool.{le-leb}
+use Rattle.stk_lex.specs.declared.token.Token.{Token}
+use Rattle.stk_lexeme.specs.Lexemes.{spans_of}
+use Rattle.stk_ctype.specs.declared.symbol.NameEntry.{NameEntry}
+use Rattle.stk_tree.specs.declared.node.Node.{Node}
+use Rattle.stk_tree.specs.Syntax.{UnitTree, FunctionTree}
+use Rattle.stk_tree.specs.Syntax as s
+use Rattle.stk_tree.specs.Unlaid.{unlaid_unit}
+use Rattle.stk_numbers.specs.declared.conditions.Candidate.{Candidate}
+use Rattle.stk_numbers.specs.declared.conditions.Condition.{Condition}
+use Rattle.stk_numbers.specs.declared.conditions.Kinds.{Kinds}
+use Rattle.stk_facts.specs.Facts.{Fact}
+use Rattle.stk_facts.specs.Outcome.{Good}
+use Rattle.stk_taken.specs.Statements.{function_taken}
+use Rattle.stk_declare_laws.specs.Orderly.{AreOrderly}
+use Rattle.stk_declare_laws.proofs.Kept.{units_keep_order}
+use Rattle.stk_runs.specs.Typings.{Typing, typing_of}
+use Rattle.stk_runs.specs.Keys.{keys_of, input_bits}
+use Rattle.stk_gathering.specs.TypedTree.{IsTypedTree}
+use Rattle.stk_gathering.proofs.Laws.{what_suffices_in_paths_suffices}
+use Rattle.stk_typed_trees.proofs.Whole.{accepted_trees_are_typed}
+use Rattle.stk_function_types.specs.Units.{unit_typed, facts_in}
+use Rattle.stk_findings.specs.declared.finding.Finding.{Finding}
+use Rattle.stk_findings.specs.Findings.{Subject, IsLawful, AreLawful}
+use Rattle.stk_findings.specs.PathFindings.{function_subject}
+use Rattle.stk_path_findings.specs.PathSubjects.{path_subject}
+use Rattle.stk_path_findings.proofs.Agreeing.{Agrees, lawful}
+use Rattle.stk_accept.specs.Accepting.{Accepts, Refuses, Leaves, LeavesHead, no_head, refused_head, declared_head}
+use Rattle.stk_lines.specs.declared.counts.Counts.{Counts}
+use Rattle.stk_lines.specs.declared.line.Line.{Line}
+use Rattle.stk_unit_lines.specs.Functions.{unit_typing, IsDefinition}
+use Rattle.stk_unit_lines.specs.UnitLines.{never_spent, IsUnitLines, accepted, refused, unjudged, judged}
+use Rattle.stk_unit_lines.specs.Parts.{IsTypedWell}
+
+-- ---- findings
+
+module _ (ty : Typing) (without : Kinds) (f : FunctionTree) (few : input_bits (keys_of ty without f) ≤ 16) (typed : IsTypedTree ty without f) where
+  agrees : Agrees (path_subject ty without f) (function_subject ty without f never_spent)
+  agrees = record {
+    maps = λ xs v. v;
+    back = λ xs v. v;
+    before = λ xs ys q p b. b;
+    run = λ xs v. refl;
+    conditions = refl;
+    all = sym (le-leb (input_bits (keys_of ty without f)) 16 few);
+    spent = λ c set h. h;
+  }
+
+  -- a finding that is lawful by path runs is lawful, executions included
+  whole : (c : Candidate) (x : Finding) → IsLawful (path_subject ty without f) c x → IsLawful (function_subject ty without f never_spent) c x
+  whole c x h =
+      lawful (path_subject ty without f) (function_subject ty without f never_spent) agrees c
+      (λ set u never. what_suffices_in_paths_suffices ty without f typed c set (record { by = λ numbers valid hits. never numbers (record { valid = valid; hits = hits }) })) x h
+
+  pub all_whole : (cs : List Candidate) (xs : List Finding) → AreLawful (path_subject ty without f) cs xs → AreLawful (function_subject ty without f never_spent) cs xs
+  all_whole [] [] h = tt
+  all_whole [] (x ∷ xs) h = absurd h
+  all_whole (c ∷ cs) [] h = absurd h
+  all_whole (c ∷ cs) (x ∷ xs) h = (whole c x h.0, all_whole cs xs h.1)
+
+-- ---- names
+
+-- the names behind a unit that is accepted, where those before it are orderly
+behind_accepted : (bytes : List ℕ) (mark : Bool) (es now : List NameEntry) (tokens : List Token) (u : UnitTree) → AreOrderly es → Accepts bytes mark es tokens u now → AreOrderly now
+behind_accepted bytes mark es now tokens u orderly h = units_keep_order.next bytes mark es now h.facts u h.declared orderly
+
+behind_head : (bytes : List ℕ) (mark : Bool) (es now : List NameEntry) (tokens : List Token) → AreOrderly es → LeavesHead bytes mark es tokens now → AreOrderly now
+behind_head bytes mark es now tokens orderly (no_head none) = orderly
+behind_head bytes mark es now tokens orderly (refused_head u node rule tree refused) = orderly
+behind_head bytes mark es now tokens orderly (declared_head u after facts tree declared) = units_keep_order.next bytes mark es now facts u declared orderly
+
+behind_refused : (bytes : List ℕ) (mark : Bool) (es now : List NameEntry) (tokens : List Token) (body : Option ℕ) → AreOrderly es → Leaves bytes mark es tokens body now → AreOrderly now
+behind_refused bytes mark es now tokens None orderly h = subst AreOrderly (sym h) orderly
+behind_refused bytes mark es now tokens (Some at) orderly h = behind_head bytes mark es now (take at tokens) orderly h
+
+-- units leave orderly names
+pub stays_orderly : (bytes : List ℕ) (without : Kinds) (mark : Bool) (es now : List NameEntry) (body : Option ℕ) (tokens : List Token) (lines : List Line) (counts : Counts) → AreOrderly es → IsUnitLines bytes without mark es body tokens lines counts now → AreOrderly now
+stays_orderly bytes without mark es now body tokens lines counts orderly (accepted u h none) = behind_accepted bytes mark es now tokens u orderly h
+stays_orderly bytes without mark es now body tokens lines counts orderly (refused cause h) = behind_refused bytes mark es now tokens body orderly h.leaves
+stays_orderly bytes without mark es now body tokens lines counts orderly (unjudged n f cause h because) = behind_accepted bytes mark es now tokens (s.defines n f) orderly h
+stays_orderly bytes without mark es now body tokens lines counts orderly (judged n f xs h none lawful) = behind_accepted bytes mark es now tokens (s.defines n f) orderly h
+
+-- ---- trees
+
+-- the tree of a function that is accepted is typed, where typing accepts its body
+pub typed_well : (bytes : List ℕ) (without : Kinds) (mark : Bool) (es now : List NameEntry) (tokens : List Token) (n : Node) (f : FunctionTree) → AreOrderly es → Accepts bytes mark es tokens (s.defines n f) now → IsTypedWell bytes without now (s.defines n f) f
+typed_well bytes without mark es now tokens n f orderly h x facts typed =
+    subst (λ fs. IsTypedTree (typing_of bytes now (function_taken bytes f) fs) without f) (sym (ap facts_in typed))
+    (accepted_trees_are_typed bytes now n f facts without (record {
+      names = behind_accepted bytes mark es now tokens (s.defines n f) orderly h;
+      spans = spans_of tokens;
+      unit = unlaid_unit (s.defines n f);
+      laid_out = sym h.tree.laid_out;
+      placed = h.tree.is.placed;
+      result = x;
+      typed = typed;
+    }))
+
+pub typed_well_of : (bytes : List ℕ) (without : Kinds) (mark : Bool) (es now : List NameEntry) (tokens : List Token) (u : UnitTree) (f : FunctionTree) → IsDefinition u f → AreOrderly es → Accepts bytes mark es tokens u now → IsTypedWell bytes without now u f
+typed_well_of bytes without mark es now tokens u f d orderly h =
+    subst (λ v. IsTypedWell bytes without now v f) (sym d.1) (typed_well bytes without mark es now tokens d.0 f orderly (subst (λ v. Accepts bytes mark es tokens v now) d.1 h))
