@@ -5,6 +5,7 @@ use Rattle.stk_units.specs.Skimming.{kept_tokens, notes_of}
 use Rattle.stk_units.specs.Units.{units_of}
 use Rattle.stk_units.proofs.Cuts.{cut_joined}
 use Rattle.stk_text_laws.proofs.Cutting.{cut_of}
+use Rattle.stk_declare_laws.proofs.Kept.{units_keep_order}
 use Rattle.stk_options.specs.declared.options.Options.{Options}
 use Rattle.stk_lint.specs.Form.{written_summary}
 use Rattle.stk_lint.specs.LawfulText.{IsLawfulText, status_of}
@@ -16,7 +17,7 @@ records_of bytes o =
     let kept = kept_tokens bytes cut.0 in
     let notes = notes_of bytes cut.0 in
     let joined = cut_joined bytes kept notes (units_of bytes kept notes) (record { all = λ order. refl; bounds = refl }) in
-    let units = texts_of_units bytes o kept [] 0 (units_of bytes kept notes) joined in (
+    let units = texts_of_units bytes o kept [] 0 (units_of bytes kept notes) units_keep_order.first joined in (
       units.lines ++ written_summary o.json o.without units.counts,
       (
         status_of units.counts.unstable units.counts.undecided,

@@ -1,5 +1,5 @@
 -- A text has one lawful text of records: each part that goes into it is determined.
-use Rattle.std.proofs.Common.{◌≡◌, ℕ, Bool, true, false, Option, Some, None, List, [], ◌∷◌, ◌++◌, refl, sym, ap, subst, ◌∙◌}
+use Rattle.std.proofs.Common.{◌≡◌, ◌≤◌, ℕ, Bool, true, false, Option, Some, None, List, [], ◌∷◌, ◌++◌, refl, sym, ap, subst, ◌∙◌}
 use Rattle.std.proofs.lemmas.Bool.{false≢true}
 use Rattle.stk_base.specs.declared.status.Status.{Status}
 use Rattle.stk_lex.specs.declared.token.Token.{Token}
@@ -12,10 +12,12 @@ use Rattle.stk_tree.specs.declared.node.Node.{Node}
 use Rattle.stk_tree.specs.Syntax.{UnitTree, FunctionTree}
 use Rattle.stk_tree.specs.Syntax as s
 use Rattle.stk_numbers.specs.declared.conditions.Kinds.{Kinds}
+use Rattle.stk_runs.specs.Keys.{keys_of, input_bits}
+use Rattle.stk_runs.specs.Weights.{weight}
 use Rattle.stk_runs.specs.Lists.{candidates}
 use Rattle.stk_findings.specs.declared.finding.Finding.{Finding}
-use Rattle.stk_path_findings.specs.PathSubjects.{path_subject}
-use Rattle.stk_one_finding.proofs.Unique.{one_findings, path_ordered}
+use Rattle.stk_findings.specs.PathFindings.{function_subject}
+use Rattle.stk_one_finding.proofs.Unique.{one_findings, function_ordered}
 use Rattle.stk_options.specs.declared.options.Options.{Options}
 use Rattle.stk_accept.specs.declared.accepting.Refusal.{Refusal}
 use Rattle.stk_accept.specs.Accepting.{Accepts}
@@ -25,7 +27,8 @@ use Rattle.stk_lines.specs.declared.line.Line.{Line}
 use Rattle.stk_lines.specs.Counts.{counts_sum}
 use Rattle.stk_unit_lines.specs.Functions.{unit_typing, is_definition}
 use Rattle.stk_unit_lines.specs.Causes.{cause_of, body_cause}
-use Rattle.stk_unit_lines.specs.UnitLines.{one_judged, skip_line, function_lines, AreFindingsOf, IsUnitLines, accepted, refused, unjudged, judged}
+use Rattle.stk_unit_lines.specs.UnitLines.{one_judged, skip_line, function_lines, AreFindingsOf, never_spent, IsUnitLines, accepted, refused, unjudged, judged}
+use Rattle.stk_unit_lines.proofs.Measures.{small, few_bits}
 use Rattle.stk_lint.specs.Form.{written_lines, written_summary}
 use Rattle.stk_lint.specs.LawfulText.{IsUnitText, body_of_piece, tokens_of_piece, AreUnitTexts, no_unit, then_unit, status_of, IsLawfulText}
 use Rattle.stk_lint_laws.proofs.Accepted.{one_tree, one_left, not_both, one_accepted, one_cause}
@@ -85,11 +88,22 @@ module _ (Lawful : List NameEntry → UnitTree → FunctionTree → List Finding
       let same : xs ≡ ys = one now u f xs ys h back in
       (ap (lines now u f) same ∙ ap (λ z. lines z u f ys) names ∙ ap (λ z. lines later z f ys) unit ∙ ap (λ z. lines later v z ys) function, ap one_judged same, names)
 
+-- findings of a function of few input bits
+record AreFewFindings (bytes : List ℕ) (without : Kinds) (now : List NameEntry) (u : UnitTree) (f : FunctionTree) (xs : List Finding) : Type 0 where
+  lawful : AreFindingsOf bytes without now u f xs
+  few : input_bits (keys_of (unit_typing bytes now u) without f) ≤ 16
+
 -- a function has one list of findings
-one_list : (bytes : List ℕ) (without : Kinds) (now : List NameEntry) (u : UnitTree) (f : FunctionTree) (xs ys : List Finding) → AreFindingsOf bytes without now u f xs → AreFindingsOf bytes without now u f ys → xs ≡ ys
+one_list : (bytes : List ℕ) (without : Kinds) (now : List NameEntry) (u : UnitTree) (f : FunctionTree) (xs ys : List Finding) → AreFewFindings bytes without now u f xs → AreFewFindings bytes without now u f ys → xs ≡ ys
 one_list bytes without now u f xs ys h k =
     let ty = unit_typing bytes now u in
-    one_findings (path_subject ty without f) (path_ordered ty without f) (candidates ty f) xs ys h k
+    one_findings (function_subject ty without f never_spent) (function_ordered ty without f never_spent h.few) (candidates ty f) xs ys h.lawful k.lawful
+
+-- a function that is judged has few
+few_findings : (bytes : List ℕ) (without : Kinds) (now : List NameEntry) (n : Node) (f : FunctionTree) (xs : List Finding) → body_cause bytes without now (s.defines n f) ≡ None → AreFindingsOf bytes without now (s.defines n f) f xs → AreFewFindings bytes without now (s.defines n f) f xs
+few_findings bytes without now n f xs none lawful =
+    let ty = unit_typing bytes now (s.defines n f) in
+    record { lawful = lawful; few = few_bits (weight ty without f) (input_bits (keys_of ty without f)) (small bytes without now (s.defines n f) none).measured }
 
 module _ {bytes : List ℕ} {without : Kinds} {mark : Bool} {es : List NameEntry} {body : Option ℕ} where
   one_unit_lines : {tokens : List Token} {lines other : List Line} {counts also : Counts} {now later : List NameEntry} → IsUnitLines bytes without mark es body tokens lines counts now → IsUnitLines bytes without mark es body tokens other also later → Same lines other counts also now later
@@ -114,7 +128,7 @@ module _ {bytes : List ℕ} {without : Kinds} {mark : Bool} {es : List NameEntry
   one_unit_lines {tokens = tokens} (judged {now = a} n f xs h none lawful) (judged {now = b} m g ys k none' lawful') =
       let unit : s.defines n f ≡ s.defines m g = one_tree bytes mark es tokens (s.defines n f) (s.defines m g) h.tree k.tree in
       let names : a ≡ b = one_accepted bytes mark es tokens (s.defines n f) (s.defines m g) a b h k in
-      same_judged (AreFindingsOf bytes without) (function_lines bytes without) (one_list bytes without) (s.defines n f) (s.defines m g) f g xs ys a b names unit (one_function bytes mark es n m f g unit) lawful lawful'
+      same_judged (AreFewFindings bytes without) (function_lines bytes without) (one_list bytes without) (s.defines n f) (s.defines m g) f g xs ys a b names unit (one_function bytes mark es n m f g unit) (few_findings bytes without a n f xs none lawful) (few_findings bytes without b m g ys none' lawful')
 
 -- ---- what is written
 

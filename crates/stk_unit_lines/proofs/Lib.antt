@@ -1,5 +1,5 @@
-mod Measures
+pub mod Measures
 pub mod Typed
-mod Made
+pub mod Made
 pub mod Exists
 pub mod Counted
