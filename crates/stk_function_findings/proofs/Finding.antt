@@ -1,5 +1,5 @@
 -- Findings of candidates, one after the other.
-use Rattle.std.proofs.Common.{◌≡◌, ℕ, ◌+◌, ◌<◌, ◌≤◌, ◌^◌, List, [], ◌∷◌, ◌++◌, length, take, get_or, Option, refl, sym, ap, subst, ◌∙◌}
+use Rattle.std.proofs.Common.{◌≡◌, ℕ, ◌+◌, ◌<◌, ◌≤◌, ◌^◌, List, [], ◌∷◌, ◌++◌, length, take, get_or, Option, sym, ap, subst, ◌∙◌}
 use Rattle.std.proofs.lemmas.List.{take_more}
 use Rattle.stk_tree.specs.Syntax.{FunctionTree}
 use Rattle.stk_ctype.specs.declared.kind.IntKind.{IntKind}
@@ -8,7 +8,7 @@ use Rattle.stk_numbers.specs.declared.conditions.Condition.{Condition}
 use Rattle.stk_numbers.specs.declared.conditions.Kinds.{Kinds}
 use Rattle.stk_runs.specs.declared.entry.Entry.{Entry}
 use Rattle.stk_runs.specs.Typings.{Typing}
-use Rattle.stk_runs.specs.Keys.{keys_of, input_bits}
+use Rattle.stk_runs.specs.Keys.{KeyInfo, keys_of, input_bits}
 use Rattle.stk_runs.specs.Lists.{conditions}
 use Rattle.stk_maps.specs.Maps.{bits_in}
 use Rattle.stk_findings.specs.declared.finding.Finding.{Finding}
@@ -42,3 +42,7 @@ lawful_here ty without f ks cs table c x kinds few all h found =
     let lawful = found h.runs h.described h.count in
     lawful_paths ty without f h.runs less count h.are c x
     (subst (λ l. IsLawful (subject_of (kinds_of keys) h.runs l) c x) all (subst (λ l. IsLawful (subject_of l h.runs cs) c x) kinds lawful))
+
+-- the kinds of a function's keys have few bits together
+pub few_bits : (ks : List IntKind) (own keys : List KeyInfo) → ks ≡ kinds_of own → own ≡ keys → input_bits keys ≤ 16 → bits_in ks ≤ 16
+few_bits ks own keys e same few = subst (λ n. n ≤ 16) (sym (ap bits_in (e ∙ ap kinds_of same) ∙ bits keys)) few

@@ -1,7 +1,10 @@
 -- A table that takes up one path run after the other.
-use Rattle.std.proofs.Common.{◌≡◌, ℕ, zero, suc, ◌+◌, ◌/◌, ◌%◌, ◌^◌, ◌<◌, ◌≤◌, ◌⊎◌, pos, List, [], ◌∷◌, ◌++◌, length, slice_get, Option, Some, None, Result, Ok, Err, OnOk, ℤ, refl, sym, ap, subst, ◌∙◌, inl, inr, arith, length-append}
+use Rattle.std.proofs.Common.{◌≡◌, ℕ, zero, suc, ◌+◌, ◌/◌, ◌%◌, ◌^◌, ◌<◌, ◌⊎◌, pos, List, [], ◌∷◌, ◌++◌, length, slice_get, Option, Some, Result, Ok, Err, OnOk, ℤ, refl, sym, ap, ◌∙◌, inl, inr, arith, length-append}
+use Rattle.std.proofs.Common.{drop, get_or, drop-cons, append_assoc}
+use Rattle.std.proofs.lemmas.List.{append-nil}
 use Rattle.stk_tree.specs.Syntax.{FunctionTree}
 use Rattle.stk_ctype.specs.declared.kind.IntKind.{IntKind}
+use Rattle.stk_numbers.specs.Kinds.{wrap}
 use Rattle.stk_numbers.specs.declared.conditions.Kinds.{Kinds}
 use Rattle.stk_numbers.proofs.Wrapping.{wrap_twice}
 use Rattle.stk_runs.specs.declared.entry.Entry.{Entry}
@@ -21,6 +24,29 @@ weaker (Err e) g p = p
 pub wrapped_map : (ks : List IntKind) (n : ℕ) → wrapped ks (map_at ks n) ≡ map_at ks n
 wrapped_map [] n = refl
 wrapped_map (k ∷ ks) n = λ i. wrap_twice k (pos (n / 2 ^ bits_in ks)) i ∷ wrapped_map ks (n % 2 ^ bits_in ks) i
+
+-- one number more
+pub next_word : (ks : List IntKind) (i : ℕ) (d : IntKind) (made now : List ℤ) (x w : ℤ) (xs rest all : List ℤ) → i < length ks → made ++ wrapped (drop i ks) rest ≡ all → rest ≡ x ∷ xs → w ≡ wrap (get_or ks i d) x → now ≡ made ++ w ∷ [] → now ++ wrapped (drop (i + 1) ks) xs ≡ all
+next_word ks i d made now x w xs rest all within h is word more =
+    let e : suc i ≡ i + 1 = omega arith in
+    let here : drop i ks ≡ get_or ks i d ∷ drop (i + 1) ks = drop-cons ks i d within ∙ ap (λ n. get_or ks i d ∷ drop n ks) e in
+    ap (λ l. l ++ wrapped (drop (i + 1) ks) xs) more
+    ∙ append_assoc made (w ∷ []) (wrapped (drop (i + 1) ks) xs)
+    ∙ ap (λ z. made ++ z ∷ wrapped (drop (i + 1) ks) xs) word
+    ∙ ap (λ l. made ++ wrapped l (x ∷ xs)) (sym here)
+    ∙ ap (λ l. made ++ wrapped (drop i ks) l) (sym is)
+    ∙ h
+
+length-zero : {A : Type 0} (xs : List A) → length xs ≡ 0 → xs ≡ []
+length-zero [] e = refl
+length-zero (x ∷ xs) e = absurd (omega (arith, e))
+
+-- no number is left
+pub last_word : (ks : List IntKind) (i : ℕ) (made rest all : List ℤ) → made ++ wrapped (drop i ks) rest ≡ all → length rest ≡ 0 → made ≡ all
+last_word ks i made rest all h empty = let none : rest ≡ [] = length-zero rest empty in sym (append-nil made) ∙ ap (λ l. made ++ l) (sym (nothing_left (drop i ks))) ∙ ap (λ l. made ++ wrapped (drop i ks) l) (sym none) ∙ h where
+  nothing_left : (l : List IntKind) → wrapped l [] ≡ []
+  nothing_left [] = refl
+  nothing_left (k ∷ l) = refl
 
 get_front : {A : Type 0} (xs : List A) (y : A) (n : ℕ) → n < length xs → slice_get (xs ++ y ∷ []) n ≡ slice_get xs n
 get_front [] y n less = absurd (omega (arith, less))
@@ -47,8 +73,8 @@ module _ (ty : Typing) (without : Kinds) (f : FunctionTree) where
   runs_more : (runs : List (Option (List Entry))) (t : List Entry) → ArePathRuns ty without f runs → t ≡ numbered (length runs) → ArePathRuns ty without f (runs ++ Some t ∷ [])
   runs_more runs t are is = record {
     each = λ n less. elim (last_or_less n (length runs) (omega (arith, less, length-append runs (Some t ∷ [])))) [
-      inl front ↦ get_front runs (Some t) n front ∙ are.each n front
-    | inr last ↦ ap (slice_get (runs ++ Some t ∷ [])) last ∙ get_last runs (Some t) ∙ ap (λ u. Some (Some u)) (is ∙ ap numbered (sym last))
+      | inl front ↦ get_front runs (Some t) n front ∙ are.each n front
+      | inr last ↦ ap (slice_get (runs ++ Some t ∷ [])) last ∙ get_last runs (Some t) ∙ ap (λ u. Some (Some u)) (is ∙ ap numbered (sym last))
     ];
   }
 

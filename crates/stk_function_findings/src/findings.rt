@@ -3,7 +3,7 @@
 ghost use Rattle.std.specs.Prelude.{◌≡◌, ◌≤◌, ◌^◌, IfOk};
 ghost use Rattle.stk_tree.specs.View.{view_function};
 ghost use Rattle.stk_runs.specs.Keys.{input_bits};
-ghost use Rattle.stk_runs.specs.Lists.{conditions};
+ghost use Rattle.stk_runs.specs.Lists as lists;
 ghost use Rattle.stk_findings.specs.Findings.{AreLawful};
 ghost use Rattle.stk_function_types.specs.Nodes.{typing_in};
 ghost use Rattle.stk_maps.specs.Maps.{bits_in};
@@ -34,7 +34,7 @@ fn findings_by(
     requires kinds { kinds.now ≡ subjects.kinds_of tables.now.places.keys }
     requires few { bits_in kinds.now ≤ 16 }
     requires table { IsTableOf (typing_in tables.now.places.types) tables.now.places.without (view_function f.now) (2 ^ bits_in kinds.now) table.now }
-    requires conditions { conditions.now ≡ conditions (typing_in tables.now.places.types) tables.now.places.without (view_function f.now) }
+    requires conditions { conditions.now ≡ lists.conditions (typing_in tables.now.places.types) tables.now.places.without (view_function f.now) }
     ensures { IfOk result (λ findings. AreLawful (subjects.path_subject (typing_in tables.now.places.types) tables.now.places.without (view_function f.now)) candidates.now findings.items) }
 {
     let mut findings = Vec::new(alloc);
@@ -58,7 +58,7 @@ pub fn findings_of(
 ) -> Result<Vec<Finding>, NoMemory>
     requires tables { AreTablesOf (view_function f.now) tables.now }
     requires few { input_bits tables.now.places.keys ≤ 16 }
-    requires conditions { conditions.now ≡ conditions (typing_in tables.now.places.types) tables.now.places.without (view_function f.now) }
+    requires conditions { conditions.now ≡ lists.conditions (typing_in tables.now.places.types) tables.now.places.without (view_function f.now) }
     ensures { IfOk result (λ findings. AreLawful (subjects.path_subject (typing_in tables.now.places.types) tables.now.places.without (view_function f.now)) candidates.now findings.items) }
 {
     if candidates.is_empty() {
