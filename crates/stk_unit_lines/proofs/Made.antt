@@ -1,8 +1,8 @@
 -- The lines of a unit, from what is known of its parts.
-use Rattle.std.proofs.Common.{◌≡◌, ℕ, ◌<◌, ◌≤◌, ◌+◌, ◌^◌, Bool, true, false, List, [], ◌∷◌, ◌++◌, length, take, drop, get_or, map, Option, Some, None, Result, Ok, Err, IfOk, refl, sym, ap, subst, ◌∙◌, arith}
+use Rattle.std.proofs.Common.{◌≡◌, ℕ, ◌<◌, ◌≤◌, ◌+◌, ◌^◌, Bool, false, List, [], ◌∷◌, ◌++◌, length, take, drop, get_or, Option, Some, None, Result, Ok, Err, IfOk, refl, sym, ap, subst, ◌∙◌, arith}
 use Rattle.stk_lex.specs.declared.token.Token.{Token}
 use Rattle.stk_lexeme.specs.Lexemes.{lexeme_of, spans_of}
-use Rattle.std.proofs.lemmas.List.{length-map}
+use Rattle.std.proofs.lemmas.List.{length-map, take_more}
 use Rattle.stk_ctype.specs.declared.symbol.NameEntry.{NameEntry}
 use Rattle.stk_tree.specs.declared.node.Node.{Node}
 use Rattle.stk_tree.specs.Syntax.{UnitTree, FunctionTree}
@@ -22,10 +22,18 @@ use Rattle.stk_lines.specs.declared.counts.Counts.{Counts}
 use Rattle.stk_lines.specs.declared.line.Cause.{Cause}
 use Rattle.stk_lines.specs.declared.line.Line.{Line}
 use Rattle.stk_lines.specs.Counts.{nothing_counted}
+use Rattle.std.proofs.Common.{suc, drop-cons, append_assoc}
+use Rattle.std.proofs.lemmas.List.{append-nil}
+use Rattle.stk_numbers.specs.declared.conditions.Candidate.{Candidate}
+use Rattle.stk_runs.specs.Typings.{Typing}
+use Rattle.stk_function_types.specs.Units.{TypedUnit}
+use Rattle.stk_settings.specs.Settings.{FunctionPlaces}
+use Rattle.stk_key_texts.specs.Placed.{Placed}
+use Rattle.stk_finding_lines.specs.Lines.{finding_lines, findings_lines}
 use Rattle.stk_unit_lines.specs.Functions.{is_definition, IsDefinition}
 use Rattle.stk_unit_lines.specs.Causes.{cause_of, body_cause}
 use Rattle.stk_unit_lines.specs.UnitLines.{unstable_count, undecided_count, one_skipped, skip_line, IsUnitLines, accepted, refused, unjudged, judged}
-use Rattle.stk_unit_lines.specs.Parts.{IsSkipLine, IsFunctionLines, IsReadWell, AreReadWell}
+use Rattle.stk_unit_lines.specs.Parts.{IsSkipLine, IsFunctionLines, IsJudged, AreReadWell}
 
 -- what is known of a value is known of it otherwise
 pub weaker : {A E : Type 0} (r : Result A E) (P Q : A → Type 0) → ((x : A) → P x → Q x) → IfOk r P → IfOk r Q
@@ -52,14 +60,14 @@ module _ (bytes : List ℕ) (without : Kinds) (mark : Bool) (es now : List NameE
     on (t ∷ ts) h line = rw (line.0, line.1) (unjudged n f cause h because)
 
   -- those of a function
-  pub of_function : (u : UnitTree) (f : FunctionTree) → IsDefinition u f → Accepts bytes mark es tokens u now → IsFunctionLines bytes without now tokens u f (body_cause bytes without now u) lines counts → IsUnitLines bytes without mark es body tokens lines counts now
-  of_function u f d h x =
+  pub function_made : (u : UnitTree) (f : FunctionTree) → IsDefinition u f → Accepts bytes mark es tokens u now → IsFunctionLines bytes without now tokens u f (body_cause bytes without now u) lines counts → IsUnitLines bytes without mark es body tokens lines counts now
+  function_made u f d h x =
       of_lines d.0 f (body_cause bytes without now (s.defines d.0 f)) (subst (λ v. Accepts bytes mark es tokens v now) d.1 h) refl
       (subst (λ v. IsFunctionLines bytes without now tokens v f (body_cause bytes without now v) lines counts) d.1 x)
 
   -- that of a unit that isn't accepted
-  pub of_refusal : (cause : Refusal) → Refuses bytes mark es tokens body cause now → IsSkipLine bytes tokens (cause_of bytes cause) lines counts → IsUnitLines bytes without mark es body tokens lines counts now
-  of_refusal cause h line = on tokens h line where
+  pub refusal_made : (cause : Refusal) → Refuses bytes mark es tokens body cause now → IsSkipLine bytes tokens (cause_of bytes cause) lines counts → IsUnitLines bytes without mark es body tokens lines counts now
+  refusal_made cause h line = on tokens h line where
     on : (ts : List Token) → Refuses bytes mark es ts body cause now → IsSkipLine bytes ts (cause_of bytes cause) lines counts → IsUnitLines bytes without mark es body ts lines counts now
     on [] h line = absurd line
     on (t ∷ ts) h line = rw (line.0, line.1) (refused cause h)
@@ -79,14 +87,60 @@ read_well bytes mark es now tokens body (answers.Refused cause) few h = tt
 -- ---- counts
 
 -- one finding more
-pub unstable_more : (xs : List Finding) (x : Finding) → unstable_count (xs ++ x ∷ []) ≡ unstable_count xs + unstable_count (x ∷ [])
+unstable_more : (xs : List Finding) (x : Finding) → unstable_count (xs ++ x ∷ []) ≡ unstable_count xs + unstable_count (x ∷ [])
 unstable_more [] x = omega arith
 unstable_more (Clear ∷ ys) x = unstable_more ys x
 unstable_more (Unstable start needs ∷ ys) x = omega (arith, unstable_more ys x)
 unstable_more (Undecided phase ∷ ys) x = unstable_more ys x
 
-pub undecided_more : (xs : List Finding) (x : Finding) → undecided_count (xs ++ x ∷ []) ≡ undecided_count xs + undecided_count (x ∷ [])
+undecided_more : (xs : List Finding) (x : Finding) → undecided_count (xs ++ x ∷ []) ≡ undecided_count xs + undecided_count (x ∷ [])
 undecided_more [] x = omega arith
 undecided_more (Clear ∷ ys) x = undecided_more ys x
 undecided_more (Unstable start needs ∷ ys) x = undecided_more ys x
 undecided_more (Undecided phase ∷ ys) x = omega (arith, undecided_more ys x)
+
+-- the same at a place of a list
+pub unstable_at : (xs : List Finding) (i : ℕ) (d : Finding) (n r : ℕ) → i < length xs → n ≡ unstable_count (take i xs) → r ≡ unstable_count (get_or xs i d ∷ []) → n + r ≡ unstable_count (take (i + 1) xs)
+unstable_at xs i d n r within so_far one = ap (λ k. k + r) so_far ∙ ap (λ k. unstable_count (take i xs) + k) one ∙ sym (unstable_more (take i xs) (get_or xs i d)) ∙ ap unstable_count (sym (take_more xs i d within))
+
+pub undecided_at : (xs : List Finding) (i : ℕ) (d : Finding) (n r : ℕ) → i < length xs → n ≡ undecided_count (take i xs) → r ≡ undecided_count (get_or xs i d ∷ []) → n + r ≡ undecided_count (take (i + 1) xs)
+undecided_at xs i d n r within so_far one = ap (λ k. k + r) so_far ∙ ap (λ k. undecided_count (take i xs) + k) one ∙ sym (undecided_more (take i xs) (get_or xs i d)) ∙ ap undecided_count (sym (take_more xs i d within))
+
+-- ---- findings and their lines
+
+module _ (q : Placed) (ty : Typing) (f : FunctionTree) (keys : List (List ℕ)) where
+  -- the lines of one finding more
+  pub next_lines : (cs : List Candidate) (i : ℕ) (d : Candidate) (made now : List Line) (x : Finding) (xs rest : List Finding) (all : List Line) → i < length cs → made ++ findings_lines q ty f keys (drop i cs) rest ≡ all → rest ≡ x ∷ xs
+      → now ≡ made ++ finding_lines q ty f keys (get_or cs i d) x → now ++ findings_lines q ty f keys (drop (i + 1) cs) xs ≡ all
+  next_lines cs i d made now x xs rest all within h is more =
+      let e : suc i ≡ i + 1 = omega arith in
+      let here : drop i cs ≡ get_or cs i d ∷ drop (i + 1) cs = drop-cons cs i d within ∙ ap (λ n. get_or cs i d ∷ drop n cs) e in
+      ap (λ l. l ++ findings_lines q ty f keys (drop (i + 1) cs) xs) more
+      ∙ append_assoc made (finding_lines q ty f keys (get_or cs i d) x) (findings_lines q ty f keys (drop (i + 1) cs) xs)
+      ∙ ap (λ l. made ++ findings_lines q ty f keys l (x ∷ xs)) (sym here)
+      ∙ ap (λ l. made ++ findings_lines q ty f keys (drop i cs) l) (sym is)
+      ∙ h
+
+  no_lines : (cs : List Candidate) → findings_lines q ty f keys cs [] ≡ []
+  no_lines [] = refl
+  no_lines (c ∷ cs) = refl
+
+  length-zero : (xs : List Finding) → length xs ≡ 0 → xs ≡ []
+  length-zero [] e = refl
+  length-zero (x ∷ xs) e = absurd (omega (arith, e))
+
+  -- no finding is left
+  pub last_lines : (cs : List Candidate) (i : ℕ) (made : List Line) (rest : List Finding) (all : List Line) → made ++ findings_lines q ty f keys (drop i cs) rest ≡ all → length rest ≡ 0 → made ≡ all
+  last_lines cs i made rest all h empty = sym (append-nil made) ∙ ap (λ l. made ++ l) (sym (no_lines (drop i cs))) ∙ ap (λ l. made ++ findings_lines q ty f keys (drop i cs) l) (sym (length-zero rest empty)) ∙ h
+
+-- a line with the cause, where there is one
+pub cause_line : (bytes b : List ℕ) (without : Kinds) (now : List NameEntry) (tokens : List Token) (u : UnitTree) (f : FunctionTree) (o : Option Cause) (cause : Cause) (lines : List Line) (counts : Counts) → b ≡ bytes → o ≡ Some cause
+    → IsSkipLine b tokens cause lines counts → IsFunctionLines bytes without now tokens u f o lines counts
+cause_line bytes b without now tokens u f o cause lines counts same e line = subst (λ m. IsFunctionLines bytes without now tokens u f m lines counts) (sym e) (subst (λ x. IsSkipLine x tokens cause lines counts) same line)
+
+-- the lines of findings, where there is none
+pub judged_lines : (f : FunctionTree) (p : FunctionPlaces) (t : TypedUnit) (without : Kinds) (tokens : List Token) (o : Option Cause) (lines : List Line) (counts : Counts) → p.types ≡ t → p.without ≡ without → o ≡ None
+    → IsJudged p.types.bytes p.without p.types.entries (view_unit p.types.unit) f lines counts → IsFunctionLines t.bytes without t.entries tokens (view_unit t.unit) f o lines counts
+judged_lines f p t without tokens o lines counts same kinds none j =
+    subst (λ m. IsFunctionLines t.bytes without t.entries tokens (view_unit t.unit) f m lines counts) (sym none)
+    (subst (λ w. IsJudged t.bytes w t.entries (view_unit t.unit) f lines counts) kinds (subst (λ (x : TypedUnit). IsJudged x.bytes p.without x.entries (view_unit x.unit) f lines counts) same j))

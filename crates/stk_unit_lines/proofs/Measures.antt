@@ -1,18 +1,17 @@
 -- Why functions are skipped, and what a function that isn't has.
-use Rattle.std.proofs.Common.{◌≡◌, ℕ, ◌≤◌, Bool, true, false, not, List, Option, Some, None, Result, Ok, Err, refl, sym, ap, subst, ◌∙◌, arith}
+use Rattle.std.proofs.Common.{◌≡◌, ℕ, ◌≤◌, Bool, true, false, not, List, Option, Some, None, Ok, Err, refl, sym, ap, subst, ◌∙◌}
 use Rattle.std.specs.Prelude.{nat_le, nat_lt, if◌then◌else◌}
 use Rattle.std.proofs.lemmas.Bool.{ltb-false, leb-true}
 use Rattle.stk_lex.specs.declared.token.Token.{Token}
 use Rattle.stk_ctype.specs.declared.symbol.NameEntry.{NameEntry}
-use Rattle.stk_tree.specs.Syntax.{UnitTree, FunctionTree, defines}
+use Rattle.stk_tree.specs.Syntax.{UnitTree, FunctionTree}
 use Rattle.stk_tree.specs.Nodes.{unit_nodes}
 use Rattle.stk_tree.specs.View.{view_unit}
-use Rattle.stk_tree_nodes.specs.Rows.{unit_row}
 use Rattle.stk_numbers.specs.declared.conditions.Kinds.{Kinds}
 use Rattle.stk_facts.specs.Facts.{Fact}
 use Rattle.stk_facts.specs.Outcome.{Outcome, Good, Refused}
 use Rattle.stk_runs.specs.Typings.{Typing}
-use Rattle.stk_runs.specs.Keys.{keys_of, input_bits, setting_of}
+use Rattle.stk_runs.specs.Keys.{body_of, keys_of, input_bits, setting_of}
 use Rattle.stk_runs.specs.Weights.{weight, most_weight}
 use Rattle.stk_run_laws.specs.Sites.{IsNumbered}
 use Rattle.stk_numbering.proofs.Numbered.{what_is_laid_out_is_numbered}
@@ -20,16 +19,17 @@ use Rattle.stk_findings.specs.PathFindings.{most_bits}
 use Rattle.stk_function_types.specs.Units.{TypedUnit, unit_typed}
 use Rattle.stk_function_types.specs.Nodes.{typing_in}
 use Rattle.stk_settings.specs.Settings.{FunctionPlaces, setting_in}
+use Rattle.stk_evaluating.specs.Loops.{EachLoop}
+use Rattle.stk_loop_rows.specs.Rows.{Tables, Knows}
+use Rattle.stk_function_findings.specs.Tables.{AreTablesOf}
 use Rattle.stk_weights.specs.Units.{IsSettingOf, IsSettingOfFunction, IsWhole}
 use Rattle.stk_typed.specs.declared.untyped.Untyped.{Untyped}
 use Rattle.stk_typed.specs.declared.untyped.Untyped.TheVariants as untyped
 use Rattle.stk_typed.specs.Answering.{Answers, has_many, most_nodes}
-use Rattle.stk_accept.specs.Accepting.{beginning}
 use Rattle.stk_lines.specs.declared.line.Cause.{Cause}
-use Rattle.stk_lines.specs.declared.line.Cause.TheVariants.{Rule, Nodes, Weight, Bits}
+use Rattle.stk_lines.specs.declared.line.Cause.TheVariants.{Nodes}
 use Rattle.stk_lines.specs.declared.line.Line.{Line}
 use Rattle.stk_lines.specs.declared.counts.Counts.{Counts}
-use Rattle.stk_finding_lines.specs.Lines.{spot_at}
 use Rattle.stk_unit_lines.specs.Functions.{unit_typing, IsDefinition, IsLaidOut}
 use Rattle.stk_unit_lines.specs.Causes.{refused_cause, sized_cause, measured_cause, first_cause, body_cause}
 use Rattle.stk_unit_lines.specs.Parts.{IsSkipLine, IsFunctionLines, IsUntypedLine}
@@ -45,6 +45,14 @@ of_function f p t without e k same =
       keys = k ∙ (λ i. keys_of (typing_in (sym same i)) (kinds i) f);
     }
 
+-- tables that are made of a function's setting are the function's
+pub tables_of : (f : FunctionTree) (t : Tables) (p : FunctionPlaces) → t.places ≡ p → IsSettingOfFunction f p → EachLoop (Knows (setting_in p) p.keys t.rows) (body_of f) → AreTablesOf f t
+tables_of f t p e h l = record {
+  setting = subst (λ x. setting_in x ≡ setting_of (typing_in x.types) x.without f) (sym e) h.setting;
+  keys = subst (λ x. x.keys ≡ keys_of (typing_in x.types) x.without f) (sym e) h.keys;
+  loops = subst (λ x. EachLoop (Knows (setting_in x) x.keys t.rows) (body_of f)) (sym e) l;
+}
+
 -- a unit that defines the function has its setting
 pub whole : (f : FunctionTree) (p : FunctionPlaces) → IsDefinition (view_unit p.types.unit) f → IsSettingOfFunction f p → IsWhole p
 whole f p d h = subst (λ u. IsSettingOf u p) (sym d.1) h
@@ -58,13 +66,22 @@ numbered ty u f d l = (what_is_laid_out_is_numbered ty l.0 l.1.0 d.0 f (sym l.1.
 pub measured_of : (ty : Typing) (without : Kinds) (u : UnitTree) (f : FunctionTree) → IsDefinition u f → measured_cause ty without u ≡ sized_cause (weight ty without f) (input_bits (keys_of ty without f))
 measured_of ty without u f d = ap (measured_cause ty without) d.1
 
+-- the cause by a setting of the function's own types
+pub measured_here : (f : FunctionTree) (p : FunctionPlaces) (t : TypedUnit) (without : Kinds) (o : Option Cause) → IsDefinition (view_unit t.unit) f → setting_in p ≡ setting_of (typing_in t) without f → p.types ≡ t
+    → o ≡ sized_cause (weight (typing_in p.types) p.without f) (input_bits (keys_of (typing_in p.types) p.without f)) → measured_cause (typing_in t) without (view_unit t.unit) ≡ o
+measured_here f p t without o d e same is =
+    let kinds : without ≡ p.without = sym (ap (λ g. g.without) e) in
+    measured_of (typing_in t) without (view_unit t.unit) f d
+    ∙ (λ i. sized_cause (weight (typing_in (sym same i)) (kinds i) f) (input_bits (keys_of (typing_in (sym same i)) (kinds i) f)))
+    ∙ sym is
+
 -- a function without a cause has few input bits
 pub few_bits : (w bits : ℕ) → sized_cause w bits ≡ None → bits ≤ 16
-few_bits w bits = on (nat_lt most_weight w) (nat_lt most_bits bits) refl where
-  on : (a b : Bool) {x y : Cause} → nat_lt most_bits bits ≡ b → (if a then Some x else (if b then Some y else None)) ≡ None → bits ≤ 16
-  on true b e h = absurd cc
-  on false true e h = absurd cc
-  on false false e h = ltb-false 16 bits e
+few_bits w bits = on (nat_lt most_weight w) (nat_lt most_bits bits) _ _ refl where
+  on : (a b : Bool) (x y : Cause) → nat_lt most_bits bits ≡ b → (if a then Some x else (if b then Some y else None)) ≡ None → bits ≤ 16
+  on true b x y e h = absurd cc
+  on false true x y e h = absurd cc
+  on false false x y e h = ltb-false 16 bits e
 
 few_nodes : (u : UnitTree) → has_many u ≡ false → unit_nodes u ≤ 20000
 few_nodes u e = leb-true (unit_nodes u) most_nodes (is_true (nat_le (unit_nodes u) most_nodes) e) where
@@ -113,29 +130,29 @@ pub record IsTypedUnit (bytes : List ℕ) (without : Kinds) (now : List NameEntr
   pub typed : unit_typed bytes now u ≡ Good result facts
 
 pub is_typed : {T : Type 0} (bytes : List ℕ) (without : Kinds) (now : List NameEntry) (u : UnitTree) (t : T) → Answers (has_many u) (unit_nodes u) (unit_typed bytes now u) (Ok t) → IsTypedUnit bytes without now u
-is_typed {T} bytes without now u t h =
+is_typed {T = T} bytes without now u t h =
     let found = facts_by (has_many u) (unit_typed bytes now u) h in
     record { cause = same (has_many u) (unit_typed bytes now u) h; nodes = few_nodes u (none (has_many u) (unit_typed bytes now u) h); result = found.result; facts = found.facts; typed = found.is }
   where
-    facts_by : (many : Bool) (o : Outcome Fact) → Answers {T} many (unit_nodes u) o (Ok t) → HasFacts o
+    facts_by : (many : Bool) (o : Outcome Fact) → Answers {T = T} many (unit_nodes u) o (Ok t) → HasFacts o
     facts_by true o h = absurd h
     facts_by false (Good x facts) h = record { result = x; facts = facts; is = refl }
     facts_by false (Refused m s) h = absurd h
 
-    none : (many : Bool) (o : Outcome Fact) → Answers {T} many (unit_nodes u) o (Ok t) → many ≡ false
+    none : (many : Bool) (o : Outcome Fact) → Answers {T = T} many (unit_nodes u) o (Ok t) → many ≡ false
     none true o h = absurd h
     none false o h = refl
 
-    same : (many : Bool) (o : Outcome Fact) → Answers {T} many (unit_nodes u) o (Ok t) → (if many then Some (Nodes (unit_nodes u)) else first_cause (refused_cause bytes u o) (measured_cause (unit_typing bytes now u) without u)) ≡ measured_cause (unit_typing bytes now u) without u
+    same : (many : Bool) (o : Outcome Fact) → Answers {T = T} many (unit_nodes u) o (Ok t) → (if many then Some (Nodes (unit_nodes u)) else first_cause (refused_cause bytes u o) (measured_cause (unit_typing bytes now u) without u)) ≡ measured_cause (unit_typing bytes now u) without u
     same true o h = absurd h
     same false (Good x facts) h = refl
     same false (Refused m s) h = absurd h
 
 -- a function that isn't typed has the line of its cause
-pub is_untyped : {T : Type 0} (bytes : List ℕ) (without : Kinds) (now : List NameEntry) (tokens : List Token) (u : UnitTree) (f : FunctionTree) (e : Untyped) (lines : List Line) (counts : Counts) → Answers {T} (has_many u) (unit_nodes u) (unit_typed bytes now u) (Err e)
+pub is_untyped : (T : Type 0) (bytes : List ℕ) (without : Kinds) (now : List NameEntry) (tokens : List Token) (u : UnitTree) (f : FunctionTree) (e : Untyped) (lines : List Line) (counts : Counts) → Answers {T = T} (has_many u) (unit_nodes u) (unit_typed bytes now u) (Err e)
     → IsUntypedLine bytes tokens u e lines counts → IsFunctionLines bytes without now tokens u f (body_cause bytes without now u) lines counts
-is_untyped {T} bytes without now tokens u f e lines counts = on (has_many u) (unit_nodes u) (unit_typed bytes now u) e (measured_cause (unit_typing bytes now u) without u) where
-  on : (many : Bool) (count : ℕ) (o : Outcome Fact) (e : Untyped) (m : Option Cause) → Answers {T} many count o (Err e) → IsUntypedLine bytes tokens u e lines counts
+is_untyped T bytes without now tokens u f e lines counts = on (has_many u) (unit_nodes u) (unit_typed bytes now u) e (measured_cause (unit_typing bytes now u) without u) where
+  on : (many : Bool) (count : ℕ) (o : Outcome Fact) (e : Untyped) (m : Option Cause) → Answers {T = T} many count o (Err e) → IsUntypedLine bytes tokens u e lines counts
       → IsFunctionLines bytes without now tokens u f (if many then Some (Nodes count) else first_cause (refused_cause bytes u o) m) lines counts
   on true count o (untyped.Rule n r) m h line = absurd h
   on true count o (untyped.Nodes c) m h line = subst (λ k. IsSkipLine bytes tokens (Nodes k) lines counts) h line

@@ -1,5 +1,5 @@
 -- The trees of accepted functions are typed, so what suffices in path runs suffices in every execution; and units leave orderly names.
-use Rattle.std.proofs.Common.{◌≡◌, ℕ, ◌≤◌, Bool, true, List, [], ◌∷◌, take, Option, Some, None, ℤ, refl, sym, ap, subst}
+use Rattle.std.proofs.Common.{ℕ, ◌≤◌, Bool, List, [], ◌∷◌, take, Option, Some, None, refl, sym, ap, subst}
 use Rattle.std.proofs.lemmas.Bool.{le-leb}
 use Rattle.stk_lex.specs.declared.token.Token.{Token}
 use Rattle.stk_lexeme.specs.Lexemes.{spans_of}
@@ -9,10 +9,7 @@ use Rattle.stk_tree.specs.Syntax.{UnitTree, FunctionTree}
 use Rattle.stk_tree.specs.Syntax as s
 use Rattle.stk_tree.specs.Unlaid.{unlaid_unit}
 use Rattle.stk_numbers.specs.declared.conditions.Candidate.{Candidate}
-use Rattle.stk_numbers.specs.declared.conditions.Condition.{Condition}
 use Rattle.stk_numbers.specs.declared.conditions.Kinds.{Kinds}
-use Rattle.stk_facts.specs.Facts.{Fact}
-use Rattle.stk_facts.specs.Outcome.{Good}
 use Rattle.stk_taken.specs.Statements.{function_taken}
 use Rattle.stk_declare_laws.specs.Orderly.{AreOrderly}
 use Rattle.stk_declare_laws.proofs.Kept.{units_keep_order}
@@ -21,16 +18,16 @@ use Rattle.stk_runs.specs.Keys.{keys_of, input_bits}
 use Rattle.stk_gathering.specs.TypedTree.{IsTypedTree}
 use Rattle.stk_gathering.proofs.Laws.{what_suffices_in_paths_suffices}
 use Rattle.stk_typed_trees.proofs.Whole.{accepted_trees_are_typed}
-use Rattle.stk_function_types.specs.Units.{unit_typed, facts_in}
+use Rattle.stk_function_types.specs.Units.{facts_in}
 use Rattle.stk_findings.specs.declared.finding.Finding.{Finding}
-use Rattle.stk_findings.specs.Findings.{Subject, IsLawful, AreLawful}
+use Rattle.stk_findings.specs.Findings.{IsLawful, AreLawful}
 use Rattle.stk_findings.specs.PathFindings.{function_subject}
 use Rattle.stk_path_findings.specs.PathSubjects.{path_subject}
 use Rattle.stk_path_findings.proofs.Agreeing.{Agrees, lawful}
-use Rattle.stk_accept.specs.Accepting.{Accepts, Refuses, Leaves, LeavesHead, no_head, refused_head, declared_head}
+use Rattle.stk_accept.specs.Accepting.{Accepts, Leaves, LeavesHead, no_head, refused_head, declared_head}
 use Rattle.stk_lines.specs.declared.counts.Counts.{Counts}
 use Rattle.stk_lines.specs.declared.line.Line.{Line}
-use Rattle.stk_unit_lines.specs.Functions.{unit_typing, IsDefinition}
+use Rattle.stk_unit_lines.specs.Functions.{IsDefinition}
 use Rattle.stk_unit_lines.specs.UnitLines.{never_spent, IsUnitLines, accepted, refused, unjudged, judged}
 use Rattle.stk_unit_lines.specs.Parts.{IsTypedWell}
 
@@ -68,7 +65,7 @@ behind_accepted bytes mark es now tokens u orderly h = units_keep_order.next byt
 
 behind_head : (bytes : List ℕ) (mark : Bool) (es now : List NameEntry) (tokens : List Token) → AreOrderly es → LeavesHead bytes mark es tokens now → AreOrderly now
 behind_head bytes mark es now tokens orderly (no_head none) = orderly
-behind_head bytes mark es now tokens orderly (refused_head u node rule tree refused) = orderly
+behind_head bytes mark es now tokens orderly (refused_head u node rule tree because) = orderly
 behind_head bytes mark es now tokens orderly (declared_head u after facts tree declared) = units_keep_order.next bytes mark es now facts u declared orderly
 
 behind_refused : (bytes : List ℕ) (mark : Bool) (es now : List NameEntry) (tokens : List Token) (body : Option ℕ) → AreOrderly es → Leaves bytes mark es tokens body now → AreOrderly now

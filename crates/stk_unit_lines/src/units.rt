@@ -147,7 +147,8 @@ fn lines_of_tree(
 {
     match unit {
         Unit::Defines(_, f) => function_lines(alloc, input, without, tokens, unit, f, names),
-        Unit::Empty(_) | Unit::Declares(_, _) => Ok(nothing(alloc)),
+        Unit::Empty(_) => Ok(nothing(alloc)),
+        Unit::Declares(_, _) => Ok(nothing(alloc)),
     }
 }
 
