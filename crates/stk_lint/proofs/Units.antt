@@ -1,5 +1,5 @@
 -- What is written of units, one after the other: each unit has a text, and how the texts of units go on.
-use Rattle.std.proofs.Common.{◌≡◌, ℕ, ◌-◌, ◌<◌, ◌≤◌, Bool, List, [], ◌∷◌, ◌++◌, length, drop, Option, refl, arith}
+use Rattle.std.proofs.Common.{ℕ, ◌-◌, ◌<◌, ◌≤◌, Bool, List, [], ◌∷◌, ◌++◌, length, drop, Option, refl, arith}
 use Rattle.std.proofs.lemmas.List.{length-drop, length-take}
 use Rattle.stk_ctype.specs.declared.symbol.NameEntry.{NameEntry}
 use Rattle.stk_lex.specs.declared.token.Token.{Token}

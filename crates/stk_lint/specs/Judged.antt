@@ -1,5 +1,5 @@
 -- What a sink takes of units.
-use Rattle.std.specs.Prelude.{◌≡◌, ℕ, Bool, List, [], Option}
+use Rattle.std.specs.Prelude.{ℕ, Bool, List, [], Option}
 use Rattle.stk_lex.specs.declared.token.Token.{Token}
 use Rattle.stk_units.specs.declared.cutting.Piece.{Piece}
 use Rattle.stk_base.specs.Streams.{Appended, AppendedPrefix}

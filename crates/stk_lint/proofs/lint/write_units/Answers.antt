@@ -19,11 +19,11 @@ returns-in_err-counted-clause-prefix g c =
     on_err c.from_residual.result (WroteUnitsPrefix c.args.input.now c.args.options c.args.tokens.now c.args.pieces.now (g.K.Sink.taken c.args.out.now) (g.K.Sink.taken c.write_unit.new.out))
     (stops_in_unit c.args.input.now c.args.options c.args.tokens.now c.args.pieces.now (g.K.Sink.taken c.args.out.now) c.loop-piece.piece-index _ (g.K.Sink.taken c.loop-piece.out) (g.K.Sink.taken c.write_unit.new.out) c.loop-piece.counts c.loop-piece.names c.loop-piece-test.true c.loop-piece.invariant.so_far (rw c.tokens_of-unit.ensures at c.in_err-counted.ensures.prefix))
 
-pub plus-counts-requires-clause-self_few : goal.plus-counts-requires-clause-self_few
-plus-counts-requires-clause-self_few g c = so_far_few c.args.input.now c.args.options c.args.tokens.now c.args.pieces.now (g.K.Sink.taken c.args.out.now) c.loop-piece.piece-index (g.K.Sink.taken c.loop-piece.out) c.loop-piece.counts c.loop-piece.names c.loop-piece.invariant.so_far c.requires.few
+pub plus-counts-requires-clause-first : goal.plus-counts-requires-clause-first
+plus-counts-requires-clause-first g c = so_far_few c.args.input.now c.args.options c.args.tokens.now c.args.pieces.now (g.K.Sink.taken c.args.out.now) c.loop-piece.piece-index (g.K.Sink.taken c.loop-piece.out) c.loop-piece.counts c.loop-piece.names c.loop-piece.invariant.so_far c.requires.few
 
-pub plus-counts-requires-clause-other_few : goal.plus-counts-requires-clause-other_few
-plus-counts-requires-clause-other_few g c =
+pub plus-counts-requires-clause-second : goal.plus-counts-requires-clause-second
+plus-counts-requires-clause-second g c =
     unit_few c.args.input.now c.args.options c.args.tokens.now c.args.pieces.now (g.K.Sink.taken c.args.out.now) c.loop-piece.piece-index _ (g.K.Sink.taken c.loop-piece.out) _ _ c.loop-piece.counts c.in_ok-counted.counted c.loop-piece.names c.write_unit.new.names _ _ c.tokens_of-unit.result.now c.loop-piece-test.true c.loop-piece.invariant.so_far c.requires.few c.tokens_of-unit.ensures c.in_ok-counted.ensures.written
 
 pub loop-piece-preserved : goal.loop-piece-preserved
