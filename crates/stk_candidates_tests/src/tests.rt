@@ -57,12 +57,7 @@ fn is_listed(facts: &Facts, row: &Listed) -> bool {
 }
 
 // Whether this is listed of each function of a table.
-fn are_listed(
-    rt: &impl Abort,
-    alloc: Global,
-    first: &str,
-    table: &[Listed],
-) -> Result<(), Fail> {
+fn are_listed(rt: &impl Abort, alloc: Global, first: &str, table: &[Listed]) -> Result<(), Fail> {
     for row in table {
         let whole = below(alloc, first, row.0)?;
         let found = last_facts(alloc, rt, whole.as_slice())?;
@@ -109,8 +104,14 @@ fn have_candidates(
         let found = last_facts(alloc, rt, text.as_bytes())?;
         assert!(rt; found.is_some(), "{text:?}");
         if let Some(facts) = found {
-            assert!(rt; is_text(facts.conditions.as_slice(), conditions), "{text:?} {facts:?}");
-            assert!(rt; is_text(facts.candidates.as_slice(), candidates), "{text:?} {facts:?}");
+            assert!(rt;
+                is_text(facts.conditions.as_slice(), conditions),
+                "{text:?} {facts:?}"
+            );
+            assert!(rt;
+                is_text(facts.candidates.as_slice(), candidates),
+                "{text:?} {facts:?}"
+            );
         }
     }
     Ok(())

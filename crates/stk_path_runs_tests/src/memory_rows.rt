@@ -177,11 +177,7 @@ pub(crate) static POINTERS: [Run; 18] = [
         &[31, 66, 1],
         "true 17 at 51, enter 21 at 54",
     ),
-    (
-        "int m24(void) { die(); return count; }",
-        &[180224, 0],
-        "",
-    ),
+    ("int m24(void) { die(); return count; }", &[180224, 0], ""),
     (
         "int m25(int x) { if (x) die(); else count = 3; return count; }",
         &[127, 204800, 1],

@@ -49,18 +49,16 @@ fn below(alloc: Global, first: &str, text: &str) -> Result<Vec<u8>, NoMemory> {
 }
 
 // Whether each function of a table has this trace for these numbers of its keys.
-fn have_traces(
-    rt: &impl Abort,
-    alloc: Global,
-    first: &str,
-    table: &[Run],
-) -> Result<(), Fail> {
+fn have_traces(rt: &impl Abort, alloc: Global, first: &str, table: &[Run]) -> Result<(), Fail> {
     for (text, numbers, trace) in table {
         let whole = below(alloc, first, text)?;
         let found = last_run(alloc, rt, whole.as_slice(), numbers)?;
         assert!(rt; found.is_some(), "{text:?} {numbers:?}");
         if let Some(found) = found {
-            assert!(rt; found.as_slice() == trace.as_bytes(), "{text:?} {numbers:?} {found:?}");
+            assert!(rt;
+                found.as_slice() == trace.as_bytes(),
+                "{text:?} {numbers:?} {found:?}"
+            );
         }
     }
     Ok(())
