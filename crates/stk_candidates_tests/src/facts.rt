@@ -1,7 +1,6 @@
 //! What is listed of a function, as texts.
 
 ghost use Rattle.std.specs.Prelude.{◌≡◌, ◌<◌, ◌^◌, IfOk, IsTrue};
-ghost use Rattle.std.specs.Option.{is_some};
 ghost use Rattle.stk_tree.specs.Nodes.{unit_nodes};
 ghost use Rattle.stk_tree.specs.View.{view_unit};
 ghost use Rattle.stk_weights.specs.Units.{IsWhole};
@@ -213,7 +212,10 @@ fn has_few_nodes(alloc: Global, unit: &Unit) -> Result<bool, NoMemory>
     ensures { IfOk result (λ few. IsTrue few → unit_nodes (view_unit unit.now) < 2 ^ 32) }
 {
     let nodes = unit_nodes(alloc, unit)?;
-    Ok(nodes.len() < 4_294_967_296)
+    if nodes.len() >= 4_294_967_296 {
+        return Ok(false);
+    }
+    Ok(true)
 }
 
 /// What is listed of the function of a unit; nothing of another unit, or of one that a rule refuses.

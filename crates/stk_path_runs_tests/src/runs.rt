@@ -121,7 +121,10 @@ fn has_few_nodes(alloc: Global, unit: &Unit) -> Result<bool, NoMemory>
     ensures { IfOk result (λ few. IsTrue few → unit_nodes (view_unit unit.now) < 2 ^ 32) }
 {
     let nodes = unit_nodes(alloc, unit)?;
-    Ok(nodes.len() < 4_294_967_296)
+    if nodes.len() >= 4_294_967_296 {
+        return Ok(false);
+    }
+    Ok(true)
 }
 
 /// The text of the path run of the function of a unit, for these numbers of its keys; nothing of another unit, of one that a rule
