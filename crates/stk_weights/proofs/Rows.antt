@@ -1,7 +1,5 @@
 -- What is kept of registers.
-use Rattle.std.proofs.Common.{ℕ, zero, suc, ◌≡◌, ◌+◌, ◌<◌, ◌≤◌, ◌==◌, Bool, true, false, if◌then◌else◌, List, [], ◌∷◌, ◌++◌, length, get_or, set, refl, sym, ap, ◌∙◌, subst, arith, eqb-true}
-use Rattle.std.proofs.lemmas.Bool.{eqb-false}
-use Rattle.std.proofs.lemmas.List.{get_or-set_same, get_or-set_other}
+use Rattle.std.proofs.Common.{ℕ, zero, suc, ◌≡◌, ◌+◌, ◌<◌, ◌≤◌, ◌==◌, Bool, true, false, if◌then◌else◌, List, [], ◌∷◌, ◌++◌, get_or, refl, sym, ap, ◌∙◌, subst, arith}
 use Rattle.stk_weights.specs.declared.counting.Register.{Register}
 use Rattle.stk_weights.specs.Counting.{nothing, times_in, AllBelow}
 
@@ -10,12 +8,6 @@ nothing_behind [] zero = refl
 nothing_behind [] (suc r) = refl
 nothing_behind (x ∷ rows) zero = refl
 nothing_behind (x ∷ rows) (suc r) = nothing_behind rows r
-
-pub set_row : (rows : List Register) (at r : ℕ) (row : Register) → at < length rows → get_or (set rows at row) r nothing ≡ (if at == r then row else get_or rows r nothing)
-set_row rows at r row h = by (at == r) refl where
-  by : (b : Bool) → (at == r) ≡ b → get_or (set rows at row) r nothing ≡ (if at == r then row else get_or rows r nothing)
-  by true e = ap (λ i. get_or (set rows at row) i nothing) (sym (eqb-true at r e)) ∙ get_or-set_same rows at row nothing h ∙ sym (ap (λ b. if b then row else get_or rows r nothing) e)
-  by false e = get_or-set_other rows at r row nothing (λ same. eqb-false at r e (sym same)) ∙ sym (ap (λ b. if b then row else get_or rows r nothing) e)
 
 -- ---- the registers of a function
 one_counted : (k r old rest whole : ℕ) (b : Bool) → (k == r) ≡ b → old + (if k == r then suc rest else rest) ≡ whole → (if k == r then old + 1 else old) + rest ≡ whole
