@@ -1,11 +1,11 @@
 -- The registers that are assigned in a statement.
-use Rattle.std.proofs.Common.{ℕ, ◌≡◌, ◌==◌, Bool, true, false, ◌||◌, List, [], ◌∷◌, ◌++◌, length, refl, sym, ap, ◌∙◌, append_assoc}
+use Rattle.std.proofs.Common.{ℕ, ◌≡◌, ◌==◌, ◌||◌, List, [], ◌∷◌, ◌++◌, length, refl, sym, ap, ◌∙◌}
 use Rattle.std.specs.Prelude.{filter}
 use Rattle.std.specs.List.{list_any}
 use Rattle.stk_tree.specs.Syntax.{StmtFormTree}
 use Rattle.stk_taken.specs.Sets.{is_listed}
 use Rattle.stk_runs.specs.Places.{Setting, Target, in_register, in_kept, in_object, unnamed}
-use Rattle.stk_runs.specs.Visits.{Site, Visits, no_visit, visit, both_visits, scope, unevaluated, collected, statement_form_visits}
+use Rattle.stk_runs.specs.Visits.{Visits, no_visit, visit, both_visits, scope, unevaluated, collected, statement_form_visits}
 use Rattle.stk_runs.specs.Weights.{is_register_target, site_assigns, assigned_under}
 use Rattle.stk_settings.proofs.Filters.{filter-same}
 use Rattle.stk_weights.specs.Met.{registers_among, registers_assigned}

@@ -1,5 +1,5 @@
 -- Sums of 64 bits: what is added may have been capped before.
-use Rattle.std.proofs.Common.{ℕ, ◌≡◌, ◌+◌, ◌*◌, ◌-◌, ◌^◌, ◌≤◌, min, arith, refl, sym, ap, ◌∙◌}
+use Rattle.std.proofs.Common.{ℕ, ◌≡◌, ◌+◌, ◌*◌, ◌-◌, ◌^◌, ◌≤◌, min, arith}
 use Rattle.stk_weights.specs.Sums.{capped}
 
 -- a number that isn't greater is itself

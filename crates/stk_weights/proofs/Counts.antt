@@ -1,5 +1,5 @@
 -- A function has few registers and few memory objects beside its nodes.
-use Rattle.std.proofs.Common.{ℕ, ◌≡◌, ◌+◌, ◌*◌, ◌≤◌, Bool, true, false, not, ◌&&◌, List, [], ◌∷◌, ◌++◌, map, length, Option, Some, None, refl, ap, ◌∙◌, arith, length-append}
+use Rattle.std.proofs.Common.{ℕ, ◌≡◌, ◌+◌, ◌*◌, ◌≤◌, Bool, true, false, not, ◌&&◌, List, [], ◌∷◌, ◌++◌, map, length, Option, Some, None, refl, arith, length-append}
 use Rattle.std.specs.Prelude.{if◌then◌else◌, filter}
 use Rattle.std.specs.Option.{is_some}
 use Rattle.stk_base.specs.declared.span.Span.{Span}
@@ -14,10 +14,10 @@ use Rattle.stk_tree.specs.Nodes.{declarator_nodes, tail_nodes, parameters_nodes,
 use Rattle.stk_numbers.specs.declared.conditions.Kinds.{Kinds}
 use Rattle.stk_runs.specs.Typings.{Typing, declarator_node}
 use Rattle.stk_runs.specs.Libraries.{Library}
-use Rattle.stk_runs.specs.Places.{Setting, mentioned_in, Target, in_register, in_kept, in_object, unnamed, target_at, form_target}
+use Rattle.stk_runs.specs.Places.{Setting, mentioned_in, Target, in_register, in_kept, in_object, unnamed, target_at}
 use Rattle.stk_runs.specs.Visits.{Role, Site, at_expression, at_declarator, at_statement, at_section, Visits, no_visit, visit, both_visits, scope, unevaluated, collected}
 use Rattle.stk_runs.specs.Changes.{assigned_in}
-use Rattle.stk_runs.specs.Keys.{Key, KeyInfo, parameter_declarator, parameter_declarators, tail_parameters, head_parameters, parameters_of, head_of, function_visits, is_register, site_registers, registers_of, names_outside, is_node, address_info, load_keys, mention_keys, name_keys, result_keys, unary_keys, form_keys, unset_keys, declarator_keys, loop_keys, site_keys, parameter_info, memory_info, register_parameters, memory_parameters, keys_in, Object, key_objects, objects_in, first_setting, keys_of, objects_of}
+use Rattle.stk_runs.specs.Keys.{KeyInfo, parameter_declarators, tail_parameters, head_parameters, parameters_of, function_visits, is_register, site_registers, registers_of, names_outside, is_node, address_info, load_keys, mention_keys, name_keys, result_keys, unary_keys, form_keys, declarator_keys, loop_keys, site_keys, parameter_info, memory_info, register_parameters, memory_parameters, key_objects, objects_in, first_setting, objects_of}
 use Rattle.stk_weights.specs.Loads.{site_load, load}
 use Rattle.stk_weights.proofs.Loads.{function_few}
 

@@ -17,3 +17,6 @@ summed_end sum rest whole h e f = omega (arith, h, e, f)
 
 pub summed_step : (sum own total n rest whole : ℕ) → own ≡ capped n → total ≡ min (sum + own) (2 ^ 64 - 1) → capped (sum + (n + rest)) ≡ capped whole → capped (total + rest) ≡ capped whole
 summed_step sum own total n rest whole a b e = omega (arith, a, b, e)
+
+pub next_at : {A : Type 0} (xs : List A) (i : ℕ) (d : A) → i < length xs → drop i xs ≡ get_or xs i d ∷ drop (i + 1) xs
+next_at xs i d h = rw add-one (drop-cons xs i d h)

@@ -1,8 +1,14 @@
 pub mod Widths
 pub mod Capping
 pub mod Marking
-pub mod Summing
+pub mod Passing
+pub mod Uncounted
 pub mod Assigned
+pub mod Trees
+pub mod Rows
+pub mod Steps
+pub mod Totals
+pub mod Summing
 pub mod Loads
 pub mod Counts
 pub mod Limits

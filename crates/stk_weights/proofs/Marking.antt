@@ -1,13 +1,12 @@
 -- The pairs of objects, counted from the back.
 use Rattle.std.proofs.Common.{ℕ, ◌≡◌, ◌+◌, ◌≤◌, Bool, true, false, ◌&&◌, ◌||◌, List, [], ◌∷◌, ◌++◌, length, map, refl, sym, ap, ◌∙◌, arith}
 use Rattle.std.specs.Prelude.{if◌then◌else◌, filter}
-use Rattle.stk_runs.specs.Typings.{is_among}
 use Rattle.stk_runs.specs.Keys.{Object}
 use Rattle.stk_runs.specs.Weights.{is_pair, pairs_among}
 use Rattle.stk_weights.specs.declared.objects.Mark.{Mark}
 use Rattle.stk_weights.specs.declared.objects.Counts.{Counts}
 use Rattle.stk_weights.specs.Sums.{capped}
-use Rattle.stk_weights.specs.Marks.{mark_of, are_pair, pairs_of, one_where, pairs_with, counts_before, counts_of}
+use Rattle.stk_weights.specs.Marks.{mark_of, are_pair, pairs_of, one_where, pairs_with, counts_of}
 
 pub map_append : {A B : Type 0} (f : A → B) (xs ys : List A) → map f (xs ++ ys) ≡ map f xs ++ map f ys
 map_append f [] ys = refl

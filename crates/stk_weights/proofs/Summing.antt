@@ -1,18 +1,48 @@
--- The weight of the sites in order is that of the visits.
-use Rattle.std.proofs.Common.{ℕ, ◌≡◌, ◌+◌, Bool, true, false, List, [], ◌∷◌, ◌++◌, refl, sym, ap, ◌∙◌, arith}
+-- The weight of a function is that of its sites in order, and 256 for each register and each branch or loop in which it is assigned.
+use Rattle.std.proofs.Common.{ℕ, ◌≡◌, ◌+◌, ◌*◌, Bool, false, List, [], ◌∷◌, ◌++◌, arith}
+use Rattle.stk_tree.specs.Syntax.{StmtFormTree}
+use Rattle.stk_tree.specs.Syntax as s
 use Rattle.stk_runs.specs.Places.{Setting}
-use Rattle.stk_runs.specs.Visits.{Visits, no_visit, visit, both_visits, scope, unevaluated}
-use Rattle.stk_runs.specs.Weights.{visits_weight, site_weight}
+use Rattle.stk_runs.specs.Visits.{Site, at_expression, at_declarator, at_statement, at_section, Visits, no_visit, visit, both_visits, scope, unevaluated}
+use Rattle.stk_runs.specs.Weights.{visits_weight, site_weight, statement_weight}
 use Rattle.stk_sites.specs.Sites.{Met, met_in}
-use Rattle.stk_weights.specs.Met.{met_weight, mets_weight}
+use Rattle.stk_weights.specs.Met.{own_statement_weight, own_weight, mets_weight}
+use Rattle.stk_weights.specs.Events.{site_counts, counts}
+use Rattle.stk_weights.specs.Counting.{total}
+use Rattle.stk_weights.proofs.Totals.{branch_total, total_none, total_both}
 
 weight-append : (g : Setting) (a b : List Met) → mets_weight g (a ++ b) ≡ mets_weight g a + mets_weight g b
 weight-append g [] b = omega arith
 weight-append g (m ∷ a) b = omega (arith, weight-append g a b)
 
-pub weight-met_in : (g : Setting) (evaluated : Bool) (v : Visits) → mets_weight g (met_in evaluated v) ≡ visits_weight g evaluated v
-weight-met_in g evaluated no_visit = refl
-weight-met_in g evaluated (visit x) = omega arith
-weight-met_in g evaluated (both_visits a b) = omega (arith, weight-append g (met_in evaluated a) (met_in evaluated b), weight-met_in g evaluated a, weight-met_in g evaluated b)
-weight-met_in g evaluated (scope ks a) = weight-met_in g evaluated a
-weight-met_in g evaluated (unevaluated a) = weight-met_in g false a
+-- all registers together
+abbrev all : Setting → Visits → ℕ
+all g v = total (λ r. counts g r v) g.registers
+
+abbrev all_at : Setting → Site → ℕ
+all_at g x = total (λ r. site_counts g r x) g.registers
+
+statement_parts : (g : Setting) (k : ℕ) (arm : Bool) (f : StmtFormTree) → statement_weight g f ≡ own_statement_weight g f + 256 * all_at g (at_statement k arm f)
+statement_parts g k arm (s.block ps) = omega (arith, total_none g.registers)
+statement_parts g k arm (s.expression_statement e) = omega (arith, total_none g.registers)
+statement_parts g k arm (s.if_statement e x y) = omega (arith, branch_total g (s.if_statement e x y))
+statement_parts g k arm (s.switch_statement e ss) = omega (arith, branch_total g (s.switch_statement e ss))
+statement_parts g k arm (s.while_statement e x) = omega (arith, branch_total g (s.while_statement e x))
+statement_parts g k arm (s.do_statement x e) = omega (arith, branch_total g (s.do_statement x e))
+statement_parts g k arm (s.for_statement first test step x) = omega (arith, branch_total g (s.for_statement first test step x))
+statement_parts g k arm s.break_statement = omega (arith, total_none g.registers)
+statement_parts g k arm s.continue_statement = omega (arith, total_none g.registers)
+statement_parts g k arm (s.return_statement e) = omega (arith, total_none g.registers)
+
+site_parts : (g : Setting) (evaluated : Bool) (x : Site) → site_weight g evaluated x ≡ own_weight g evaluated x + 256 * all_at g x
+site_parts g evaluated (at_expression k role f) = omega (arith, total_none g.registers)
+site_parts g evaluated (at_declarator k static at init) = omega (arith, total_none g.registers)
+site_parts g evaluated (at_statement k arm f) = statement_parts g k arm f
+site_parts g evaluated (at_section k ls) = omega (arith, total_none g.registers)
+
+pub weight_parts : (g : Setting) (evaluated : Bool) (v : Visits) → visits_weight g evaluated v ≡ mets_weight g (met_in evaluated v) + 256 * total (λ r. counts g r v) g.registers
+weight_parts g evaluated no_visit = omega (arith, total_none g.registers)
+weight_parts g evaluated (visit x) = omega (arith, site_parts g evaluated x)
+weight_parts g evaluated (both_visits a b) = omega (arith, weight-append g (met_in evaluated a) (met_in evaluated b), weight_parts g evaluated a, weight_parts g evaluated b, total_both (λ r. counts g r a) (λ r. counts g r b) g.registers)
+weight_parts g evaluated (scope ks a) = weight_parts g evaluated a
+weight_parts g evaluated (unevaluated a) = weight_parts g false a

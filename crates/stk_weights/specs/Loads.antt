@@ -38,9 +38,9 @@ mets_load (m ∷ ms) = site_load m.site + mets_load ms
 abbrev pub site_limit : Setting → ℕ
 site_limit g = 256 * length g.registers + 138240
 
--- a site, and sites, that add no more
+-- a site, and sites, that add no more without the registers that are assigned in branches and loops
 abbrev pub IsMetLimited : Setting → Met → Type 0
-IsMetLimited g m = met_weight g m ≤ site_limit g * site_load m.site
+IsMetLimited g m = met_weight g m ≤ 138240 * site_load m.site
 
 abbrev pub IsLimited : Setting → List Met → Type 0
-IsLimited g ms = mets_weight g ms ≤ site_limit g * mets_load ms
+IsLimited g ms = mets_weight g ms ≤ 138240 * mets_load ms

@@ -1,5 +1,5 @@
 -- Memory objects in pairs: what a pair asks of an object, and the counts from which the pairs are told in one pass from the back.
-use Rattle.std.specs.Prelude.{ℕ, ◌+◌, Bool, true, false, ◌&&◌, ◌||◌, if◌then◌else◌, List, [], ◌∷◌, length, filter}
+use Rattle.std.specs.Prelude.{ℕ, ◌+◌, Bool, true, false, ◌&&◌, ◌||◌, List, [], ◌∷◌, length, filter}
 use Rattle.stk_runs.specs.Typings.{is_among}
 use Rattle.stk_runs.specs.Keys.{Object}
 use Rattle.stk_weights.specs.declared.objects.Mark.{Mark}

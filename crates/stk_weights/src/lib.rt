@@ -1,12 +1,13 @@
 //! The weight of a function: how much the search for its findings may cost. It is a sum of a number for each node, each memory object, and
 //! each pair of a kept object and another one.
 //!
-//! The nodes and the objects are gone through once. For the registers that are assigned in it, each branch and each loop goes through
-//! its own nodes and the function's registers once more: a node is looked at once for each of these round it, and a tree of an input
-//! is at most 400 high.
+//! The nodes and the objects are gone through once, and then once more what is assigned in the function: a register counts for each
+//! branch and loop in which it is assigned anywhere, so at an assignment it counts for those of the open ones that began behind its last
+//! assignment. These are the innermost ones, which a search among those that are open finds.
 #![tactic(auto)]
 
-mod assigning;
+mod counting;
+mod events;
 mod forms;
 mod objects;
 mod operations;

@@ -5,16 +5,14 @@ ghost use Rattle.std.specs.Option.{option_map};
 ghost use Rattle.stk_ctype.specs.Types.{type_of};
 ghost use Rattle.stk_tree.specs.View.{given_expression, view_initialiser, view_statement_form, view_label, labels, maybe_initialiser};
 ghost use Rattle.stk_function_types.specs.Nodes.{typing_in};
-ghost use Rattle.stk_runs.specs.Weights.{scalar_weight, initial_weight, assigned_under, test_weight, statement_weight, label_weight, labels_weight};
+ghost use Rattle.stk_runs.specs.Weights.{scalar_weight, initial_weight, test_weight, label_weight, labels_weight};
 ghost use Rattle.stk_settings.specs.Settings.{setting_in};
+ghost use Rattle.stk_weights.specs.Met.{own_statement_weight};
 ghost use Rattle.stk_weights.specs.Sums.{capped};
 
-use crate::assigning::assigned_under;
 use crate::forms::bits_of;
 use crate::operations::{bits_in, greater};
 use crate::storing::{kept_count, store_weight};
-use std::alloc::Global;
-use stk_base::NoMemory;
 use stk_ctype::CType;
 use stk_function_types::FunctionTypes;
 use stk_rules::is_scalar;
@@ -62,47 +60,32 @@ fn maybe_bits(types: &FunctionTypes, e: &Option<Expr>) -> u64
     }
 }
 
-// What a branch or a loop adds, with a test of so many bits: 256 for each register assigned in it, and 32 a bit of the test.
-#[tactic(auto, using(crate::proofs::Capping::capping))]
-fn branch_weight(alloc: Global, setting: &Setting, f: &StmtForm, bits: u64) -> Result<u64, NoMemory>
+// What a loop adds, with a test of so many bits: 32 a bit of the test, and 16 for each kept object.
+fn loop_weight(setting: &Setting, bits: u64) -> u64
     requires { bits ≤ 64 }
-    ensures { IfOk result (λ n. n ≡ capped (256 * assigned_under (setting_in setting.now) (view_statement_form f.now) + 32 * bits)) }
+    ensures is { result ≡ 32 * bits + 16 * length (setting_in setting.now).kept }
+    ensures few { result ≤ 2560 }
 {
-    let count = assigned_under(alloc, setting, f)?;
-    Ok(count.saturating_mul(256).saturating_add(32 * bits))
+    32 * bits + 16 * kept_count(setting)
 }
 
-// What a loop adds, with a test of so many bits: as a branch, and 16 for each kept object.
-#[tactic(auto, using(crate::proofs::Capping::capping))]
-fn loop_weight(alloc: Global, setting: &Setting, f: &StmtForm, bits: u64) -> Result<u64, NoMemory>
-    requires { bits ≤ 64 }
-    ensures { IfOk result (λ n. n ≡ capped (256 * assigned_under (setting_in setting.now) (view_statement_form f.now) + 32 * bits + 16 * length (setting_in setting.now).kept)) }
-{
-    let branch = branch_weight(alloc, setting, f, bits)?;
-    Ok(branch.saturating_add(16 * kept_count(setting)))
-}
-
-/// What a statement of this form adds to its node, or 2^64 - 1 where that is more. The only refusal is want of memory.
-pub(crate) fn statement_weight(
-    alloc: Global,
-    setting: &Setting,
-    f: &StmtForm,
-) -> Result<u64, NoMemory>
-    ensures { IfOk result (λ n. n ≡ capped (statement_weight (setting_in setting.now) (view_statement_form f.now))) }
+/// What a statement of this form adds to its node, without the registers that are assigned in it.
+pub(crate) fn statement_weight(setting: &Setting, f: &StmtForm) -> u64
+    ensures is { result ≡ own_statement_weight (setting_in setting.now) (view_statement_form f.now) }
+    ensures few { result ≤ 2560 }
 {
     match f {
         StmtForm::Block(_)
         | StmtForm::Plain(_)
+        | StmtForm::Switch(_, _)
         | StmtForm::Break
         | StmtForm::Continue
-        | StmtForm::Return(_) => Ok(0),
-        StmtForm::If(e, _, _) => branch_weight(alloc, setting, f, bits_of(setting.types(), e)),
-        StmtForm::Switch(_, _) => branch_weight(alloc, setting, f, 0),
-        StmtForm::While(e, _) => loop_weight(alloc, setting, f, bits_of(setting.types(), e)),
-        StmtForm::Do(_, e) => loop_weight(alloc, setting, f, bits_of(setting.types(), e)),
-        StmtForm::For(_, test, _, _) => {
-            loop_weight(alloc, setting, f, maybe_bits(setting.types(), test))
+        | StmtForm::Return(_) => 0,
+        StmtForm::If(e, _, _) => 32 * bits_of(setting.types(), e),
+        StmtForm::While(e, _) | StmtForm::Do(_, e) => {
+            loop_weight(setting, bits_of(setting.types(), e))
         }
+        StmtForm::For(_, test, _, _) => loop_weight(setting, maybe_bits(setting.types(), test)),
     }
 }
 

@@ -8,9 +8,13 @@ ghost use Rattle.stk_runs.specs.Keys.{function_visits, objects_in};
 ghost use Rattle.stk_runs.specs.Weights.{visits_weight, pairs_among, weight};
 ghost use Rattle.stk_settings.specs.Settings.{setting_in};
 ghost use Rattle.stk_weights.specs.Sums.{capped};
+ghost use Rattle.stk_weights.specs.Events.{counts};
+ghost use Rattle.stk_weights.specs.Counting.{total};
 ghost use Rattle.stk_weights.specs.Loads.{load, site_limit};
 ghost use Rattle.stk_weights.specs.Units.{unit_weight, IsSettingOfFunction, IsWhole};
 
+use crate::counting::counted;
+use crate::events::function_events;
 use crate::objects::{objects_among, pairs_among};
 use crate::sites::sites_weight;
 use std::alloc::Global;
@@ -29,6 +33,22 @@ fn nodes_weight(alloc: Global, unit: &Unit) -> Result<u64, NoMemory>
     Ok(count.saturating_mul(128))
 }
 
+// How often the registers of a function count, all together, or 2^64 - 1 where that is more.
+fn function_counts(alloc: Global, setting: &Setting, f: &Function) -> Result<u64, NoMemory>
+    ensures { let g = setting_in setting.now in IfOk result (λ n. n ≡ capped (total (λ r. counts g r (function_visits g.typing (view_function f.now))) g.registers)) }
+{
+    let events = function_events(alloc, setting, f)?;
+    let count = counted(alloc, setting.registers(), events.as_slice())?;
+    Ok(count)
+}
+
+// What sites add, and 256 for each time that a register counts, or 2^64 - 1 where that is more.
+fn sum_of_sites(own: u64, count: u64) -> u64
+    ensures { (m n : ℕ) → own ≡ capped m → count ≡ capped n → result ≡ capped (m + 256 * n) }
+{
+    own.saturating_add(count.saturating_mul(256))
+}
+
 // What the nodes of a function add to 128 each, or 2^64 - 1 where that is more.
 fn function_weight(alloc: Global, setting: &Setting, f: &Function) -> Result<u64, NoMemory>
     ensures is { IfOk result (λ n. n ≡ capped (visits_weight (setting_in setting.now) true (function_visits (setting_in setting.now).typing (view_function f.now)))) }
@@ -36,7 +56,8 @@ fn function_weight(alloc: Global, setting: &Setting, f: &Function) -> Result<u64
 {
     let sites = function_sites(alloc, setting.types(), f)?;
     let own = sites_weight(alloc, setting, sites.as_slice())?;
-    Ok(own)
+    let count = function_counts(alloc, setting, f)?;
+    Ok(sum_of_sites(own, count))
 }
 
 // 2,048 for each of so many objects and pairs, or 2^64 - 1 where that is more.

@@ -1,4 +1,4 @@
-use Rattle.std.proofs.Common.{◌≡◌, ◌*◌, ◌≤◌, true, ◌∙◌, subst}
+use Rattle.std.proofs.Common.{◌*◌, ◌≤◌, true, ◌∙◌, subst}
 use Rattle.stk_tree.specs.View.{view_function}
 use Rattle.stk_function_types.specs.Nodes.{typing_in}
 use Rattle.stk_runs.specs.Places.{Setting}
