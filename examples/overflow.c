@@ -1,0 +1,13 @@
+/* Both tests for an overflow rely on what isn't defined: a compiler may take the first for false and the second for true. */
+int wraps(unsigned char x) {
+    int y = 2147483647 - x;
+    if (y + 100 < y) return 1;
+    return 0;
+}
+int grows(unsigned char x) {
+    int y = 2147483647 - x;
+    return y + 1 > y;
+}
+int wide(int x) { return x; }
+float none;
+int unknown(void) { return z; }
