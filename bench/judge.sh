@@ -4,12 +4,7 @@
 # With no program it takes ./stack. For each text it prints the processor seconds of the whole run, the most memory in KiB, and the last
 # line of the records.
 set -eu
-top=$(cd "$(dirname "$0")/.." && pwd)
-program=${1:-$top/stack}
-"$program" < /dev/null > /dev/null
-text=$(mktemp)
-result=$(mktemp)
-trap 'rm -f "$text" "$result"' EXIT
+. "$(dirname "$0")/checker.sh"
 measure() { # the name $1 of what stands in the file text
     python3 - "$program" "$text" "$result" "$1" <<'PY'
 import resource, subprocess, sys

@@ -4,12 +4,7 @@
 # With no program it takes ./stack. For each text it prints the processor seconds of the whole run, reading and declaring included, and
 # the last line of the records.
 set -eu
-top=$(cd "$(dirname "$0")/.." && pwd)
-program=${1:-$top/stack}
-"$program" < /dev/null > /dev/null
-text=$(mktemp)
-result=$(mktemp)
-trap 'rm -f "$text" "$result"' EXIT
+. "$(dirname "$0")/checker.sh"
 measure() { # the name $1 of what stands in the file text
     local TIMEFORMAT=%U took
     took=$( { time "$program" < "$text" > "$result" 2> /dev/null; } 2>&1 )
