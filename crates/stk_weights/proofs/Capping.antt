@@ -1,5 +1,5 @@
 -- Sums of 64 bits: what is added may have been capped before.
-use Rattle.std.proofs.Common.{ℕ, ◌≡◌, ◌+◌, ◌*◌, ◌-◌, ◌^◌, ◌≤◌, min, arith}
+use Rattle.std.proofs.Common.{ℕ, ◌≡◌, ◌+◌, ◌-◌, ◌^◌, ◌≤◌, min, arith}
 use Rattle.stk_weights.specs.Sums.{capped}
 
 -- a number that isn't greater is itself
@@ -11,14 +11,5 @@ capped_left a b = omega arith
 
 pub capped_both : (a b : ℕ) → min (capped a + capped b) (2 ^ 64 - 1) ≡ capped (a + b)
 capped_both a b = omega arith
-
-pub capped_128 : (a : ℕ) → min (a * 128) (2 ^ 64 - 1) ≡ capped (128 * a)
-capped_128 a = omega arith
-
-pub capped_256 : (a : ℕ) → min (a * 256) (2 ^ 64 - 1) ≡ capped (256 * a)
-capped_256 a = omega arith
-
-pub capped_2048 : (a : ℕ) → min (capped a * 2048) (2 ^ 64 - 1) ≡ capped (2048 * a)
-capped_2048 a = omega arith
 
 pub ruleset capping = (uncapped, capped_left, capped_both)
