@@ -19,6 +19,8 @@ for count in 250000 500000 1000000; do
     run "a chain of $((count / 2)) typedef names"
     { echo 'typedef int t0;'; seq "$((count / 2))" | awk '{ print "typedef t" $1 - 1 " *t" $1 ";" }'; } >"$text"
     run "a chain of $((count / 2)) pointers"
+    { echo 'typedef int t0;'; seq "$((count / 2))" | awk '{ print "typedef t" $1 - 1 " t" $1 "[1];" }'; } >"$text"
+    run "a chain of $((count / 2)) arrays"
     { echo 'enum {'; seq -f 'a%.0f,' "$count"; echo '};'; } >"$text"
     run "$count enumerators"
     { echo 'struct s {'; seq -f 'int a%.0f;' "$count"; echo '};'; } >"$text"
