@@ -1,5 +1,6 @@
 # What the benches share; they source it. `build_program NAME CRATE..` takes the program's main.rt from standard input, builds it over
-# these crates of the repository, which it takes in a folder of its own, and leaves the shell there, with the path in `program`. Where
+# these crates of the repository, which it takes in a folder of its own, and leaves the shell there, with the path in `program`. A CRATE may
+# be one of the kit too. `below CRATE..` prints the crates on which these stand, the kit's too, each behind those on which it stands. Where
 # `ending` is set, its text is added at the program's end: `said` is a `main` that prints what `answer(alloc, bytes)` says of the input.
 # `many TEXT SIZE` writes a text, given with Python's escapes, again and again, up to so many bytes.
 # `timed NAME WORD..` runs the program with these words, and prints the name, its processor seconds and what it wrote.
@@ -22,6 +23,7 @@ build_program() {
     shift
     mkdir -p "$work/crates/$name/src"
     for crate in "$@"; do
+        [ -d "$top/crates/$crate" ] || continue
         cp -r "$top/crates/$crate" "$work/crates/"
         grep "^$crate:" "$top/crates.txt" >> "$work/crates.txt"
     done
@@ -31,6 +33,21 @@ build_program() {
     cd "$work/crates/$name"
     rt run < /dev/null > "$work/build.log" 2>&1 || { tail -20 "$work/build.log"; exit 1; }
     program=$(find out -maxdepth 1 -type f -name "$name")
+}
+below() {
+    awk -F: -v named="$*" '
+        function visit(crate, list, count, place) {
+            count = split(under[crate], list, " ")
+            for (place = 1; place <= count; place++)
+                if (!(list[place] in seen)) {
+                    seen[list[place]] = 1
+                    visit(list[place])
+                    print list[place]
+                }
+        }
+        /^[a-z]/ { under[$1] = $2 }
+        END { under["named"] = named; visit("named") }
+    ' "$top/crates.txt" | grep -vxF "$(printf '%s\n' "$@")"
 }
 many() {
     python3 -c "import sys; t = sys.argv[1].encode('latin-1').decode('unicode_escape').encode('latin-1'); n = int(sys.argv[2]); sys.stdout.buffer.write((t * (n // len(t) + 1))[:n])" "$1" "$2"
