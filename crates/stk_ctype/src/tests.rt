@@ -1,10 +1,13 @@
 // Sizes, offsets, shadowing and cuts. Sizes and offsets are those that gcc gives on x86-64.
 use crate::checking::{are_members, is_sound, rests_on};
-use crate::{CType, IntKind, MemberInfo, NameEntry, Names, Shared, Signature, Symbol, Tag};
+use crate::{
+    CType, IntKind, MemberInfo, NameEntry, Names, OwnedSignature, SharedType, Signature, Symbol,
+    Tag,
+};
 use std::alloc::Global;
 use std::process::Abort;
 use std::test::Fail;
-use stk_base::{Boxed, List, NoMemory};
+use stk_base::{List, NoMemory};
 
 // What a type is made of, innermost first; nothing is `void`.
 #[derive(Clone, Copy)]
@@ -35,9 +38,9 @@ fn layer(alloc: Global, part: Part, ty: CType) -> Result<CType, NoMemory> {
     Ok(match part {
         Part::Kind(kind) => CType::Int(kind),
         Part::Struct(id) => CType::Struct(id),
-        Part::Pointer => CType::Pointer(Shared::new(alloc, ty)?),
-        Part::Array(count) => CType::Array(Shared::new(alloc, ty)?, Some(count)),
-        Part::Open => CType::Array(Shared::new(alloc, ty)?, None),
+        Part::Pointer => CType::Pointer(SharedType::new(alloc, ty)?),
+        Part::Array(count) => CType::Array(SharedType::new(alloc, ty)?, Some(count)),
+        Part::Open => CType::Array(SharedType::new(alloc, ty)?, None),
     })
 }
 
@@ -319,7 +322,7 @@ fn function(alloc: Global, given: CType, param: CType) -> Result<CType, NoMemory
         more: true,
         no_return: false,
     };
-    Ok(CType::Function(Boxed::new(alloc, signature)?))
+    Ok(CType::Function(OwnedSignature::new(alloc, signature)?))
 }
 
 // A function whose last parameter points to such a function, and so on, and whose result does.
