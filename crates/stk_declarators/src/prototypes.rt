@@ -77,8 +77,8 @@ fn declared(alloc: Global, ty: &CType) -> Result<NodeFact, Broken>
 
 // A pointer to an array's element, declared.
 fn pointer(element: &SharedType) -> Result<NodeFact, Broken>
-    ensures fact { MakesFact (Fits (declares (pointer_type (type_of element.now)))) result }
-    ensures sound { (structs : Structs) → IsSound structs (type_of element.now) → IfOk result (λ f. IsSound structs (type_of f.ty)) }
+    ensures fact { MakesFact (Fits (declares (pointer_type element.now))) result }
+    ensures sound { (structs : Structs) → IsSound structs element.now → IfOk result (λ f. IsSound structs (type_of f.ty)) }
 {
     let element = element.share()?;
     Ok(NodeFact::declares(CType::Pointer(element)))
