@@ -3,8 +3,8 @@ use Rattle.std.proofs.Common.{◌≡◌, ◌∙◌, ◌&&◌, ◌+◌, ◌<◌, 
 use Rattle.std.specs.Prelude.{IfOk}
 use Rattle.std.specs.Borrow.{Bor}
 use Rattle.stk_ctype.specs.declared.ctype.CType.{CType}
-use Rattle.stk_ctype.specs.declared.ctype.Signature.{Signature, out-Signature, fold_out-Signature}
-use Rattle.stk_ctype.specs.Types.{TypeTree, SignatureTree, signature, type_of, row_of, signature_of, type_step, signature_step}
+use Rattle.stk_ctype.specs.declared.ctype.Signature.{Signature}
+use Rattle.stk_ctype.specs.Types.{SignatureTree, signature, type_of, row_of, signature_of}
 use Rattle.stk_ctype.specs.Turns.{turns, turns_of_row, turns_of_signature}
 use Rattle.stk_agree.specs.Same.{same, same_row, same_signature, same_truth}
 use Rattle.stk_agree.specs.Pairs.{are_same, pairs_of, pair_turns}
@@ -40,19 +40,12 @@ pub turns_more : (ps qs : List (Bor CType × Bor CType)) (l r : Bor CType) → q
 turns_more ps qs l r is = ap (λ xs. pair_turns (pairs_of xs)) is ∙ turns_behind ps l r
 
 -- ---- signatures
-pub view_signature : (f : Signature) → let s = out-Signature f in signature_of f ≡ signature (type_of s.result) (row_of (map type_of s.params)) s.more s.no_return
-view_signature f = fold_out-Signature TypeTree SignatureTree type_step signature_step f
+pub signatures_same : (f g : Signature) → same_truth f.more g.more ≡ true
+    → same_signature (signature_of f) (signature_of g) ≡ (same (type_of f.result) (type_of g.result) && same_row (row_of (map type_of f.params)) (row_of (map type_of g.params)))
+signatures_same f g is = ap (λ b. b && (same (type_of f.result) (type_of g.result) && same_row (row_of (map type_of f.params)) (row_of (map type_of g.params)))) is
 
-pub signatures_same : (f g : Signature) → let s = out-Signature f in let t = out-Signature g in same_truth s.more t.more ≡ true
-    → same_signature (signature_of f) (signature_of g) ≡ (same (type_of s.result) (type_of t.result) && same_row (row_of (map type_of s.params)) (row_of (map type_of t.params)))
-signatures_same f g is =
-    let s = out-Signature f in
-    let t = out-Signature g in
-    ap (λ a. same_signature a (signature_of g)) (view_signature f) ∙ ap (same_signature (signature (type_of s.result) (row_of (map type_of s.params)) s.more s.no_return)) (view_signature g)
-    ∙ ap (λ b. b && (same (type_of s.result) (type_of t.result) && same_row (row_of (map type_of s.params)) (row_of (map type_of t.params)))) is
-
-pub signature_turns : (f : Signature) → let s = out-Signature f in turns_of_signature (signature_of f) ≡ turns (type_of s.result) + turns_of_row (row_of (map type_of s.params)) + 2
-signature_turns f = ap turns_of_signature (view_signature f)
+pub some_turns : (f : SignatureTree) → 1 ≤ turns_of_signature f
+some_turns (signature r ps more no_return) = omega arith
 
 -- rows whose first types are these
 pub rows_same : (xs ys xt yt : List CType) (x y : CType) (a : Bool) → xs ≡ x ∷ xt → ys ≡ y ∷ yt → (same_row (row_of (map type_of xs)) (row_of (map type_of ys)) && a) ≡ (same_row (row_of (map type_of xt)) (row_of (map type_of yt)) && (same (type_of x) (type_of y) && a))

@@ -1,10 +1,8 @@
 -- When two types are the same, and when two declarations agree on a type (C11 6.2.7, 6.7.6.3p15). Whether a function is marked as not returning is no part of its type.
-use Rattle.std.specs.Prelude.{ℕ, Bool, true, false, ◌&&◌, ◌==◌, if◌then◌else◌, List, [], ◌∷◌, Option, Some, None}
+use Rattle.std.specs.Prelude.{ℕ, Bool, true, false, ◌&&◌, ◌==◌, Option, Some, None}
 use Rattle.stk_ctype.specs.declared.kind.IntKind.{IntKind}
 use Rattle.stk_ctype.specs.declared.kind.IntKind.TheVariants as kind
 use Rattle.stk_ctype.specs.Types.{TypeTree, void_type, integer_type, pointer_type, array_type, struct_type, function_type, SignatureTree, signature, TypeTrees, no_types, then_type}
-use Rattle.stk_agree.specs.declared.agreement.Agreement.{Agreement}
-use Rattle.stk_agree.specs.declared.agreement.Agreement.TheVariants.{Differ, Old, New}
 
 -- a number for each integer kind
 abbrev pub kind_number : IntKind → ℕ

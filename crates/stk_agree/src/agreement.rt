@@ -81,7 +81,6 @@ fn agree_parameters<'a>(
 }
 
 /// What a later declaration of a function makes of the signature that an earlier one gave it (C11 6.7.6.3p15).
-#[tactic(auto, using(crate::proofs::Pairs::view_signature))]
 pub fn agree_signature<'a>(
     alloc: Global,
     old: &'a Signature,

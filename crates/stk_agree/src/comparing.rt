@@ -107,6 +107,7 @@ fn add_pair<'a>(
 }
 
 // Puts the pairs of parts of two types behind those that wait; false where the types differ by themselves.
+#[tactic(auto, using(crate::proofs::Pairs::some_turns))]
 fn add_parts<'a>(
     waiting: &mut Vec<(&'a CType, &'a CType)>,
     left: &'a CType,

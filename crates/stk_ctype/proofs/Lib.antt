@@ -1,7 +1,6 @@
 pub mod Lookups
 pub mod Indexing
 pub mod Noting
-pub mod Views
 pub mod SizesOfTypes
 pub mod Placing
 pub mod Turning

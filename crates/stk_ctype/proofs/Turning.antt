@@ -1,36 +1,17 @@
 -- The loop that drops a type comes nearer to its end.
-use Rattle.std.proofs.Common.{◌≡◌, ◌<◌, ◌+◌, ℕ, Bool, Option, Some, None, MatchOption, map, arith, List, [], ◌∷◌, ◌++◌, ap, sym, subst, ◌∙◌}
-use denote.Param.Weighed.{most}
-use Rattle.stk_ctype.specs.declared.ctype.CType.{CType, size_is-CType}
-use Rattle.stk_ctype.proofs.ctype.CType.TheLaws.{the_size}
+use Rattle.std.proofs.Common.{◌≡◌, ◌<◌, ◌+◌, Option, None, MatchOption, arith, List, [], ◌∷◌, ◌++◌, ap, subst, ◌∙◌}
+use Rattle.std.proofs.Common.{Some}
+use Rattle.stk_ctype.specs.declared.ctype.CType.{CType}
 use Rattle.stk_ctype.specs.declared.ctype.CType.TheVariants as ctype
-use Rattle.stk_ctype.specs.declared.ctype.Signature.{roll-Signature, fold-roll-Signature}
+use Rattle.stk_ctype.specs.declared.ctype.Signature.{Signature}
 use Rattle.stk_ctype.specs.declared.ctype.Opened.{Opened}
 use Rattle.stk_ctype.specs.declared.ctype.Opened.TheVariants as opened
-use Rattle.stk_ctype.specs.Types.{TypeTree, SignatureTree, function_type, signature, row_of, type_step, signature_step, type_of}
-use Rattle.stk_ctype.specs.Turns.{turns, turns_of_types, turns_outside, IsOpened}
-use Rattle.stk_ctype.proofs.Views.{view_void, view_function}
-
--- the tree of a function's type
-pub view_called : (r : CType) (ps : List CType) (more no_return : Bool)
-    → type_of (ctype.Function (roll-Signature (record { result = r; params = ps; more = more; no_return = no_return }))) ≡ function_type (signature (type_of r) (row_of (map type_of ps)) more no_return)
-view_called r ps more no_return =
-    view_function (roll-Signature (record { result = r; params = ps; more = more; no_return = no_return }))
-    ∙ ap function_type (fold-roll-Signature TypeTree SignatureTree type_step signature_step (record { result = r; params = ps; more = more; no_return = no_return }))
-
-pub turns_void : turns (type_of ctype.Void) ≡ 1
-turns_void = ap turns view_void
-
-pub outside_void : turns_outside (type_of ctype.Void) ≡ 0
-outside_void = ap turns_outside view_void
+use Rattle.stk_ctype.specs.Types.{SignatureTree, type_of, signature_of}
+use Rattle.stk_ctype.specs.Turns.{turns, turns_of_types, turns_outside, turns_of_signature, turns_outside_signature, IsOpened}
 
 pub turns_append : (ts : List CType) (t : CType) → turns_of_types (ts ++ t ∷ []) ≡ turns_of_types ts + turns (type_of t)
 turns_append [] t = omega arith
 turns_append (x ∷ ts) t = omega (arith, turns_append ts t)
-
--- a row that is left empty may be dropped
-pub none_falls : (w : CType → ℕ) (ts : List CType) (first : CType) (t : ℕ) → ts ≡ [] → the_size first ≡ t → most w ts < t
-none_falls w ts first t none is = let some : most w [] < t = omega (arith, size_is-CType first, is) in subst (λ l. most w l < t) (sym none) some
 
 pub left_empty : (row rest : List CType) (last : Option CType) → last ≡ None → MatchOption last ((row ≡ []) × (rest ≡ [])) (λ x. row ≡ rest ++ x ∷ []) → rest ≡ []
 left_empty row rest last none split = (subst (λ l. MatchOption l ((row ≡ []) × (rest ≡ [])) (λ x. row ≡ rest ++ x ∷ [])) none split).1
@@ -55,20 +36,20 @@ pub less_taken : (at inner : CType) (row rest : List CType) (outer : CType) (o p
 less_taken at inner row rest outer o p is so at_outer outside none =
     let here = subst (IsOpened at) is so in
     let there = subst (IsOpened outer) at_outer outside in
-    omega (arith, here, there.1, ap turns_of_types none, outside_void)
+    omega (arith, here, there.1, ap turns_of_types none)
 
 -- out of a function
-pub less_back : (at r : CType) (ps row : List CType) (more no_return : Bool) (outer : CType) (o : Opened) → o ≡ opened.Nothing → IsOpened at o
-    → outer ≡ ctype.Function (roll-Signature (record { result = r; params = ps; more = more; no_return = no_return }))
-    → turns (type_of ctype.Void) + turns_of_types ps + turns_outside (type_of r) < turns (type_of at) + turns_of_types row + turns_outside (type_of outer)
-less_back at r ps row more no_return outer o is so called =
+pub less_back : (at : CType) (row : List CType) (outer : CType) (o p : Opened) (f : Signature) (inner : SignatureTree) → o ≡ opened.Nothing → IsOpened at o → p ≡ opened.Function inner → IsOpened outer p
+    → signature_of f ≡ inner → turns (type_of ctype.Void) + turns_of_types f.params + turns_outside (type_of f.result) < turns (type_of at) + turns_of_types row + turns_outside (type_of outer)
+less_back at row outer o p f inner is so out called same =
     let here = subst (IsOpened at) is so in
-    omega (arith, here, turns_void, ap turns_outside (ap type_of called ∙ view_called r ps more no_return))
+    let there = subst (IsOpened outer) out called in
+    omega (arith, here, ap turns_outside there, ap turns_outside_signature same)
 
 -- into a function
-pub less_into : (at r : CType) (ps row : List CType) (more no_return : Bool) (outer next : CType)
-    → at ≡ ctype.Function (roll-Signature (record { result = r; params = ps; more = more; no_return = no_return }))
-    → next ≡ ctype.Function (roll-Signature (record { result = outer; params = row; more = more; no_return = no_return }))
-    → turns (type_of r) + turns_of_types ps + turns_outside (type_of next) < turns (type_of at) + turns_of_types row + turns_outside (type_of outer)
-less_into at r ps row more no_return outer next called made =
-    omega (arith, ap turns (ap type_of called ∙ view_called r ps more no_return), ap turns_outside (ap type_of made ∙ view_called outer row more no_return))
+pub less_into : (at r : CType) (ps row : List CType) (outer : CType) (o : Opened) (old new : SignatureTree) → o ≡ opened.Function old → IsOpened at o
+    → turns_of_signature old ≡ turns (type_of r) + turns_of_types ps + 2 → turns_outside_signature new ≡ turns_outside (type_of outer) + turns_of_types row + 1
+    → turns (type_of r) + turns_of_types ps + turns_outside (type_of (ctype.Function new)) < turns (type_of at) + turns_of_types row + turns_outside (type_of outer)
+less_into at r ps row outer o old new is so inside outside =
+    let here = subst (IsOpened at) is so in
+    omega (arith, ap turns here, inside, outside)

@@ -1,6 +1,10 @@
-pub mod formers
 pub mod Kinds
+pub mod Trees
+pub mod Codes
+pub mod Depths
 pub mod Types
+pub mod Falls
+pub mod Innermost
 pub mod Structs
 pub mod Sound
 pub mod Names

@@ -1,7 +1,6 @@
 -- How many turns the loop that drops a type takes, from which it follows that it ends.
 use Rattle.std.specs.Prelude.{◌≡◌, ◌≤◌, ◌<◌, ℕ, ◌+◌, List, map}
 use Rattle.stk_ctype.specs.declared.ctype.CType.{CType}
-use Rattle.stk_ctype.specs.declared.ctype.CType.TheVariants as ctype
 use Rattle.stk_ctype.specs.declared.ctype.Opened.{Opened}
 use Rattle.stk_ctype.specs.declared.ctype.Opened.TheVariants as opened
 use Rattle.stk_ctype.specs.Types.{TypeTree, SignatureTree, TypeTrees, void_type, integer_type, pointer_type, array_type, struct_type, function_type, signature, no_types, then_type, row_of, type_of}
@@ -44,4 +43,4 @@ abbrev mutual
 abbrev pub IsOpened : CType → Opened → Type 0
 IsOpened t opened.Nothing = 1 ≤ turns (type_of t)
 IsOpened t (opened.Inner inner) = (turns (type_of inner) < turns (type_of t)) × (turns (type_of inner) < turns_outside (type_of t))
-IsOpened t (opened.Function f) = t ≡ ctype.Function f
+IsOpened t (opened.Function f) = type_of t ≡ function_type f

@@ -1,12 +1,12 @@
 // Copies of types. What a pointer points to and the element of an array are shared. A function is listed part by part, and then
 // built from its last part to its first, so that no nesting of types takes stack.
 ghost use Rattle.std.specs.Prelude.{◌≡◌, ◌≤◌, [], ◌∷◌, ◌++◌, length, map, reverse, IfOk, OnOk, List};
-ghost use Rattle.stk_ctype.specs.declared.ctype.CType.{CType};
+ghost use Rattle.stk_ctype.specs.Types.{TypeTree, type_of};
 ghost use Rattle.stk_ctype.specs.Parts.{parts, Builds};
 
-use crate::{CType, Signature};
+use crate::{CType, OwnedSignature, Signature};
 use std::alloc::Global;
-use stk_base::{Boxed, List, NoMemory};
+use stk_base::{List, NoMemory};
 
 impl CType {
     /// An equal type. It takes memory for the parts of a function alone.
@@ -28,7 +28,7 @@ impl CType {
 
 /// A type and all that is in it, each type before its parts, and before each part those that are pushed behind it.
 fn list_parts<'a>(alloc: Global, ty: &'a CType) -> Result<Vec<&'a CType>, NoMemory>
-    ensures { IfOk result (λ order. Builds ty.now (reverse (map (λ t. t.now) order.items)) []) }
+    ensures { IfOk result (λ order. Builds (type_of ty.now) (reverse (map (λ t. type_of t.now) order.items)) []) }
 {
     let mut order = Vec::new(alloc);
     let mut waiting = Vec::new(alloc);
@@ -42,7 +42,7 @@ fn list_parts<'a>(alloc: Global, ty: &'a CType) -> Result<Vec<&'a CType>, NoMemo
 
 /// Puts the parts of a type behind those that wait.
 fn push_parts<'a>(waiting: &mut Vec<&'a CType>, at: &'a CType) -> Result<(), NoMemory>
-    ensures { OnOk result (map (λ t. t.now) waiting.new.items ≡ map (λ t. t.now) waiting.old.items ++ parts at.now) }
+    ensures { OnOk result (map (λ t. type_of t.now) waiting.new.items ≡ map (λ t. type_of t.now) waiting.old.items ++ parts (type_of at.now)) }
 {
     match at {
         CType::Function(inner) => {
@@ -60,8 +60,8 @@ fn push_parts<'a>(waiting: &mut Vec<&'a CType>, at: &'a CType) -> Result<(), NoM
 
 /// A type equal to one whose parts are the last ones built; they are taken away.
 fn build_one(alloc: Global, built: &mut Vec<CType>, at: &CType) -> Result<CType, NoMemory>
-    requires { length (parts at.now) ≤ length built.old.items }
-    ensures { IfOk result (λ new. (rest : List CType) → built.old.items ≡ rest ++ parts at.now → (new ≡ at.now) × (built.new.items ≡ rest)) }
+    requires { length (parts (type_of at.now)) ≤ length built.old.items }
+    ensures { IfOk result (λ new. (rest : List TypeTree) → map type_of built.old.items ≡ rest ++ parts (type_of at.now) → (type_of new ≡ type_of at.now) × (map type_of built.new.items ≡ rest)) }
 {
     match at {
         CType::Void => Ok(CType::Void),
@@ -78,7 +78,7 @@ fn build_one(alloc: Global, built: &mut Vec<CType>, at: &CType) -> Result<CType,
                 more: old.more,
                 no_return: old.no_return,
             };
-            Ok(CType::Function(Boxed::new(alloc, signature)?))
+            Ok(CType::Function(OwnedSignature::new(alloc, signature)?))
         }
     }
 }

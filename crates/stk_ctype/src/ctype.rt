@@ -1,9 +1,9 @@
 ghost use Rattle.std.specs.Prelude.{◌≡◌, [], ◌∷◌, ◌++◌, MatchOption};
 ghost use Rattle.stk_ctype.specs.Turns.{IsOpened};
 
-use crate::{IntKind, Shared};
+use crate::{IntKind, OwnedSignature, SharedType};
 use std::mem;
-use stk_base::{Boxed, List};
+use stk_base::List;
 
 /// A type of C (C11 6.2.5): `void`, an integer type, a pointer to a type, an array of a type with its number of elements
 /// where that is known, a struct by its number, a function.
@@ -14,10 +14,10 @@ use stk_base::{Boxed, List};
 pub enum CType {
     Void,
     Int(IntKind),
-    Pointer(Shared<CType>),
-    Array(Shared<CType>, Option<u64>),
+    Pointer(SharedType),
+    Array(SharedType, Option<u64>),
     Struct(u32),
-    Function(Boxed<Signature>),
+    Function(OwnedSignature),
 }
 
 /// What a function takes and gives: its result, its parameters in order, whether it takes more arguments, and whether it is
@@ -35,7 +35,7 @@ pub struct Signature {
 enum Opened {
     Nothing,
     Inner(CType),
-    Function(Boxed<Signature>),
+    Function(OwnedSignature),
 }
 
 impl CType {
@@ -101,9 +101,7 @@ fn drop_row(first: CType, types: List<CType>) {
         match at.open() {
             Opened::Inner(inner) => at = inner,
             Opened::Function(mut inner) => {
-                let signature = inner.get_mut();
-                row = mem::replace(&mut signature.params, row);
-                at = mem::replace(&mut signature.result, outer);
+                (at, row) = inner.replace(outer, row);
                 outer = CType::Function(inner);
             }
             Opened::Nothing => {

@@ -10,7 +10,8 @@ mod facts;
 mod index;
 mod kind;
 mod names;
-mod shared;
+mod owned_signature;
+mod shared_type;
 mod sizes;
 mod symbol;
 #[cfg(test)]
@@ -20,5 +21,6 @@ pub use ctype::{CType, Signature};
 pub use index::Index;
 pub use kind::IntKind;
 pub use names::Names;
-pub use shared::Shared;
+pub use owned_signature::OwnedSignature;
+pub use shared_type::SharedType;
 pub use symbol::{MemberInfo, NameEntry, Symbol, Tag};

@@ -2,13 +2,13 @@
 ghost use Rattle.std.specs.Prelude.{◌≡◌, ◌≤◌, ◌+◌, ◌*◌, length, IfOk, IfSome};
 ghost use Rattle.std.specs.Option.{option_copied, option_map};
 ghost use Rattle.stk_ctype.specs.Facts.{IsKept};
-ghost use Rattle.stk_ctype.specs.Kinds.{bytes_of};
 ghost use Rattle.stk_ctype.specs.Types.{type_of, struct_type};
 ghost use Rattle.stk_ctype.specs.Structs.{structs_of, struct_at, size_of, alignment_of, size_limit, offset_behind, end_behind, offsets_behind, greatest_alignment, struct_size, layout_of, round_up, member_of, member_named};
+ghost use Rattle.stk_ctype.specs.Innermost.{size_inside};
 ghost use Rattle.stk_ctype.specs.Sound.{IsSound, AreMembers};
 
 use crate::facts::Layout;
-use crate::kind::bytes_of;
+use crate::shared_type::{Inmost, count_in, inmost_of};
 use crate::{CType, MemberInfo, NameEntry, Names};
 use stk_base::NoMemory;
 
@@ -43,15 +43,10 @@ impl Names {
         ensures least { 1 ≤ result }
         ensures greatest { result ≤ 8 }
     {
-        let mut at = ty;
-        loop {
-            match at {
-                CType::Array(element, _) => at = element.get(),
-                CType::Int(kind) => return bytes_of(*kind),
-                CType::Pointer(_) => return 8,
-                CType::Struct(id) => return self.struct_alignment(*id),
-                CType::Void | CType::Function(_) => return 1,
-            }
+        match inmost_of(ty) {
+            Inmost::Bytes(bytes) => bytes,
+            Inmost::Struct(id) => self.struct_alignment(id),
+            Inmost::Nothing => 1,
         }
     }
 
@@ -77,37 +72,33 @@ impl Names {
         }
     }
 
+    /// The size of what is inside all arrays of a type, in bytes, where it is a complete object.
+    fn size_inside(&self, inmost: Inmost) -> Option<u64>
+        ensures { result ≡ size_inside (structs_of self.now) inmost }
+    {
+        match inmost {
+            Inmost::Bytes(bytes) => Some(bytes),
+            Inmost::Struct(id) => self.struct_size(id),
+            Inmost::Nothing => None,
+        }
+    }
+
     /// The size of a type in bytes, from 1 to 2,147,483,647 (C11 6.5.3.4).
     ///
     /// `None` exactly where the type isn't a complete object type: it is `void`, a function, an array of unknown size or a
-    /// struct that has no members yet.
+    /// struct that has no members yet. It takes constant time.
     pub fn size_of(&self, ty: &CType) -> Option<u64>
         requires { IsSound (structs_of self.now) (type_of ty.now) }
         ensures { result ≡ size_of (structs_of self.now) (type_of ty.now) }
     {
         let _ = &self.facts;
-        let mut count = 1;
-        let mut at = ty;
-        loop {
-            match at {
-                CType::Array(element, known) => {
-                    let Some(known) = known else {
-                        return None;
-                    };
-                    count *= *known;
-                    at = element.get();
-                }
-                CType::Int(kind) => return Some(count * bytes_of(*kind)),
-                CType::Pointer(_) => return Some(count * 8),
-                CType::Struct(id) => {
-                    let Some(size) = self.struct_size(*id) else {
-                        return None;
-                    };
-                    return Some(count * size);
-                }
-                CType::Void | CType::Function(_) => return None,
-            }
-        }
+        let Some(count) = count_in(ty) else {
+            return None;
+        };
+        let Some(size) = self.size_inside(inmost_of(ty)) else {
+            return None;
+        };
+        Some(count * size)
     }
 
     /// Where a member stands that comes behind so many bytes, and the bytes up to its end.

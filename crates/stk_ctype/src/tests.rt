@@ -1,10 +1,13 @@
 // Sizes, offsets, shadowing and cuts. Sizes and offsets are those that gcc gives on x86-64.
 use crate::checking::{are_members, is_sound, rests_on};
-use crate::{CType, IntKind, MemberInfo, NameEntry, Names, Shared, Signature, Symbol, Tag};
+use crate::{
+    CType, IntKind, MemberInfo, NameEntry, Names, OwnedSignature, SharedType, Signature, Symbol,
+    Tag,
+};
 use std::alloc::Global;
 use std::process::Abort;
 use std::test::Fail;
-use stk_base::{Boxed, List, NoMemory};
+use stk_base::{List, NoMemory};
 
 // What a type is made of, innermost first; nothing is `void`.
 #[derive(Clone, Copy)]
@@ -35,9 +38,9 @@ fn layer(alloc: Global, part: Part, ty: CType) -> Result<CType, NoMemory> {
     Ok(match part {
         Part::Kind(kind) => CType::Int(kind),
         Part::Struct(id) => CType::Struct(id),
-        Part::Pointer => CType::Pointer(Shared::new(alloc, ty)?),
-        Part::Array(count) => CType::Array(Shared::new(alloc, ty)?, Some(count)),
-        Part::Open => CType::Array(Shared::new(alloc, ty)?, None),
+        Part::Pointer => CType::Pointer(SharedType::new(alloc, ty)?),
+        Part::Array(count) => CType::Array(SharedType::new(alloc, ty)?, Some(count)),
+        Part::Open => CType::Array(SharedType::new(alloc, ty)?, None),
     })
 }
 
@@ -319,7 +322,7 @@ fn function(alloc: Global, given: CType, param: CType) -> Result<CType, NoMemory
         more: true,
         no_return: false,
     };
-    Ok(CType::Function(Boxed::new(alloc, signature)?))
+    Ok(CType::Function(OwnedSignature::new(alloc, signature)?))
 }
 
 // A function whose last parameter points to such a function, and so on, and whose result does.
@@ -341,5 +344,24 @@ fn types_that_nest_deep_are_copied_and_dropped(rt: HostRuntime) -> Result<(), Fa
     let ty = nested(rt.alloc(), 200_000)?;
     let copied = ty.copy(rt.alloc())?;
     assert!(rt; matches!(&copied, CType::Function(_)));
+    Ok(())
+}
+
+// Whether each type of so long a chain of arrays of one element has the size of an `int`.
+fn chain_has_size(alloc: Global, levels: u32) -> Result<bool, NoMemory> {
+    let names = Names::new(alloc);
+    let mut ty = CType::Int(IntKind::Int);
+    for _ in 0..levels {
+        if names.size_of(&ty) != Some(4) {
+            return Ok(false);
+        }
+        ty = CType::Array(SharedType::new(alloc, ty)?, Some(1));
+    }
+    Ok(true)
+}
+
+#[test]
+fn sizes_take_no_longer_where_arrays_nest_deep(rt: HostRuntime) -> Result<(), Fail> {
+    assert!(rt; chain_has_size(rt.alloc(), 1_000_000)?);
     Ok(())
 }

@@ -11,8 +11,8 @@ ghost use Rattle.stk_declarators.specs.Rows.{AreSoundTypes};
 
 use crate::Params;
 use std::alloc::Global;
-use stk_base::{Boxed, List};
-use stk_ctype::{CType, Names, Signature};
+use stk_base::List;
+use stk_ctype::{CType, Names, OwnedSignature, Signature};
 use stk_facts::{Broken, NodeFact};
 use stk_rules::is_complete;
 
@@ -56,5 +56,5 @@ pub(crate) fn function_rule(
         more,
         no_return: false,
     };
-    Ok(NodeFact::declares(CType::Function(Boxed::new(alloc, signature)?)))
+    Ok(NodeFact::declares(CType::Function(OwnedSignature::new(alloc, signature)?)))
 }

@@ -17,7 +17,7 @@ ghost use Rattle.stk_declarators.specs.Rows.{AreParams, AreSoundTypes, scope_wit
 
 use std::alloc::Global;
 use stk_base::{List, NoMemory, Span};
-use stk_ctype::{CType, Names, Shared};
+use stk_ctype::{CType, Names, SharedType};
 use stk_facts::{Broken, NodeFact, Untyped, fact, own};
 use stk_rules::is_complete;
 use stk_scope::{LocalName, Locals, Scoped, Size, declared_type, starred};
@@ -76,9 +76,9 @@ fn declared(alloc: Global, ty: &CType) -> Result<NodeFact, Broken>
 }
 
 // A pointer to an array's element, declared.
-fn pointer(element: &Shared<CType>) -> Result<NodeFact, Broken>
-    ensures fact { MakesFact (Fits (declares (pointer_type (type_of element.now)))) result }
-    ensures sound { (structs : Structs) → IsSound structs (type_of element.now) → IfOk result (λ f. IsSound structs (type_of f.ty)) }
+fn pointer(element: &SharedType) -> Result<NodeFact, Broken>
+    ensures fact { MakesFact (Fits (declares (pointer_type element.now))) result }
+    ensures sound { (structs : Structs) → IsSound structs element.now → IfOk result (λ f. IsSound structs (type_of f.ty)) }
 {
     let element = element.share()?;
     Ok(NodeFact::declares(CType::Pointer(element)))

@@ -14,8 +14,8 @@ use crate::Sort;
 use crate::symbols::agreement;
 use std::alloc::Global;
 use stk_agree::Agreement;
-use stk_base::{Boxed, List, NoMemory};
-use stk_ctype::{CType, NameEntry, Signature, Symbol};
+use stk_base::{List, NoMemory};
+use stk_ctype::{CType, NameEntry, OwnedSignature, Signature, Symbol};
 
 // Whether a function was marked as not returning.
 fn was_marked(earlier: Option<&Symbol>) -> bool
@@ -86,7 +86,7 @@ fn as_type(alloc: Global, f: &Signature) -> Result<CType, NoMemory>
     ensures sound { (structs : Structs) → IsSoundSignature structs (signature_of f.now) → IfOk result (λ t. IsSound structs (type_of t)) }
 {
     let copy = marked(alloc, f.no_return, f)?;
-    Ok(CType::Function(Boxed::new(alloc, copy)?))
+    Ok(CType::Function(OwnedSignature::new(alloc, copy)?))
 }
 
 // What a name of this sort means whose type an earlier declaration gave.

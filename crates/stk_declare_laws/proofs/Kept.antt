@@ -16,7 +16,6 @@ use Rattle.stk_ctype.specs.Names.{later_of, symbol_named, find, structs_in, stru
 use Rattle.stk_ctype.specs.Structs.{Structs, StructLayout, array_size, size_of, struct_at, structs_of, layout_of}
 use Rattle.stk_ctype.specs.Sound.{IsOpenArray}
 use Rattle.stk_ctype.proofs.Noting.{struct_count-append, length-structs_behind}
-use Rattle.stk_ctype.proofs.Views.{view_void, view_integer, view_pointer, view_array, view_struct, view_function}
 use Rattle.stk_tree.specs.declared.declaration.Storage.{Storage}
 use Rattle.stk_tree.specs.Syntax.{BaseFormTree, BaseTree, DeclarationTree, DeclrTree, DeclrTrees, EnumrTree, EnumrTrees, FunctionTree, MemberTree, MemberTrees, UnitTree, MaybeInitTree}
 use Rattle.stk_tree.specs.Syntax as s
@@ -34,7 +33,8 @@ use Rattle.stk_typing.specs.Typing.{base_typed, expression_typed, dimensions_typ
 use Rattle.stk_tags.specs.declared.uses.TagUse.{TagUse}
 use Rattle.stk_tags.specs.declared.uses.TagUse.TheVariants as used
 use Rattle.stk_tags.specs.Uses.{base_uses, declarator_uses, dimensions_uses, expression_uses, form_uses}
-use Rattle.stk_agree.specs.Making.{made, made_signature}
+use Rattle.stk_agree.specs.Making.{made}
+use Rattle.stk_agree.proofs.Made.{shown}
 use Rattle.stk_declare.specs.Tags.{at_file, with_struct, past, behind_uses}
 use Rattle.stk_declare.specs.Bases.{Based, plain_declared}
 use Rattle.stk_declare.specs.Enumerations.{Enumerated, none_enumerated, enumeration_rule, tag_before, with_value, enumerator_declared, enumerators_declared, enumeration_declared, with_enumeration}
@@ -191,21 +191,19 @@ opening_kept bytes es (Some at) h = opening_named_kept es (text_of bytes at) (ta
 
 -- a type as the code holds it has its size, and is an array of unknown size where it is one
 made_size : (S : Structs) (t : TypeTree) → size_of S (type_of (made t)) ≡ size_of S t
-made_size S void_type = ap (size_of S) view_void
-made_size S (integer_type k) = ap (size_of S) (view_integer k)
-made_size S (pointer_type t) = ap (size_of S) (view_pointer (made t))
-made_size S (array_type t c) = ap (size_of S) (view_array (made t) c) ∙ ap (array_size c) (made_size S t)
-made_size S (struct_type id) = ap (size_of S) (view_struct id)
-made_size S (function_type f) = ap (size_of S) (view_function (made_signature f))
+made_size S t = ap (size_of S) (shown t)
+
+open_is : (t : TypeTree) → is_open_array t ≡ true → IsOpenArray t
+open_is void_type e = absurd cc
+open_is (integer_type k) e = absurd cc
+open_is (pointer_type t) e = absurd cc
+open_is (array_type t None) e = refl
+open_is (array_type t (Some n)) e = absurd cc
+open_is (struct_type id) e = absurd cc
+open_is (function_type f) e = absurd cc
 
 made_open : (t : TypeTree) → is_open_array t ≡ true → IsOpenArray (type_of (made t))
-made_open void_type e = absurd cc
-made_open (integer_type k) e = absurd cc
-made_open (pointer_type t) e = absurd cc
-made_open (array_type t None) e = subst IsOpenArray (sym (view_array (made t) None)) refl
-made_open (array_type t (Some n)) e = absurd cc
-made_open (struct_type id) e = absurd cc
-made_open (function_type f) e = absurd cc
+made_open t e = subst IsOpenArray (sym (shown t)) (open_is t e)
 
 some_size : (o : Option ℕ) → is_some o ≡ true → IsSome o
 some_size None e = absurd cc

@@ -1,12 +1,11 @@
 -- What a declarator of file scope declares as an object has a type of one, and what it declares as a function has the type of one.
-use Rattle.std.proofs.Common.{◌≡◌, ℕ, Bool, true, false, ◌||◌, ◌&&◌, List, [], ◌∷◌, Option, Some, None, refl, sym, ap, subst}
+use Rattle.std.proofs.Common.{◌≡◌, ℕ, Bool, true, false, ◌||◌, ◌&&◌, List, [], ◌∷◌, Option, Some, None, refl, sym, ap, subst, ◌∙◌}
 use Rattle.std.specs.Prelude.{if◌then◌else◌, nat_le, pos}
 use Rattle.stk_ctype.specs.declared.symbol.Symbol.{Symbol}
 use Rattle.stk_ctype.specs.declared.symbol.Symbol.TheVariants as symbol
 use Rattle.stk_ctype.specs.declared.symbol.NameEntry.TheVariants as entry
 use Rattle.stk_ctype.specs.Types.{TypeTree, void_type, integer_type, pointer_type, array_type, struct_type, function_type, type_of}
 use Rattle.stk_ctype.specs.Structs.{Structs, size_of, size_limit}
-use Rattle.stk_ctype.proofs.Views.{view_integer, view_pointer, view_array, view_struct}
 use Rattle.stk_tree.specs.declared.declaration.Storage.{Storage}
 use Rattle.stk_tree.specs.declared.declaration.Storage.TheVariants as storage
 use Rattle.stk_tree.specs.Syntax.{MaybeInitTree}
@@ -21,6 +20,7 @@ use Rattle.stk_declarators.specs.Tails.{TailShape, of_arrays, of_function, count
 use Rattle.stk_agree.specs.declared.agreement.Agreement.{Agreement}
 use Rattle.stk_agree.specs.declared.agreement.Agreement.TheVariants.{Differ, Old, New}
 use Rattle.stk_agree.specs.Making.{made}
+use Rattle.stk_agree.proofs.Made.{shown}
 use Rattle.stk_declare.specs.declared.symbols.Sort.{Sort}
 use Rattle.stk_declare.specs.declared.symbols.Sort.TheVariants as sort
 use Rattle.stk_declare.specs.Symbols.{sort_by_type, sort_by_tail, sort_of, clashes, agreement, may_be_object, may_be, may_begin, agreed_rule, made_rule, declarator_rule, size_first, was_marked, signature_in, function_meaning, meaning, holding, says_more, added}
@@ -184,12 +184,7 @@ size_passed lacking (Fits x) y e = e
 
 -- the code's type of a type
 made_object : (t : TypeTree) → is_object_type t ≡ true → is_object_type (type_of (made t)) ≡ true
-made_object void_type e = absurd cc
-made_object (integer_type k) e = ap is_object_type (view_integer k)
-made_object (pointer_type t) e = ap is_object_type (view_pointer (made t))
-made_object (array_type t c) e = ap is_object_type (view_array (made t) c)
-made_object (struct_type id) e = ap is_object_type (view_struct id)
-made_object (function_type f) e = absurd cc
+made_object t e = ap is_object_type (shown t) ∙ e
 
 -- what an earlier declaration says
 abbrev pub HasEarlier : Option Symbol → Type 0

@@ -9,7 +9,7 @@ ghost use Rattle.stk_rules.specs.Types.{decayed, kind_of, pointee, is_scalar, is
 
 use std::alloc::Global;
 use stk_base::NoMemory;
-use stk_ctype::{CType, IntKind, Names, Shared};
+use stk_ctype::{CType, IntKind, Names, SharedType};
 
 /// The kind of an integer type; none of any other type.
 pub fn kind_of(ty: &CType) -> Option<IntKind>
@@ -108,7 +108,7 @@ pub fn pointer_to(alloc: Global, ty: &CType) -> Result<CType, NoMemory>
     ensures sound { (structs : Structs) → IsSound structs (type_of ty.now) → IfOk result (λ t. IsSound structs (type_of t)) }
 {
     let target = ty.copy(alloc)?;
-    Ok(CType::Pointer(Shared::new(alloc, target)?))
+    Ok(CType::Pointer(SharedType::new(alloc, target)?))
 }
 
 /// The type of a value that is read: that of an array is a pointer to its first element (C11 6.3.2.1p3).

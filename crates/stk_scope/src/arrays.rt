@@ -10,7 +10,7 @@ ghost use Rattle.stk_scope.specs.Arrays.{starred, count_of, array_within, around
 
 use std::alloc::Global;
 use stk_base::NoMemory;
-use stk_ctype::{CType, Names, Shared};
+use stk_ctype::{CType, Names, SharedType};
 use stk_facts::{Broken, Constancy, NodeFact};
 use stk_rules::is_complete;
 
@@ -28,7 +28,7 @@ pub fn starred(alloc: Global, stars: u32, ty: CType) -> Result<CType, NoMemory>
 {
     let mut all = ty;
     for _ in 0..stars {
-        all = CType::Pointer(Shared::new(alloc, all)?);
+        all = CType::Pointer(SharedType::new(alloc, all)?);
     }
     Ok(all)
 }
@@ -69,7 +69,7 @@ fn array_within(
     };
     match count.checked_mul(size) {
         Some(all) if all <= 2_147_483_647 => {
-            let element = Shared::new(alloc, element)?;
+            let element = SharedType::new(alloc, element)?;
             Ok(Some(CType::Array(element, Some(count))))
         }
         _ => Ok(None),
@@ -91,7 +91,7 @@ fn around(
 {
     match size {
         Size::Open => {
-            let element = Shared::new(alloc, element)?;
+            let element = SharedType::new(alloc, element)?;
             Ok(Some(CType::Array(element, None)))
         }
         Size::Sized(constancy) => {

@@ -10,7 +10,7 @@ ghost use Rattle.stk_scope.specs.Literals.{number_rule, character_rule, string_o
 use std::alloc::Global;
 use stk_base::{NoMemory, Span};
 use stk_constants::{character_constant, integer_constant, string_bytes};
-use stk_ctype::{CType, IntKind, Shared};
+use stk_ctype::{CType, IntKind, SharedType};
 use stk_facts::{Broken, NodeFact};
 
 /// An integer constant, given as its text (C11 6.4.4.1); rule 11 refuses a text that isn't one, or whose number no kind of its
@@ -44,7 +44,7 @@ fn string_of(alloc: Global, count: usize) -> Result<NodeFact, Broken>
     if count >= 2_147_483_647 {
         return Err(Broken::Rule(5));
     }
-    let element = Shared::new(alloc, CType::Int(IntKind::Char))?;
+    let element = SharedType::new(alloc, CType::Int(IntKind::Char))?;
     Ok(NodeFact::place(CType::Array(element, Some(count as u64 + 1))))
 }
 

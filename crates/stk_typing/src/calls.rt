@@ -62,7 +62,7 @@ fn takes(more: bool, parameters: usize, arguments: usize) -> bool
 }
 
 // The value of a call of a function.
-#[tactic(auto, using(crate::proofs::Signatures::signatures))]
+#[tactic(auto, using(crate::proofs::Signatures::count_row))]
 fn call_result(alloc: Global, f: &Signature, a: Arguments) -> Result<NodeFact, Broken>
     ensures fact { MakesFact (call_result (signature_of f.now) a) result }
     ensures sound { (structs : Structs) → IsSoundSignature structs (signature_of f.now) → IfOk result (λ x. IsSound structs (type_of x.ty)) }

@@ -5,7 +5,6 @@ use Rattle.stk_ctype.specs.declared.ctype.CType.{CType}
 use Rattle.stk_ctype.specs.declared.ctype.CType.TheVariants as ctype
 use Rattle.stk_ctype.specs.declared.kind.IntKind.TheVariants as kind
 use Rattle.stk_ctype.specs.Types.{TypeTree, integer_type, array_type, type_of}
-use Rattle.stk_ctype.proofs.Views.{view_array, view_integer}
 use Rattle.stk_ctype.specs.Structs.{Structs}
 use Rattle.stk_ctype.specs.Sound.{IsSound}
 use Rattle.stk_facts.specs.Facts.{AreSoundFacts}
@@ -18,7 +17,7 @@ no_facts structs i = tt
 pub ruleset nothing = no_facts
 
 -- an array of three integers
-pub three_sound : (structs : Structs) (t : CType) → t ≡ ctype.Array (ctype.Int kind.Int) (Some 3) → IsSound structs (type_of t)
+pub three_sound : (structs : Structs) (t : CType) → t ≡ ctype.Array (integer_type kind.Int) (Some 3) → IsSound structs (type_of t)
 three_sound structs t e =
-    let view : type_of t ≡ array_type (integer_type kind.Int) (Some 3) = ap type_of e ∙ view_array (ctype.Int kind.Int) (Some 3) ∙ ap (λ (u : TypeTree). array_type u (Some 3)) (view_integer kind.Int) in
+    let view : type_of t ≡ array_type (integer_type kind.Int) (Some 3) = ap type_of e in
     subst (λ (u : TypeTree). IsSound structs u) (sym view) (tt, refl, omega arith, omega arith)

@@ -5,7 +5,7 @@ ghost use Rattle.std.specs.Prelude.{◌≡◌, []};
 use crate::typed::{add, add_rule, locals, type_at};
 use std::alloc::Global;
 use stk_base::NoMemory;
-use stk_ctype::{CType, IntKind, Names, Shared};
+use stk_ctype::{CType, IntKind, Names, SharedType};
 use stk_decl::decl;
 use stk_facts::Untyped;
 use stk_initialisers::{initial_refused, initialiser};
@@ -21,7 +21,7 @@ fn object_at(alloc: Global, i: u32) -> Result<CType, NoMemory> {
     if i < CHARACTERS {
         return type_at(alloc, i);
     }
-    let element = Shared::new(alloc, CType::Int(IntKind::Char))?;
+    let element = SharedType::new(alloc, CType::Int(IntKind::Char))?;
     Ok(CType::Array(element, Some(3)))
 }
 

@@ -8,7 +8,7 @@ ghost use Rattle.stk_scope.specs.Locals.{AreSoundLocals, local_of};
 
 use std::alloc::Global;
 use stk_base::{List, NoMemory};
-use stk_ctype::{CType, IntKind, Names, Shared, Signature};
+use stk_ctype::{CType, IntKind, Names, SharedType, Signature};
 use stk_expr::expr;
 use stk_facts::{Constancy, NodeFact, Untyped};
 use stk_lex::lex;
@@ -21,7 +21,7 @@ use stk_typing::expression;
 fn three_integers(alloc: Global) -> Result<CType, NoMemory>
     ensures { (structs : Structs) → IfOk result (λ t. IsSound structs (type_of t)) }
 {
-    let element = Shared::new(alloc, CType::Int(IntKind::Int))?;
+    let element = SharedType::new(alloc, CType::Int(IntKind::Int))?;
     Ok(CType::Array(element, Some(3)))
 }
 
@@ -34,8 +34,8 @@ pub(crate) fn type_at(alloc: Global, i: u32) -> Result<CType, NoMemory>
         1 => Ok(CType::Int(IntKind::UInt)),
         2 => Ok(CType::Int(IntKind::UChar)),
         3 => Ok(CType::Int(IntKind::Long)),
-        4 => Ok(CType::Pointer(Shared::new(alloc, CType::Int(IntKind::Int))?)),
-        5 => Ok(CType::Pointer(Shared::new(alloc, CType::Void)?)),
+        4 => Ok(CType::Pointer(SharedType::new(alloc, CType::Int(IntKind::Int))?)),
+        5 => Ok(CType::Pointer(SharedType::new(alloc, CType::Void)?)),
         _ => three_integers(alloc),
     }
 }

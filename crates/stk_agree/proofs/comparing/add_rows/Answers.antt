@@ -1,5 +1,4 @@
-use Rattle.std.proofs.Common.{◌≡◌, ◌∙◌, ◌&&◌, ◌∷◌, ◌+◌, [], arith, drop, map, ap, sym, rules}
-use Rattle.std.proofs.lemmas.List.{drop_all}
+use Rattle.std.proofs.Common.{◌≡◌, ◌∙◌, ◌&&◌, ◌∷◌, ◌+◌, arith, drop, map, ap, sym, rules}
 use Rattle.stk_ctype.specs.Types.{type_of, row_of}
 use Rattle.stk_agree.specs.Same.{same_row}
 use Rattle.stk_agree.specs.Pairs.{are_same, pairs_of}

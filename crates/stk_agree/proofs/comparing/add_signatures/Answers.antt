@@ -1,18 +1,17 @@
-use Rattle.std.proofs.Common.{◌≡◌, ◌&&◌, ◌+◌, ◌≤◌, ◌∙◌, map, sym, subst, List}
+use Rattle.std.proofs.Common.{◌≡◌, ◌&&◌, ◌+◌, ◌≤◌, ◌∙◌, map, sym, subst, refl, List}
 use Rattle.std.specs.Prelude.{IfOk}
 use Rattle.stk_ctype.specs.declared.ctype.CType.{CType}
-use Rattle.stk_ctype.specs.declared.ctype.Signature.{out-Signature}
 use Rattle.stk_ctype.specs.Types.{type_of, row_of}
 use Rattle.stk_ctype.specs.Turns.{turns, turns_of_row}
 use Rattle.stk_agree.specs.Same.{same, same_row}
 use Rattle.stk_agree.specs.Pairs.{are_same, pairs_of, pair_turns}
-use Rattle.stk_agree.proofs.Pairs.{pairs_more, turns_more, signatures_same, signature_turns, after_pair, after_turns, whole_same}
+use Rattle.stk_agree.proofs.Pairs.{pairs_more, turns_more, signatures_same, after_pair, after_turns, whole_same}
 use Rattle.stk_agree.proofs.comparing.add_signatures.Goals as goal
 
 pub returns-clause-same : goal.returns-clause-same
 returns-clause-same c =
-    let s = out-Signature c.args.left.now in
-    let t = out-Signature c.args.right.now in
+    let s = c.args.left.now in
+    let t = c.args.right.now in
     let mid = pairs_more c.args.waiting.now.items c.push.new.self.items _ _ c.in_ok-push.ensures.items in
     let now = are_same (pairs_of c.add_rows.new.waiting.items) in
     let before = are_same (pairs_of c.push.new.self.items) in
@@ -23,7 +22,7 @@ returns-clause-same c =
 
 pub returns-clause-fewer : goal.returns-clause-fewer
 returns-clause-fewer c =
-    let s = out-Signature c.args.left.now in
+    let s = c.args.left.now in
     let mid = turns_more c.args.waiting.now.items c.push.new.self.items _ _ c.in_ok-push.ensures.items in
     let rows = subst (λ (xs : List CType). IfOk c.add_rows.result (λ b. pair_turns (pairs_of c.add_rows.new.waiting.items) ≤ pair_turns (pairs_of c.push.new.self.items) + turns_of_row (row_of (map type_of xs)))) c.as_slice.ensures c.add_rows.ensures.fewer in
-    after_turns c.add_rows.result _ _ _ (turns (type_of s.result)) (turns_of_row (row_of (map type_of s.params))) _ rows mid (signature_turns c.args.left.now)
+    after_turns c.add_rows.result _ _ _ (turns (type_of s.result)) (turns_of_row (row_of (map type_of s.params))) _ rows mid refl

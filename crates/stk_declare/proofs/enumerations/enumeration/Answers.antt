@@ -1,7 +1,6 @@
 use Rattle.std.proofs.Common.{◌≡◌, ◌∙◌, Ok, Err, map, sym, rules}
 use Rattle.stk_ctype.specs.declared.kind.IntKind.TheVariants.{Int}
 use Rattle.stk_ctype.specs.Types.{integer_type, type_of}
-use Rattle.stk_ctype.proofs.Views.{view_integer}
 use Rattle.stk_tree.specs.View.{enumerators, view_enumerator}
 use Rattle.stk_declare.proofs.Entries.{enumeration_gives, enumeration_stops}
 use Rattle.stk_declare.proofs.Settled.{passed_on}
@@ -20,4 +19,4 @@ returns-clause-gives c =
     let ruled = rw c.tag_before.ensures at (c.in_ok-settled.ensures.fact _ (c.enumeration_rule.ensures.fact mid)) in
     enumeration_gives c.args.bytes.now c.args.names.now mid c.with_enumeration.new.names c.args.node c.args.tag (enumerators (map view_enumerator c.args.list.now)) c.in_ok-counter.counter c.in_ok-settled.field-0 _ c.in_ok-counter.ensures.gives ruled
     c.in_ok-with_enumeration.ensures.is
-    (view_integer Int ∙ sym (passed_on c.enumeration_rule.result (Ok c.in_ok-settled.field-0) (λ f. type_of f.ty ≡ integer_type Int) c.in_ok-settled.ensures.same c.enumeration_rule.ensures.ty))
+    (sym (passed_on c.enumeration_rule.result (Ok c.in_ok-settled.field-0) (λ f. type_of f.ty ≡ integer_type Int) c.in_ok-settled.ensures.same c.enumeration_rule.ensures.ty))

@@ -14,6 +14,9 @@ use Rattle.stk_declare.proofs.Settled.{passed_on}
 use Rattle.stk_declare.proofs.Views.{view_declarator_node}
 use Rattle.stk_declare.proofs.structs.member_type.Goals as goal
 
+pub member_rule-made-requires : goal.member_rule-made-requires
+member_rule-made-requires c = c.member_size_first-made.ensures.sound (structs_of c.args.names.now) c.declared_type-made.ensures.sound
+
 pub returns-clause-gives : goal.returns-clause-gives
 returns-clause-gives c =
     let d = out-Declr c.args.d.now in

@@ -3,18 +3,19 @@ use Rattle.std.proofs.lemmas.List.{drop_all, length-map}
 use Rattle.stk_tree.specs.declared.expression.Expr.{out-Expr}
 use Rattle.stk_tree.specs.declared.declaration.TypeName.{out-TypeName}
 use Rattle.stk_tree.specs.View.{expressions, dimensions, view_base, view_dimension, view_expression, view_expression_form, view_type_name}
-use Rattle.stk_facts.specs.Facts.{fact_of, fact_at}
+use Rattle.stk_facts.specs.Facts.{Fact, fact_of, fact_at}
 use Rattle.stk_facts.specs.Outcome.{Gives, IsAt, finish}
 use Rattle.stk_facts.proofs.Steps.{one, two, stops, second_stops}
 use Rattle.stk_rules.specs.Rules.{size_rule, type_size_rule, cast_rule, choice_rule}
 use Rattle.stk_scope.specs.declared.arrays.Size.{Size}
+use Rattle.stk_scope.specs.declared.arrays.Size.TheVariants.{Sized}
 use Rattle.stk_scope.specs.Scope.{scope_of}
 use Rattle.stk_scope.specs.Arrays.{starred, sized_type}
 use Rattle.stk_typing.specs.declared.calls.Arguments.{Arguments}
 use Rattle.stk_typing.specs.Calls.{behind}
 use Rattle.stk_typing.specs.Forms.{structs_in, single_rule, pair_rule}
 use Rattle.stk_typing.specs.Typing.{base_typed, expression_typed, callee_typed, arguments_typed, type_name_typed, dimensions_typed}
-use Rattle.stk_typing.proofs.Turns.{three, third_stops, below, longer, call_gives, arguments_stop, arguments_turn, dimensions_turn, named_gives, next_of, nil, IsSignature, IsSize}
+use Rattle.stk_typing.proofs.Turns.{three, third_stops, below, longer, call_gives, arguments_stop, arguments_turn, dimensions_turn, named_gives, next_of, nil, size_gives, IsSignature, IsSize}
 use Rattle.stk_typing.proofs.Views.{single_typed, pair_typed, choice_typed, size_typed, type_size_typed, cast_typed, call_typed, callee_other, named_typed, sized_typed}
 use Rattle.stk_typing.proofs.expressions.+expression.Goals as goal
 
@@ -155,6 +156,12 @@ dimension-returns-in_err-i-in-Sized-clause-gives t c =
     let same : c.from_residual.result ≡ Err c.in_err-i-in-Sized.field-0.0 = search rules in
     rw (sized_typed (scope_of c.args.s.now) c.args.d.now c.in-Sized.e c.in-Sized.is, same)
     (stops (IsAt (map fact_of c.expression.new.facts.items)) IsSize (expression_typed (scope_of c.args.s.now) (view_expression c.in-Sized.e)) _ _ _ _ _ _ c.in_err-i-in-Sized.ensures.gives)
+
+pub dimension-returns-in_ok-i-in-Sized-clause-gives : goal.dimension-returns-in_ok-i-in-Sized-clause-gives
+dimension-returns-in_ok-i-in-Sized-clause-gives t c =
+    let same : c.fact.result.now.constancy ≡ (fact_at (map fact_of c.expression.new.facts.items) c.in_ok-i-in-Sized.i).constancy = ap (λ (x : Fact). x.constancy) c.fact.ensures.is in
+    rw (sized_typed (scope_of c.args.s.now) c.args.d.now c.in-Sized.e c.in-Sized.is, same)
+    (size_gives (scope_of c.args.s.now) (view_expression c.in-Sized.e) c.in_ok-i-in-Sized.i (λ x. Sized x.constancy) _ _ c.in_ok-i-in-Sized.ensures.gives)
 
 pub dimensions-loop-d-preserved : goal.dimensions-loop-d-preserved
 dimensions-loop-d-preserved t c =
