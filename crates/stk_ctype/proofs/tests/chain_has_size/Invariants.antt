@@ -1,8 +1,0 @@
-use Rattle.std.proofs.Common.{◌≡◌, Some}
-use Rattle.stk_ctype.specs.Types.{type_of}
-use Rattle.stk_ctype.specs.Structs.{structs_of, size_of}
-use Rattle.stk_ctype.specs.Sound.{IsSound}
-use Rattle.stk_ctype.proofs.tests.chain_has_size.Given as goal
-
-abbrev pub invariant-loop-ty : goal.invariant-loop-ty
-invariant-loop-ty l = IsSound (structs_of l.names) (type_of l.ty) × (size_of (structs_of l.names) (type_of l.ty) ≡ Some 4)
