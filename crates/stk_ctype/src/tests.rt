@@ -346,3 +346,22 @@ fn types_that_nest_deep_are_copied_and_dropped(rt: HostRuntime) -> Result<(), Fa
     assert!(rt; matches!(&copied, CType::Function(_)));
     Ok(())
 }
+
+// Whether each type of so long a chain of arrays of one element has the size of an `int`.
+fn chain_has_size(alloc: Global, names: &Names, levels: u32) -> Result<bool, NoMemory> {
+    let mut ty = CType::Int(IntKind::Int);
+    for _ in 0..levels {
+        if names.size_of(&ty) != Some(4) {
+            return Ok(false);
+        }
+        ty = CType::Array(SharedType::new(alloc, ty)?, Some(1));
+    }
+    Ok(true)
+}
+
+#[test]
+fn sizes_take_no_longer_where_arrays_nest_deep(rt: HostRuntime) -> Result<(), Fail> {
+    let names = Names::new(rt.alloc());
+    assert!(rt; chain_has_size(rt.alloc(), &names, 1_000_000)?);
+    Ok(())
+}
