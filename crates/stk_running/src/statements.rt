@@ -26,12 +26,16 @@ use stk_runs::Entry;
 use stk_tree::{Expr, Part, Section, Start, Stmt, StmtForm};
 
 /// A statement of a path run, and how it ends: what it asks and sees, its entries, registers and kept numbers are those of the run.
-/// The only refusal is want of memory.
+/// Where the run is cut, nothing of it is walked, and it ends as by `return`, so that nothing behind it is either. The only refusal
+/// is want of memory.
 #[cycle(statement)]
 pub fn statement<O: PathSetting>(out: &O, s: &Stmt, state: &mut State) -> Result<Flow, NoMemory>
     requires { EachLoop (O.knows out.now) (view_statement s.now) }
     ensures { IfOk result (λ v. Leaves (from (statement_run (O.setting out.now) (path_world (O.inputs out.now)) (view_statement s.now)) state.old) (flow_shown v) state.old state.new) }
 {
+    if state.cut {
+        return Ok(Flow::Return);
+    }
     match &s.form {
         StmtForm::Block(list) => block(out, list.as_slice(), state),
         StmtForm::Plain(e) => {
@@ -119,6 +123,9 @@ fn part<O: PathSetting>(out: &O, p: &Part, state: &mut State) -> Result<Flow, No
     requires { EachLoopOfPart (O.knows out.now) (view_part p.now) }
     ensures { IfOk result (λ v. Leaves (from (part_run (O.setting out.now) (path_world (O.inputs out.now)) (view_part p.now)) state.old) (flow_shown v) state.old state.new) }
 {
+    if state.cut {
+        return Ok(Flow::Return);
+    }
     match p {
         Part::Local(d) => {
             declaration(out, d, state)?;
