@@ -56,8 +56,8 @@ fn enumerator<'a>(
     Ok((build::enumerator(name, value), rest))
 }
 
-/// One enumerator or more, whether a comma stands behind the last one, and the `}`. Each turn takes a token, so there are
-/// no more turns than tokens.
+/// One enumerator or more, whether a comma stands behind the last one, and the `}`. The bound is for the prover: each turn
+/// takes a token, so there are no more turns than tokens.
 #[tactic(auto, unfolding(stk_decl_grammar::specs::Reading::enumerators_at))]
 fn enumerators<'a>(
     alloc: Global,
@@ -125,7 +125,7 @@ fn member<'a>(
     Ok((build::member(form, list), rest))
 }
 
-/// One member or more, and the `}`. Each turn takes a token, so there are no more turns than tokens.
+/// One member or more, and the `}`. The bound is for the prover: each turn takes a token, so there are no more turns than tokens.
 #[cycle(base)]
 #[tactic(auto, unfolding(stk_decl_grammar::specs::Reading::members_at))]
 fn members<'a>(

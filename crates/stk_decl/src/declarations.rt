@@ -103,7 +103,7 @@ pub fn declaration<'a>(
 }
 
 /// A storage word, a base and the declarator of a function, of at most the nesting `room`.
-fn head<'a>(
+fn front<'a>(
     alloc: Global,
     bytes: &[u8],
     names: &Names,
@@ -134,9 +134,9 @@ pub fn function_front<'a>(
     requires { room ≤ most_nesting }
     ensures { Gives (λ x. (view_declaration x.0, x.1.now)) result (front_at (named bytes.now names.now) room lexemes.now) }
 {
-    let (head, rest) = head(alloc, bytes, names, room, lexemes)?;
+    let (front, rest) = front(alloc, bytes, names, room, lexemes)?;
     if !opens_body(rest) {
         return Err(Parse::NoTree);
     }
-    Ok((head, rest))
+    Ok((front, rest))
 }

@@ -142,7 +142,8 @@ fn declarator_in<'a>(
     }
 }
 
-/// One declarator or more, and the `;`. Each turn takes a token, so there are no more turns than tokens.
+/// One declarator or more, and the `;`. The bound is for the prover: each turn takes a token, so there are no more turns than
+/// tokens.
 #[tactic(auto, unfolding(stk_decl_grammar::specs::Reading::declarators_at))]
 pub fn declarators<'a>(
     alloc: Global,

@@ -74,7 +74,7 @@ fn designator<'a>(
     })
 }
 
-/// Designators in a row. Each turn takes a token, so there are no more turns than tokens.
+/// Designators in a row. The bound is for the prover: each turn takes a token, so there are no more turns than tokens.
 fn designators<'a>(
     alloc: Global,
     bytes: &[u8],
@@ -154,8 +154,8 @@ fn item<'a>(
     Ok((build::item(path, init), rest))
 }
 
-/// Items, whether a comma stands behind the last one, and the `}`. Each turn takes a token, so there are no more turns
-/// than tokens.
+/// Items, whether a comma stands behind the last one, and the `}`. The bound is for the prover: each turn takes a token, so
+/// there are no more turns than tokens.
 #[cycle(initialiser)]
 #[tactic(auto, unfolding(stk_decl_grammar::specs::Reading::items_at))]
 fn items<'a>(

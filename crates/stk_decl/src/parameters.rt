@@ -70,8 +70,8 @@ fn parameter<'a>(
     })
 }
 
-/// One parameter or more, whether `, ...` follows, and the `)`. Each turn takes a token, so there are no more turns than
-/// tokens.
+/// One parameter or more, whether `, ...` follows, and the `)`. The bound is for the prover: each turn takes a token, so there
+/// are no more turns than tokens.
 fn parameters<'a>(
     alloc: Global,
     bytes: &[u8],
