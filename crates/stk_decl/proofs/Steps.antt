@@ -1,6 +1,6 @@
 -- The steps of reading a declarator, the parameters behind a name, and a base that begins with a reserved word.
-use Rattle.std.proofs.Common.{◌≡◌, ℕ, zero, suc, ◌+◌, ◌-◌, ◌<◌, ◌≤◌, Bool, List, ◌∷◌, Option, Some, None, refl, sym, ap, ◌∙◌, arith}
-use Rattle.std.proofs.lemmas.Bool.{le-leb, lt-leb}
+use Rattle.std.proofs.Common.{◌≡◌, ℕ, zero, suc, ◌+◌, ◌-◌, ◌<◌, ◌≤◌, Bool, true, false, cond, nat_le, List, ◌∷◌, Option, Some, None, refl, sym, ap, ◌∙◌, arith}
+use Rattle.std.proofs.lemmas.Bool.{le-leb, leb-false, lt-leb}
 use Rattle.stk_base.specs.declared.span.Span.{Span}
 use Rattle.stk_tree.specs.declared.fixed.Fixed.{Fixed}
 use Rattle.stk_tree.specs.declared.fixed.Lexeme.{Lexeme}
@@ -10,11 +10,13 @@ use Rattle.stk_tree.specs.Syntax.{DeclrTree, MaybeInitTree, ParamTree, TailTree}
 use Rattle.stk_tree.specs.Syntax as s
 use Rattle.stk_tree.specs.Unlaid.{no_node}
 use Rattle.stk_grammar.specs.Reading.{◌>>=◌, Found, behind_right_paren, stars_at}
+use Rattle.stk_grammar.proofs.Operators.{if_some}
 use Rattle.stk_decl_grammar.specs.Reading.{Reader, behind_void, declarator_at, declarator_behind, declarator_name_behind, declared_tail_at, enumerator_at, enumerators_at, full_base_at, full_base_from, full_base_on, initial_at, low_declarator, member_at, members_at, more_parameters_at, name_at, parameter_tail_at, parameters_from}
 use Rattle.stk_expr.specs.declared.parse.Parse.{Parse}
 use Rattle.stk_expr.specs.declared.parse.Parse.TheVariants as parse
 use Rattle.stk_expr.specs.Gives.{Fails}
 use Rattle.stk_decl.specs.Rows.{first_of, paired}
+use Rattle.stk_decl.specs.Tails.{low_tail}
 use Rattle.stk_decl.proofs.Rows.{as_tail, parameters_tail}
 
 -- ---- failures
@@ -52,40 +54,51 @@ behind_name named (suc inner) file ts count inside at rest some stars name =
 abbrev with_tail : (Span → Bool) → ℕ → ℕ → Span → TailTree × List Lexeme → Found DeclrTree
 with_tail named inner count at t = initial_at named inner t.1 >>= λ i. low_declarator (suc inner) (s.declarator no_node count (Some at) t.0 i.0) i.1
 
-pub tail_fails : (e : Parse) (named : Span → Bool) (inner : ℕ) (file : Bool) (count : ℕ) (at : Span) (rest : List Lexeme) → Fails e (declared_tail_at named inner file rest)
-    → Fails e (declarator_behind named inner file count (at, rest))
-tail_fails e named inner file count at rest h = Fails_behind e (declared_tail_at named inner file rest) (with_tail named inner count at) h
-
-behind_tail : (named : Span → Bool) (inner : ℕ) (file : Bool) (count : ℕ) (at : Span) (rest : List Lexeme) (t : TailTree × List Lexeme) → declared_tail_at named inner file rest ≡ Some t
-    → declarator_behind named inner file count (at, rest) ≡ with_tail named inner count at t
-behind_tail named inner file count at rest t h = ap (λ (o : Found TailTree). o >>= with_tail named inner count at) h
-
 abbrev with_initial : ℕ → ℕ → Span → TailTree → MaybeInitTree × List Lexeme → Found DeclrTree
 with_initial inner count at t i = low_declarator (suc inner) (s.declarator no_node count (Some at) t i.0) i.1
 
-pub initial_fails : (e : Parse) (named : Span → Bool) (inner : ℕ) (file : Bool) (count : ℕ) (at : Span) (rest : List Lexeme) (t : TailTree) (more : List Lexeme) → declared_tail_at named inner file rest ≡ Some (t, more) → Fails e (initial_at named inner more)
+not_taken : {A : Type 0} (b : Bool) (x : A) → cond b (Some x) None ≡ None → b ≡ false
+not_taken true x e = absurd cc
+not_taken false x e = refl
+
+-- whatever initialiser is read behind a tail that is too high
+too_high : (inner count : ℕ) (at : Span) (t : TailTree) (o : Found MaybeInitTree) → inner < tail_nesting t + count → o >>= with_initial inner count at t ≡ None
+too_high inner count at t None high = refl
+too_high inner count at t (Some i) high =
+    let more_than : suc inner < declarator_nesting (s.declarator no_node count (Some at) t i.0) = omega arith in
+    rw (lt-leb (declarator_nesting (s.declarator no_node count (Some at) t i.0)) (suc inner) more_than) refl
+
+no_tail : (named : Span → Bool) (inner count : ℕ) (at : Span) (o : Found TailTree) → o >>= low_tail inner count ≡ None → o >>= with_tail named inner count at ≡ None
+no_tail named inner count at None e = refl
+no_tail named inner count at (Some t) e =
+    too_high inner count at t.0 (initial_at named inner t.1) (leb-false (tail_nesting t.0 + count) inner (not_taken (nat_le (tail_nesting t.0 + count) inner) t e))
+
+pub tail_fails : (e : Parse) (named : Span → Bool) (inner : ℕ) (file : Bool) (count : ℕ) (at : Span) (rest : List Lexeme) → Fails e (declared_tail_at named inner file rest >>= low_tail inner count)
+    → Fails e (declarator_behind named inner file count (at, rest))
+tail_fails parse.NoMemory named inner file count at rest h = tt
+tail_fails parse.NoTree named inner file count at rest h = no_tail named inner count at (declared_tail_at named inner file rest) h
+
+tail_is : (inner count : ℕ) (o : Found TailTree) (t : TailTree × List Lexeme) → o >>= low_tail inner count ≡ Some t → o ≡ Some t
+tail_is inner count None t e = absurd cc
+tail_is inner count (Some x) t e = (if_some (nat_le (tail_nesting x.0 + count) inner) (Some x) t e).1
+
+behind_tail : (named : Span → Bool) (inner : ℕ) (file : Bool) (count : ℕ) (at : Span) (rest : List Lexeme) (t : TailTree × List Lexeme) → declared_tail_at named inner file rest >>= low_tail inner count ≡ Some t
+    → declarator_behind named inner file count (at, rest) ≡ with_tail named inner count at t
+behind_tail named inner file count at rest t h = ap (λ (o : Found TailTree). o >>= with_tail named inner count at) (tail_is inner count (declared_tail_at named inner file rest) t h)
+
+pub initial_fails : (e : Parse) (named : Span → Bool) (inner : ℕ) (file : Bool) (count : ℕ) (at : Span) (rest : List Lexeme) (t : TailTree) (more : List Lexeme) → declared_tail_at named inner file rest >>= low_tail inner count ≡ Some (t, more) → Fails e (initial_at named inner more)
     → Fails e (declarator_behind named inner file count (at, rest))
 initial_fails e named inner file count at rest t more tail h =
     Fails_along e _ _ (sym (behind_tail named inner file count at rest (t, more) tail)) (Fails_behind e (initial_at named inner more) (with_initial inner count at t) h)
 
-behind_initial : (named : Span → Bool) (inner : ℕ) (file : Bool) (count : ℕ) (at : Span) (rest : List Lexeme) (t : TailTree) (more : List Lexeme) (i : MaybeInitTree × List Lexeme) → declared_tail_at named inner file rest ≡ Some (t, more) → initial_at named inner more ≡ Some i
-    → declarator_behind named inner file count (at, rest) ≡ with_initial inner count at t i
-behind_initial named inner file count at rest t more i tail init =
-    behind_tail named inner file count at rest (t, more) tail ∙ ap (λ (o : Found MaybeInitTree). o >>= with_initial inner count at t) init
-
-pub declarator_high : (named : Span → Bool) (inner : ℕ) (file : Bool) (count : ℕ) (at : Span) (rest : List Lexeme) (t : TailTree) (more : List Lexeme) (i : MaybeInitTree) (end : List Lexeme) (nesting : ℕ)
-    → declared_tail_at named inner file rest ≡ Some (t, more) → initial_at named inner more ≡ Some (i, end) → nesting ≡ tail_nesting t → inner < nesting + count
-    → declarator_behind named inner file count (at, rest) ≡ None
-declarator_high named inner file count at rest t more i end nesting tail init high over =
-    let more_than : suc inner < declarator_nesting (s.declarator no_node count (Some at) t i) = omega arith in
-    behind_initial named inner file count at rest t more (i, end) tail init ∙ rw (lt-leb (declarator_nesting (s.declarator no_node count (Some at) t i)) (suc inner) more_than) refl
-
-pub declarator_low : (named : Span → Bool) (inner : ℕ) (file : Bool) (count : ℕ) (at : Span) (rest : List Lexeme) (t : TailTree) (more : List Lexeme) (i : MaybeInitTree) (end : List Lexeme) (nesting : ℕ)
-    → declared_tail_at named inner file rest ≡ Some (t, more) → initial_at named inner more ≡ Some (i, end) → nesting ≡ tail_nesting t → nesting + count ≤ inner → maybe_initialiser_nesting i ≤ inner
+pub declarator_low : (named : Span → Bool) (inner : ℕ) (file : Bool) (count : ℕ) (at : Span) (rest : List Lexeme) (t : TailTree) (more : List Lexeme) (i : MaybeInitTree) (end : List Lexeme)
+    → declared_tail_at named inner file rest >>= low_tail inner count ≡ Some (t, more) → initial_at named inner more ≡ Some (i, end) → tail_nesting t + count ≤ inner → maybe_initialiser_nesting i ≤ inner
     → declarator_behind named inner file count (at, rest) ≡ Some (s.declarator no_node count (Some at) t i, end)
-declarator_low named inner file count at rest t more i end nesting tail init high low low_init =
+declarator_low named inner file count at rest t more i end tail init low low_init =
     let within : declarator_nesting (s.declarator no_node count (Some at) t i) ≤ suc inner = omega arith in
-    behind_initial named inner file count at rest t more (i, end) tail init ∙ rw (le-leb (declarator_nesting (s.declarator no_node count (Some at) t i)) (suc inner) within) refl
+    behind_tail named inner file count at rest (t, more) tail
+    ∙ ap (λ (o : Found MaybeInitTree). o >>= with_initial inner count at t) init
+    ∙ rw (le-leb (declarator_nesting (s.declarator no_node count (Some at) t i)) (suc inner) within) refl
 
 -- ---- a base
 

@@ -1,4 +1,5 @@
 pub mod Given
 pub mod Places
 pub mod Rows
+pub mod Tails
 pub mod Turns

@@ -1,12 +1,13 @@
 //! Declarators (C11 6.7.6), and declarators with a comma between each two.
 
-ghost use Rattle.std.specs.Prelude.{◌≡◌, ◌+◌, ◌≤◌, IfOk, length, map};
+ghost use Rattle.std.specs.Prelude.{◌≡◌, ◌+◌, ◌^◌, ◌<◌, ◌≤◌, IfOk, length, map};
 ghost use Rattle.stk_tree.specs.Nesting.{tail_nesting, most_nesting};
 ghost use Rattle.stk_tree.specs.View.{declarators, view_declarator, view_tail};
 ghost use Rattle.stk_decl_grammar.specs.Reading.{declarator_at, declarators_at, declared_tail_at, function_declarator_at};
 ghost use Rattle.stk_ctype.specs.Named.{named};
 ghost use Rattle.stk_expr.specs.Gives.{Gives};
 ghost use Rattle.stk_decl.specs.Places.{declarator_in};
+ghost use Rattle.stk_decl.specs.Tails.{low_tail_at};
 
 use crate::arrays::{array_declarator, array_parts};
 use crate::build;
@@ -19,7 +20,7 @@ use stk_base::List;
 use stk_ctype::Names;
 use stk_expr::Parse;
 use stk_grammar::{behind_left_paren, stars_at};
-use stk_tree::{Declr, Lexeme};
+use stk_tree::{Declr, Lexeme, Tail};
 
 /// Where declarators stand.
 #[derive(Clone, Copy, Debug, PartialEq, Eq)]
@@ -59,6 +60,28 @@ fn declared_tail<'a>(
     })
 }
 
+/// What follows the name of a declarator that has so many stars, of at most the nesting `room` together with them.
+fn low_tail<'a>(
+    alloc: Global,
+    bytes: &[u8],
+    names: &Names,
+    room: usize,
+    file: bool,
+    stars: usize,
+    lexemes: &'a [Lexeme],
+) -> Result<(Tail, &'a [Lexeme]), Parse>
+    requires room { room ≤ most_nesting }
+    requires few { stars < 2 ^ 62 }
+    ensures value { Gives (λ x. (view_tail x.0, x.1.now)) result (low_tail_at (named bytes.now names.now) room file stars lexemes.now) }
+    ensures low { IfOk result (λ x. tail_nesting (view_tail x.0) + stars ≤ room) }
+{
+    let found = declared_tail(alloc, bytes, names, room, file, lexemes)?;
+    if found.nesting + stars > room {
+        return Err(Parse::NoTree);
+    }
+    Ok((found.tail, found.rest))
+}
+
 /// A declarator with its initialiser, of at most the nesting `room`.
 #[tactic(auto, unfolding(stk_decl_grammar::specs::Reading::declarator_at))]
 fn declarator<'a>(
@@ -80,12 +103,9 @@ fn declarator<'a>(
     let Some((name, rest)) = name_at(bytes, names, rest) else {
         return Err(Parse::NoTree);
     };
-    let found = declared_tail(alloc, bytes, names, inner, file, rest)?;
-    let (init, rest) = initial(alloc, bytes, names, inner, found.rest)?;
-    if found.nesting + stars > inner {
-        return Err(Parse::NoTree);
-    }
-    let declr = build::declarator(stars as u32, Some(name), found.tail, init);
+    let (tail, rest) = low_tail(alloc, bytes, names, inner, file, stars, rest)?;
+    let (init, rest) = initial(alloc, bytes, names, inner, rest)?;
+    let declr = build::declarator(stars as u32, Some(name), tail, init);
     Ok((declr, rest))
 }
 
