@@ -48,7 +48,7 @@ fn label<'a>(
     Ok((Label::Default, rest))
 }
 
-/// Labels in a row, one or more. Each turn takes a token, so there are no more turns than tokens.
+/// Labels in a row, one or more. The bound is for the prover: each turn takes a token, so there are no more turns than tokens.
 pub fn labels<'a>(
     alloc: Global,
     bytes: &[u8],

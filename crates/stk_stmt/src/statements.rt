@@ -102,7 +102,7 @@ fn part<'a>(
     Ok((build::run(found), rest))
 }
 
-/// Parts up to the `}`, and it. Each turn takes a token, so there are no more turns than tokens.
+/// Parts up to the `}`, and it. The bound is for the prover: each turn takes a token, so there are no more turns than tokens.
 #[cycle(statement)]
 fn parts<'a>(
     alloc: Global,
@@ -283,7 +283,7 @@ fn switch_statement<'a>(
     Ok((build::made(alloc, build::switch(value, list))?, rest))
 }
 
-/// Sections up to the `}`, and it. Each turn takes a token, so there are no more turns than tokens.
+/// Sections up to the `}`, and it. The bound is for the prover: each turn takes a token, so there are no more turns than tokens.
 #[cycle(statement)]
 fn sections<'a>(
     alloc: Global,
@@ -343,7 +343,8 @@ fn section_of<'a>(
     Ok((build::section(marks, body), rest))
 }
 
-/// The statements of a section, up to a label or the `}`. Each turn takes a token, so there are no more turns than tokens.
+/// The statements of a section, up to a label or the `}`. The bound is for the prover: each turn takes a token, so there are no
+/// more turns than tokens.
 #[cycle(statement)]
 fn section_body<'a>(
     alloc: Global,

@@ -29,14 +29,14 @@ fn lone(list: List<Declr>) -> Option<Declr>
 }
 
 /// A function with this front and this body, where the front has one declarator.
-fn function(alloc: Global, head: Declaration, body: Boxed<Stmt>) -> Result<Boxed<Unit>, Parse>
-    ensures { Gives (λ x. view_unit x) result (function_of (view_declaration head) (view_statement body)) }
+fn function(alloc: Global, front: Declaration, body: Boxed<Stmt>) -> Result<Boxed<Unit>, Parse>
+    ensures { Gives (λ x. view_unit x) result (function_of (view_declaration front) (view_statement body)) }
 {
     let Declaration {
         storage,
         base,
         list,
-    } = head;
+    } = front;
     let Some(declr) = lone(list) else {
         return Err(Parse::NoTree);
     };
@@ -48,14 +48,14 @@ fn definition(
     alloc: Global,
     bytes: &[u8],
     names: &Names,
-    head: Declaration,
+    front: Declaration,
     lexemes: &[Lexeme],
 ) -> Result<Boxed<Unit>, Parse>
-    ensures { Gives (λ x. view_unit x) result (definition_at (named bytes.now names.now) (most_nesting - 1) (view_declaration head) lexemes.now) }
+    ensures { Gives (λ x. view_unit x) result (definition_at (named bytes.now names.now) (most_nesting - 1) (view_declaration front) lexemes.now) }
 {
     let (body, rest) = statement(alloc, bytes, names, MOST_NESTING - 1, lexemes)?;
     if rest.is_empty() {
-        function(alloc, head, body)
+        function(alloc, front, body)
     } else {
         Err(Parse::NoTree)
     }
@@ -92,7 +92,7 @@ pub fn unit_of(
         return Ok(build::empty_unit(alloc)?);
     }
     match front(alloc, bytes, names, MOST_NESTING - 1, lexemes) {
-        Ok(head) => definition(alloc, bytes, names, head.tree, head.rest),
+        Ok(front) => definition(alloc, bytes, names, front.tree, front.rest),
         Err(Parse::NoTree) => declaration_unit(alloc, bytes, names, lexemes),
         Err(Parse::NoMemory) => Err(Parse::NoMemory),
     }
