@@ -1,3 +1,4 @@
+pub mod Finished
 pub mod Loops
 pub mod Sections
 pub mod Units

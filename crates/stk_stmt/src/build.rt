@@ -7,26 +7,30 @@ ghost use Rattle.std.specs.Prelude.{◌≡◌, IfOk, map};
 ghost use Rattle.stk_tree.specs.Syntax as s;
 ghost use Rattle.stk_tree.specs.View.{given_expression, labels, parts, sections, statements, view_base, view_declaration, view_declarator, view_expression, view_label, view_part, view_section, view_start, view_statement, view_statement_form, view_unit};
 ghost use Rattle.stk_tree.specs.Unlaid.{no_node};
-ghost use Rattle.stk_stmt_grammar.specs.Reading.{made_statement};
+ghost use Rattle.stk_expr.specs.Gives.{Gives};
+ghost use Rattle.stk_stmt.specs.Finished.{finished_at};
 
 use std::alloc::{AllocError, Global};
 use stk_base::{Boxed, List, Span};
+use stk_expr::Parse;
 use stk_tree::{
-    Base, Declaration, Declr, Expr, Function, Label, Part, Section, Start, Stmt, StmtForm, Storage,
-    Unit, no_node,
+    Base, Declaration, Declr, Expr, Function, Label, Lexeme, Part, Section, Start, Stmt, StmtForm,
+    Storage, Unit, no_node,
 };
 
-/// A statement of this form.
-pub fn made(alloc: Global, form: StmtForm) -> Result<Boxed<Stmt>, AllocError>
-    ensures { IfOk result (λ x. view_statement x ≡ made_statement (view_statement_form form)) }
+/// What a reader of statements answers: a statement of this form, and the tokens behind it.
+pub fn finished(
+    alloc: Global,
+    form: StmtForm,
+    rest: &[Lexeme],
+) -> Result<(Boxed<Stmt>, &[Lexeme]), Parse>
+    ensures { Gives (λ x. (view_statement x.0, x.1.now)) result (finished_at (view_statement_form form) rest.now) }
 {
-    Boxed::new(
-        alloc,
-        Stmt {
-            node: no_node(),
-            form,
-        },
-    )
+    let statement = Stmt {
+        node: no_node(),
+        form,
+    };
+    Ok((Boxed::new(alloc, statement)?, rest))
 }
 
 /// An expression out of its box, where there is one.

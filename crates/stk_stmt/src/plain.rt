@@ -80,7 +80,7 @@ pub fn break_statement(alloc: Global, lexemes: &[Lexeme]) -> Result<(Boxed<Stmt>
     let Some(rest) = behind_semicolon(lexemes) else {
         return Err(Parse::NoTree);
     };
-    Ok((build::made(alloc, build::break_form())?, rest))
+    build::finished(alloc, build::break_form(), rest)
 }
 
 /// Behind a `continue`.
@@ -93,7 +93,7 @@ pub fn continue_statement(
     let Some(rest) = behind_semicolon(lexemes) else {
         return Err(Parse::NoTree);
     };
-    Ok((build::made(alloc, build::continue_form())?, rest))
+    build::finished(alloc, build::continue_form(), rest)
 }
 
 /// Behind a `return`.
@@ -109,7 +109,7 @@ pub fn return_statement<'a>(
     ensures { Gives (λ x. (view_statement x.0, x.1.now)) result (return_at (named bytes.now names.now) room lexemes.now) }
 {
     let (value, rest) = ended(alloc, bytes, names, room, lexemes)?;
-    Ok((build::made(alloc, build::return_form(value))?, rest))
+    build::finished(alloc, build::return_form(value), rest)
 }
 
 /// An expression statement, or a lone `;`.
@@ -125,7 +125,7 @@ pub fn plain_statement<'a>(
     ensures { Gives (λ x. (view_statement x.0, x.1.now)) result (plain_at (named bytes.now names.now) room lexemes.now) }
 {
     let (value, rest) = ended(alloc, bytes, names, room, lexemes)?;
-    Ok((build::made(alloc, build::plain(value))?, rest))
+    build::finished(alloc, build::plain(value), rest)
 }
 
 /// Behind the body of a `do`.
@@ -147,5 +147,5 @@ pub fn do_test<'a>(
     let Some(rest) = behind_semicolon(rest) else {
         return Err(Parse::NoTree);
     };
-    Ok((build::made(alloc, build::do_loop(body, test))?, rest))
+    build::finished(alloc, build::do_loop(body, test), rest)
 }

@@ -141,7 +141,7 @@ fn block<'a>(
     ensures { Gives (λ x. (view_statement x.0, x.1.now)) result (block_at (named bytes.now names.now) inner (statement_at (named bytes.now names.now) inner) lexemes.now) }
 {
     let (list, rest) = parts(alloc, bytes, names, inner, lexemes)?;
-    Ok((build::made(alloc, build::block(list))?, rest))
+    build::finished(alloc, build::block(list), rest)
 }
 
 /// What follows the first statement of an `if`: an `else` is taken by the nearest `if` (C11 6.8.4.1).
@@ -159,10 +159,10 @@ fn if_rest<'a>(
     ensures { Gives (λ x. (view_statement x.0, x.1.now)) result (else_on (statement_at (named bytes.now names.now) inner) (view_expression test) (view_statement then) (behind_else lexemes.now) lexemes.now) }
 {
     let Some(inside) = behind_else(lexemes) else {
-        return Ok((build::made(alloc, build::lone_if(test, then))?, lexemes));
+        return build::finished(alloc, build::lone_if(test, then), lexemes);
     };
     let (other, rest) = statement(alloc, bytes, names, inner, inside)?;
-    Ok((build::made(alloc, build::if_else(test, then, other))?, rest))
+    build::finished(alloc, build::if_else(test, then, other), rest)
 }
 
 /// Behind an `if`.
@@ -198,7 +198,7 @@ fn while_statement<'a>(
 {
     let (test, rest) = condition(alloc, bytes, names, inner, lexemes)?;
     let (body, rest) = statement(alloc, bytes, names, inner, rest)?;
-    Ok((build::made(alloc, build::while_loop(test, body))?, rest))
+    build::finished(alloc, build::while_loop(test, body), rest)
 }
 
 /// Behind a `do`.
@@ -259,7 +259,7 @@ fn for_statement<'a>(
     let (first, rest) = start(alloc, bytes, names, inner, inside)?;
     let found = for_parts(alloc, bytes, names, inner, rest)?;
     let form = build::for_loop(first, found.test, found.step, found.body);
-    Ok((build::made(alloc, form)?, found.rest))
+    build::finished(alloc, form, found.rest)
 }
 
 /// Behind a `switch`.
@@ -280,7 +280,7 @@ fn switch_statement<'a>(
         return Err(Parse::NoTree);
     };
     let (list, rest) = sections(alloc, bytes, names, inner, inside)?;
-    Ok((build::made(alloc, build::switch(value, list))?, rest))
+    build::finished(alloc, build::switch(value, list), rest)
 }
 
 /// Sections up to the `}`, and it. The bound is for the prover: each turn takes a token, so there are no more turns than tokens.
