@@ -35,8 +35,8 @@ pub fn first_opener(lexemes: &[Lexeme]) -> Option<(Opener, &[Lexeme])>
     ensures { option_map (λ x. (x.0, x.1.now)) result ≡ first_opener lexemes.now }
 {
     let (lexeme, rest) = lexemes.split_first()?;
-    let head = opener_of(*lexeme)?;
-    Some((head, rest))
+    let opener = opener_of(*lexeme)?;
+    Some((opener, rest))
 }
 
 /// The suffix that an operand of this level takes, where an expression of the level `least` is wanted.

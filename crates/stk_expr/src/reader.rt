@@ -69,10 +69,10 @@ pub fn expression<'a>(
         return Err(Parse::NoTree);
     }
     let inner = room - 1;
-    let Some((head, rest)) = first_opener(lexemes) else {
+    let Some((opener, rest)) = first_opener(lexemes) else {
         return Err(Parse::NoTree);
     };
-    let found = operand(alloc, bytes, names, inner, least, head, rest)?;
+    let found = operand(alloc, bytes, names, inner, least, opener, rest)?;
     climb(alloc, bytes, names, inner, least, found)
 }
 
@@ -85,14 +85,14 @@ fn operand<'a>(
     names: &Names,
     inner: usize,
     least: usize,
-    head: Opener,
+    opener: Opener,
     lexemes: &'a [Lexeme],
 ) -> Result<Found<'a>, Parse>
     requires { inner < most_nesting }
-    ensures value { Gives (λ x. (view_expression x.tree, x.rest.now)) result (operand_at (named bytes.now names.now) (expression_at (named bytes.now names.now) inner) inner least head lexemes.now) }
+    ensures value { Gives (λ x. (view_expression x.tree, x.rest.now)) result (operand_at (named bytes.now names.now) (expression_at (named bytes.now names.now) inner) inner least opener lexemes.now) }
     ensures nesting { IfOk result (λ x. IsRead (inner + 1) (view_expression x.tree) x.nesting x.level) }
 {
-    match head {
+    match opener {
         Opener::Name(at) => leaves::name(alloc, bytes, names, at, lexemes),
         Opener::Number(at) => leaves::number(alloc, at, lexemes),
         Opener::Character(at) => leaves::character(alloc, at, lexemes),
