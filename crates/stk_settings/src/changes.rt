@@ -488,14 +488,14 @@ fn note_register(change: Change, out: &mut Vec<u32>) -> Result<(), NoMemory>
 }
 
 // The registers among changes.
-fn registers_changed(alloc: Global, list: &[Change]) -> Result<NodeSet, NoMemory>
-    ensures { IfOk result (λ set. set ≡ registers_changed list.now) }
+fn registers_changed(alloc: Global, list: &[Change]) -> Result<Vec<u32>, NoMemory>
+    ensures { IfOk result (λ out. out.items ≡ registers_changed list.now) }
 {
     let mut out = Vec::new(alloc);
     for change in list {
         note_register(*change, &mut out)?;
     }
-    NodeSet::of(alloc, out)
+    Ok(out)
 }
 
 // Those of some numbers that are in a set, in order.
@@ -512,14 +512,25 @@ fn those_in(alloc: Global, list: &[u32], set: &NodeSet) -> Result<Vec<u32>, NoMe
     Ok(out)
 }
 
+// Those of some numbers that are among others, in order. Where there are no others, it looks at none.
+fn those_among(alloc: Global, list: &[u32], others: Vec<u32>) -> Result<Vec<u32>, NoMemory>
+    ensures { IfOk result (λ out. out.items ≡ filter (λ k. is_listed k others.items) list.now) }
+{
+    if others.is_empty() {
+        return Ok(Vec::new(alloc));
+    }
+    let set = NodeSet::of(alloc, others)?;
+    those_in(alloc, list, &set)
+}
+
 /// The registers that each turn of a loop may assign, in the order of their declarators, without those that its own blocks
 /// declare; none of another statement.
 pub fn assigned(alloc: Global, setting: &Setting, f: &StmtForm) -> Result<Vec<u32>, NoMemory>
     ensures { IfOk result (λ out. out.items ≡ assigned_in (setting_in setting.now) (view_statement_form f.now)) }
 {
     let list = turn_changes(alloc, setting, f)?;
-    let set = registers_changed(alloc, list.as_slice())?;
-    those_in(alloc, setting.registers(), &set)
+    let changed = registers_changed(alloc, list.as_slice())?;
+    those_among(alloc, setting.registers(), changed)
 }
 
 // Whether a change may be of the kept object at a position.

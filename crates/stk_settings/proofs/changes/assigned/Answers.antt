@@ -9,4 +9,4 @@ use Rattle.stk_settings.proofs.changes.assigned.Goals as goal
 
 pub returns : goal.returns
 returns c =
-    subst (λ (xs : List ℕ). IfOk c.those_in.result (λ out. out.items ≡ xs)) (assigned_from (setting_in c.args.setting.now) (turn_visits (typing_in c.args.setting.now.types) (view_statement_form c.args.f.now)) _ _ _ c.in_ok-set.ensures (c.as_slice.ensures.value ∙ c.in_ok-list.ensures) c.registers.ensures) c.those_in.ensures
+    subst (λ (xs : List ℕ). IfOk c.those_among.result (λ out. out.items ≡ xs)) (assigned_from (setting_in c.args.setting.now) (turn_visits (typing_in c.args.setting.now.types) (view_statement_form c.args.f.now)) _ _ _ c.in_ok-changed.ensures (c.as_slice.ensures.value ∙ c.in_ok-list.ensures) c.registers.ensures) c.those_among.ensures
