@@ -308,9 +308,9 @@ fn statement_form_changes(
 {
     match f {
         StmtForm::Block(list) => {
-            let own = parts_declare(alloc, list.as_slice())?;
             let mut inner = Vec::new(alloc);
             parts_changes(list.as_slice(), alloc, setting, &mut inner)?;
+            let own = parts_declare(alloc, list.as_slice())?;
             outer_changes(&own, inner.as_slice(), out)
         }
         StmtForm::Plain(e) | StmtForm::Return(e) => {
@@ -334,12 +334,12 @@ fn statement_form_changes(
             expression_changes(alloc, setting, e, Role::as_test(), out)
         }
         StmtForm::For(first, test, step, x) => {
-            let own = start_declares(alloc, first)?;
             let mut inner = Vec::new(alloc);
             start_changes(alloc, setting, first, &mut inner)?;
             maybe_changes(alloc, setting, test, Role::as_test(), &mut inner)?;
             maybe_changes(alloc, setting, step, Role::reading(), &mut inner)?;
             statement_changes(x.get(), alloc, setting, &mut inner)?;
+            let own = start_declares(alloc, first)?;
             outer_changes(&own, inner.as_slice(), out)
         }
         StmtForm::Break | StmtForm::Continue => Ok(()),
