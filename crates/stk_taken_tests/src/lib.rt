@@ -1,6 +1,6 @@
-//! Tests of the names that are operands of `&`, over texts of functions.
+//! Tests of the names that are operands of `&`, of `static` objects, and of sets of nodes, over texts of functions.
 #![tactic(auto)]
 
-mod taken;
+mod noted;
 #[cfg(test)]
 mod tests;
