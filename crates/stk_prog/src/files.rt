@@ -39,6 +39,40 @@ fn each_file_has_its_records(rt: HostRuntime) -> Result<(), Fail> {
     Ok(())
 }
 
+/// Functions of 16 input bits: with a `switch` whose sections fall through, with a call that doesn't return, and with eight loads of `_Bool`. Their records
+/// were worked out by hand.
+static WIDE: [(&str, &str); 3] = [
+    (
+        "int f(unsigned char x, unsigned char y) { int q = 0; switch (x) { case 0: q = 1 / y; case 300: if (y == 0) return 1; } return q; }",
+        "-:1:100: unstable: always false in f\n  hit: x=0 y=0\n  needs division by zero at -:1:79; without it: x=0 y=0\n-:1:108: unstable: never entered in f\n  hit: x=0 y=0\n  needs division by zero at -:1:79; without it: x=0 y=0\n1 functions, 5 candidates, 2 unstable, 0 undecided, 0 skipped\n",
+    ),
+    (
+        "extern void die(int) __attribute__((noreturn)); int f(unsigned char x, unsigned char y) { if (x == 0) die(y); int q = 7 / x; if (x == 0) return 1; int r = 7 / y; if (y == 0) return 2; return q + r; }",
+        "-:1:167: unstable: always false in f\n  hit: x=1 y=0\n  needs division by zero at -:1:156; without it: x=1 y=0\n-:1:175: unstable: never entered in f\n  hit: x=1 y=0\n  needs division by zero at -:1:156; without it: x=1 y=0\n1 functions, 9 candidates, 2 unstable, 0 undecided, 0 skipped\n",
+    ),
+    (
+        "struct S { unsigned char c; _Bool b; }; int f(unsigned char x) { struct S *s = (struct S *)16; int n = s->b + s->b + s->b + s->b + s->b + s->b + s->b + s->b; int q = x / n; if (n == 0) return 1; return q; }",
+        "-:1:178: unstable: always false in f\n  hit: x=0 load@1:104=0 load@1:111=0 load@1:118=0 load@1:125=0 load@1:132=0 load@1:139=0 load@1:146=0 load@1:153=0\n  needs division by zero at -:1:167; without it: x=0 load@1:104=0 load@1:111=0 load@1:118=0 load@1:125=0 load@1:132=0 load@1:139=0 load@1:146=0 load@1:153=0\n-:1:186: unstable: never entered in f\n  hit: x=0 load@1:104=0 load@1:111=0 load@1:118=0 load@1:125=0 load@1:132=0 load@1:139=0 load@1:146=0 load@1:153=0\n  needs division by zero at -:1:167; without it: x=0 load@1:104=0 load@1:111=0 load@1:118=0 load@1:125=0 load@1:132=0 load@1:139=0 load@1:146=0 load@1:153=0\n1 functions, 3 candidates, 2 unstable, 0 undecided, 0 skipped\n",
+    ),
+];
+
+#[test]
+fn each_function_of_16_bits_has_its_records(rt: HostRuntime) -> Result<(), Fail> {
+    for &(input, records) in &WIDE {
+        let status = Status::Found;
+        check(
+            rt.alloc(),
+            &rt,
+            &CALM,
+            input.as_bytes(),
+            status,
+            records.as_bytes(),
+            b"",
+        )?;
+    }
+    Ok(())
+}
+
 /// A file of so many functions.
 fn of_functions(alloc: Global, count: usize) -> Result<Vec<u8>, Fail> {
     let mut input = Vec::new(alloc);

@@ -48,6 +48,76 @@ fn a_function_has_at_most_20000_nodes(rt: HostRuntime) -> Result<(), Fail> {
     check(rt.alloc(), &rt, &CALM, many.as_slice(), status, nodes, b"")
 }
 
+/// A function of so many quotients of 64 bits, and so many empty statements.
+fn of_quotients(alloc: Global, quotients: usize, empty: usize) -> Result<Vec<u8>, Fail> {
+    let front = b"int f(unsigned char x) { unsigned long z = x; ";
+    let mut input = Vec::from_slice(alloc, front)?;
+    for _ in 0..quotients {
+        input.extend_from_slice(b"z = z / (z ^ 1u); ")?;
+    }
+    for _ in 0..empty {
+        input.push(b';')?;
+    }
+    input.extend_from_slice(b"return 0; }")?;
+    Ok(input)
+}
+
+// A quotient's statement has 9 nodes, each of which weighs 128, and 2048 for `^`, 132096 for `/` and 2048 for `=`; the rest has 12
+// nodes and 2048 for the initialiser. So 58 quotients weigh 7969536, and 238 empty statements with them 8000000.
+#[test]
+fn a_function_weighs_at_most_8000000(rt: HostRuntime) -> Result<(), Fail> {
+    let judged = b"1 functions, 0 candidates, 0 unstable, 0 undecided, 0 skipped\n";
+    let fits = of_quotients(rt.alloc(), 58, 238)?;
+    let status = Status::Stable;
+    check(rt.alloc(), &rt, &CALM, fits.as_slice(), status, judged, b"")?;
+    let weighs =
+        b"-:1:1: skipped: weight 8000128\n0 functions, 0 candidates, 0 unstable, 0 undecided, 1 skipped\n";
+    let heavy = of_quotients(rt.alloc(), 58, 239)?;
+    check(
+        rt.alloc(),
+        &rt,
+        &CALM,
+        heavy.as_slice(),
+        status,
+        weighs,
+        b"",
+    )
+}
+
+/// A function whose value stands in so many parentheses.
+fn of_parentheses(alloc: Global, count: usize) -> Result<Vec<u8>, Fail> {
+    let mut input = Vec::from_slice(alloc, b"int f(unsigned char x) { return ")?;
+    for _ in 0..count {
+        input.push(b'(')?;
+    }
+    input.push(b'x')?;
+    for _ in 0..count {
+        input.push(b')')?;
+    }
+    input.extend_from_slice(b"; }")?;
+    Ok(input)
+}
+
+#[test]
+fn a_unit_nests_at_most_400_deep(rt: HostRuntime) -> Result<(), Fail> {
+    let judged = b"1 functions, 0 candidates, 0 unstable, 0 undecided, 0 skipped\n";
+    let fits = of_parentheses(rt.alloc(), 396)?;
+    let status = Status::Stable;
+    check(rt.alloc(), &rt, &CALM, fits.as_slice(), status, judged, b"")?;
+    let skipped =
+        b"-:1:1: skipped: no tree\n0 functions, 0 candidates, 0 unstable, 0 undecided, 1 skipped\n";
+    let deep = of_parentheses(rt.alloc(), 397)?;
+    check(
+        rt.alloc(),
+        &rt,
+        &CALM,
+        deep.as_slice(),
+        status,
+        skipped,
+        b"",
+    )
+}
+
 #[test]
 fn any_bytes_are_answered(rt: HostRuntime) -> Result<(), Fail> {
     let skipped =
