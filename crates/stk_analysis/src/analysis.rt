@@ -95,6 +95,7 @@ fn refuted(
     ensures by_hints { IfOk result (λ d. IsByHints marks.old.vars store.now d.clause d.hints) }
     ensures empty { IfOk result (λ d. d.clause ≡ []) }
 {
+    // For the prover: the trail keeps its facts.
     let _ = trail.assigned();
     marks.begin(trail, store, 0, conflict)?;
     marks.to_start(trail, store)?;

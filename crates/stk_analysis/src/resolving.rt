@@ -206,6 +206,7 @@ impl Marks {
         ensures guided { OnOk result (Guided store.now trail.now.assigned.literals 0 self.new.marked.items self.new.hints.items) }
         ensures point { OnOk result (IsPoint trail.now.assigned.literals low point self.new.marked.items) }
     {
+        // For the prover: the trail keeps its facts.
         let _ = trail.assigned();
         let mut bound = low;
         for place in places {

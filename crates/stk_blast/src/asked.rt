@@ -64,6 +64,7 @@ fn bound_where(terms: &Terms, id: TermId, marked: bool) -> u32
     if !marked {
         return 0;
     }
+    // For the prover: the terms keep their facts.
     let _ = terms.count();
     let args = terms.args(id);
     bound_by(
@@ -78,6 +79,7 @@ pub fn has_room(terms: &Terms, id: TermId, gates: &Gates) -> Result<bool, NoMemo
     requires { id.0 < length terms.now.terms }
     ensures { IfOk result (λ b. IsTrue b ↔ HasRoom gates.now (cost terms.now id.0)) }
 {
+    // For the prover: the terms keep their facts.
     let _ = terms.count();
     let parts = terms.parts(id)?;
     let marks = parts.as_slice();

@@ -46,6 +46,7 @@ fn row_of(
     ensures extends { Extends gates.old gates.new }
     ensures adds { AddsWithin gates.old gates.new (bound_at terms.now id.0) }
 {
+    // For the prover: the gates keep their facts.
     let _ = gates.count();
     let _ = terms.count();
     let args = terms.args(id);
@@ -99,6 +100,7 @@ pub fn blast(
     ensures extends { Extends gates.old gates.new }
     ensures adds { AddsWithin gates.old gates.new (cost terms.now id.0) }
 {
+    // For the prover: the terms keep their facts.
     let _ = terms.count();
     let parts = terms.parts(id)?;
     let marks = parts.as_slice();

@@ -60,6 +60,7 @@ fn put_and(
     requires room { length store.old < 2 ^ 31 - 3 }
     ensures { OnOk result (IsGrown vars 3 store.old store.new (λ v. tied_by (named names.now v) gate (slice_get gates.now.pairs (gate - (1 + gates.now.inputs))))) }
 {
+    // For the prover: the gates keep their facts.
     let _ = gates.count();
     match gates.operands(gate) {
         None => Ok(()),
@@ -108,6 +109,7 @@ pub fn clauses_of(alloc: Global, gates: &Gates, goal: Edge) -> Result<Cnf, NoMem
     ensures none { IfOk result (λ cnf. goal.0 ≡ 1 → cnf.store ≡ []) }
     ensures empty { IfOk result (λ cnf. goal.0 ≡ 0 → cnf.store ≡ [] ∷ []) }
 {
+    // For the prover: the gates keep their facts.
     let _ = gates.count();
     let marks = depending(alloc, gates, goal)?;
     let Numbering { names, ands, vars } = numbered(alloc, gates, &marks)?;

@@ -8,11 +8,13 @@ use stk_base::NoMemory;
 use stk_gates::{Edge, Gates};
 
 /// Marks the two operands of a gate that is marked, if it is an AND gate.
+/// The contract alone reads `_goal`.
 fn mark_operands(gates: &Gates, marks: &mut [bool], gate: u32, _goal: Edge)
     requires exists { gate < gate_count gates.now }
     requires marked { AreMarked gates.now _goal marks.old (gate + 1) }
     ensures { AreMarked gates.now _goal marks.new gate }
 {
+    // For the prover: the gates keep their facts.
     let _ = gates.count();
     if !marks[gate as usize] {
         return;

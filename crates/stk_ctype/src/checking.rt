@@ -42,6 +42,7 @@ fn has_elements(names: &Names, element: &CType, count: Option<u64>) -> bool
 fn is_declared(names: &Names, id: u32) -> bool
     ensures { IsTrue result → IsSound (structs_of names.now) (struct_type id) }
 {
+    // For the prover: the names keep their facts.
     let _ = &names.facts;
     if id >= names.structs() {
         return false;

@@ -91,6 +91,7 @@ impl Names {
         requires { IsSound (structs_of self.now) (type_of ty.now) }
         ensures { result ≡ size_of (structs_of self.now) (type_of ty.now) }
     {
+        // For the prover: the types keep their facts.
         let _ = &self.facts;
         let Some(count) = count_in(ty) else {
             return None;
@@ -121,6 +122,7 @@ impl Names {
         requires { AreMembers (structs_of self.now) members.now }
         ensures { result ≡ layout_of (structs_of self.now) members.now }
     {
+        // For the prover: the types keep their facts.
         let _ = &self.facts;
         let mut behind = 0;
         let mut alignment = 1;

@@ -176,6 +176,7 @@ impl Gates {
         requires edge { IsEdge self.now edge }
         ensures { IfOk result (λ b. (gates : ℕ → Bool) → Obeys self.now gates → HasInputs self.now gates inputs.now.bits → b ≡ edge_value gates edge) }
     {
+        // For the prover: the gates keep their facts.
         let _ = self.count();
         let mut values = Vec::new(*self.pairs.allocator());
         values.push(false)?;

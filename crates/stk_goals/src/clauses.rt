@@ -66,6 +66,7 @@ pub fn clauses_for(alloc: Global, terms: &Terms, goal: TermId) -> Result<Cnf, No
 {
     let mut gates = Gates::new(alloc, bits_in(terms.widths()));
     let row = blast(alloc, terms, goal, &mut gates)?;
+    // For the prover: the gates keep their facts.
     let _ = gates.count();
     let edge = only(row.as_slice());
     let cnf = clauses_of(alloc, &gates, edge)?;

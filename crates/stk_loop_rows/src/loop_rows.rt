@@ -104,6 +104,7 @@ fn loop_row(
 ) -> Result<LoopRow, NoMemory>
     ensures { (keys : List runs.KeyInfo) → IsKeyIndex index.now keys → IfOk result (λ row. IsRowOf (setting_in setting.now) keys node (view_statement_form f.now) row) }
 {
+    // For the prover: the setting keeps its facts.
     let _ = setting.kept();
     let list = assigned(alloc, setting, f)?;
     let registers = loop_slots(alloc, index, node, list.as_slice())?;

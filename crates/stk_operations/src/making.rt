@@ -17,6 +17,7 @@ pub fn one(terms: &mut Terms, op: TermOp, width: u8, a: TermId) -> Result<TermId
     ensures value { IfOk result (λ v. (numbers : ℕ → ℕ) → (o : Obeys terms.new numbers) → numbers v.0 ≡ number_by o.residues op width 0 (numbers a.0) 0 0) }
     ensures grown { Grown terms.old terms.new (bound op width 0) }
 {
+    // For the prover: the terms keep their facts.
     let _count = terms.count();
     let v = terms.make(op, &[a])?;
     Ok(v)
@@ -38,6 +39,7 @@ pub fn two(
     ensures value { IfOk result (λ v. (numbers : ℕ → ℕ) → (o : Obeys terms.new numbers) → numbers v.0 ≡ number_by o.residues op widths.0 widths.1 (numbers a.0) (numbers b.0) 0) }
     ensures grown { Grown terms.old terms.new (bound op widths.0 widths.1) }
 {
+    // For the prover: the terms keep their facts.
     let _count = terms.count();
     let v = terms.make(op, &[a, b])?;
     Ok(v)
@@ -58,6 +60,7 @@ pub fn chosen(
     ensures value { IfOk result (λ v. (numbers : ℕ → ℕ) → Obeys terms.new numbers → numbers v.0 ≡ (if nat_eq (numbers test.0) 1 then numbers a.0 else numbers b.0)) }
     ensures grown { Grown terms.old terms.new (3 * width) }
 {
+    // For the prover: the terms keep their facts.
     let _count = terms.count();
     let v = terms.make(TermOp::Ite, &[test, a, b])?;
     Ok(v)
@@ -72,6 +75,7 @@ pub fn constant(terms: &mut Terms, width: u8, number: u128) -> Result<TermId, No
     ensures value { IfOk result (λ v. (numbers : ℕ → ℕ) → Obeys terms.new numbers → numbers v.0 ≡ number) }
     ensures grown { Grown terms.old terms.new 0 }
 {
+    // For the prover: the terms keep their facts.
     let _count = terms.count();
     let v = terms.make(TermOp::Constant(width, number), &[])?;
     Ok(v)
@@ -84,6 +88,7 @@ pub fn input(terms: &mut Terms, key: u32) -> Result<TermId, NoMemory>
     ensures value { IfOk result (λ v. (numbers : ℕ → ℕ) → (o : Obeys terms.new numbers) → numbers v.0 ≡ get_or o.residues key 0) }
     ensures grown { Grown terms.old terms.new 0 }
 {
+    // For the prover: the terms keep their facts.
     let _count = terms.count();
     let v = terms.make(TermOp::Input(key), &[])?;
     Ok(v)

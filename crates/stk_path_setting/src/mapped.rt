@@ -236,6 +236,7 @@ impl<'a> PathSetting for MappedFunction<'a> {
     }
 
     fn reset(&self, node: u32, form: &StmtForm, registers: &mut Vec<Word>) {
+        // The row of the node stands for the form.
         let _ = form;
         if let Some(row) = self.tables.row(node) {
             set_slots(row.registers.as_slice(), self.numbers, registers);
@@ -243,6 +244,7 @@ impl<'a> PathSetting for MappedFunction<'a> {
     }
 
     fn forget(&self, node: u32, form: &StmtForm, kept: &mut Vec<Option<Word>>) {
+        // The row of the node stands for the form.
         let _ = form;
         if let Some(row) = self.tables.row(node) {
             forget_changed(row, kept);

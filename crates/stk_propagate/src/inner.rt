@@ -37,6 +37,7 @@ fn pair(place: u32, lit: Lit, other: Lit) -> (Lit, Lit)
 
 impl Inner {
     /// The literal beside the one that the place watches.
+    /// The contract alone reads `_lit`.
     pub(crate) fn other_watch(&self, place: u32, _lit: Lit) -> Lit
         requires exists { place / 2 < length self.now.watches.items }
         requires watches { watch_at self.now.watches.items place ≡ Some _lit }
@@ -49,6 +50,7 @@ impl Inner {
     }
 
     /// Puts a place that watches the literal into the spare chain.
+    /// The contract alone reads `_lit`.
     pub(crate) fn keep(&mut self, place: u32, _lit: Lit)
         requires sized { IsSized self.old }
         requires below { _lit.0 < 2 * self.old.assigned.vars }
@@ -66,6 +68,7 @@ impl Inner {
     }
 
     /// Has a place that watches the literal watch another one, `to`. The one beside it is `other`.
+    /// The contract alone reads `_lit`.
     pub(crate) fn move_to(&mut self, place: u32, _lit: Lit, to: Lit, other: Lit)
         requires sized { IsSized self.old }
         requires linked { AreLinked self.old _lit (InSpareOr self.old place) }
@@ -87,6 +90,7 @@ impl Inner {
     }
 
     /// Makes a literal true that isn't false and is the clause's last one which may be, unless it is true.
+    /// The contract alone reads `_store`.
     pub(crate) fn put(&mut self, _store: &Store, lit: Lit, id: u32)
         requires fits { Fits (trailed self.old) _store.now }
         requires exists { id < length _store.now }
@@ -99,6 +103,7 @@ impl Inner {
         ensures live { Contains self.new.assigned.literals (negated lit) → ⊥ }
         ensures rest { self.new ≡ record self.old { assigned = self.new.assigned } }
     {
+        // For the prover: the trail keeps its facts.
         let _ = self.assigned.vars();
         if !self.assigned.is_true(lit) {
             self.assigned.push(lit, Some(id));

@@ -36,6 +36,7 @@ impl Inner {
     }
 
     /// Has the next clause that wasn't looked at watch two of its literals.
+    /// The contract alone reads `_store`.
     fn watch(&mut self, _store: &Store, first: Lit, second: Lit)
         requires linked { IsLinked self.old }
         requires fits { Fits (trailed self.old) _store.now }
@@ -89,6 +90,7 @@ impl Inner {
         ensures grown { IsGrown self.old.assigned self.new.assigned }
         ensures found { MatchBool result (AllFalse self.new.assigned.literals (slice_index_or store.now self.old.looked [])) (self.new.looked ≡ self.old.looked + 1) }
     {
+        // For the prover: the trail keeps its facts.
         let _ = self.assigned.vars();
         let id = self.looked;
         let clause = store.clause(id);
@@ -103,6 +105,7 @@ impl Inner {
             return true;
         }
         self.settle(store, first, second);
+        // For the prover: the trail keeps its facts.
         let _ = self.assigned.vars();
         self.watch(store, first, second);
         false

@@ -76,8 +76,10 @@ impl Inner {
         ensures grown { IsGrown self.old.assigned self.new.assigned }
         ensures found { MatchOption result ((self.new.looked ≡ length store.now) × (self.new.head ≡ length self.new.assigned.literals)) (λ id. (id < length store.now) × AllFalse self.new.assigned.literals (slice_index_or store.now id [])) }
     {
+        // For the prover: the trail keeps its facts.
         let _ = self.assigned.vars();
         let found = self.look_and_walk(store);
+        // For the prover: the trail keeps its facts.
         let _ = self.assigned.vars();
         found
     }

@@ -44,6 +44,7 @@ impl Inner {
         ensures kept { OnErr result (trailed self.new ≡ trailed self.old) }
         ensures assigned { self.new.assigned ≡ self.old.assigned }
     {
+        // For the prover: the store keeps its facts.
         let _ = store.count();
         let watch = first_two(store.clause(id));
         self.watches.reserve(1)?;

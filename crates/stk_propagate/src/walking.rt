@@ -32,6 +32,7 @@ impl Inner {
         ensures head { self.new.head ≡ self.old.head }
         ensures looked { self.new.looked ≡ self.old.looked }
     {
+        // For the prover: the trail keeps its facts.
         let _ = self.assigned.vars();
         let id = place / 2;
         let other = self.other_watch(place, lit);

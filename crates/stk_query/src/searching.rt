@@ -32,8 +32,10 @@ fn start_of(
     requires satisfied { Satisfies (λ v. slice_index_or values.now.bits v false) cnf.now.store }
     ensures { IfOk result (λ r. MakesOne terms.now goal.0 r.numbers) }
 {
+    // The contract alone reads the goal and the clauses.
     let _ = goal;
     let _ = cnf;
+    // For the prover: the terms keep their facts.
     let _ = terms.count();
     let residues = residues_from(alloc, terms.widths(), values.bits.as_slice())?;
     Ok(residues)

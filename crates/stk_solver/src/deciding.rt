@@ -10,6 +10,7 @@ use stk_clauses::{Lit, Store};
 impl Search {
     /// The unassigned literal to try next, if what is tried next knows one: a variable that conflicts met lately, with the sign
     /// that it had last.
+    /// The contract alone reads `_given`.
     fn suggested(&mut self, _given: &Store) -> Option<Lit>
         requires search { IsSearch self.old _given.now }
         ensures search { IsSearch self.new _given.now }
@@ -35,6 +36,7 @@ impl Search {
     }
 
     /// The first unassigned variable's literal, if there is one.
+    /// The contract alone reads `_given`.
     fn first_open(&self, _given: &Store) -> Option<Lit>
         requires search { IsSearch self.now _given.now }
         ensures { MatchOption result (AreAllAssigned self.now.trail.assigned.literals self.now.vars) (λ l. (l.0 < 2 * self.now.vars) × IsOpen self.now.trail.assigned.literals l) }
@@ -66,6 +68,7 @@ impl Search {
     }
 
     /// Assumes an unassigned literal, where every clause is quiet.
+    /// The contract alone reads `_given`.
     pub(crate) fn decide(&mut self, _given: &Store, lit: Lit) -> Result<(), NoMemory>
         requires search { IsSearch self.old _given.now }
         requires below { lit.0 < 2 * self.old.vars }
@@ -80,6 +83,7 @@ impl Search {
         let place = self.trail.assigned().len() as u32;
         self.levels.push(place)?;
         self.trail.assume(lit, &self.store);
+        // For the prover: the trail keeps its facts.
         let _ = self.trail.assigned();
         Ok(())
     }

@@ -22,6 +22,7 @@ fn is_true(value: Option<bool>) -> bool
 
 impl Search {
     /// The variables' values, where each has one and every clause is quiet.
+    /// The contract alone reads `_given`.
     pub(crate) fn values(&self, alloc: Global, _given: &Store) -> Result<Vec<bool>, NoMemory>
         requires search { IsSearch self.now _given.now }
         requires quiet { AreQuiet self.now.trail.assigned.literals self.now.store }
@@ -29,6 +30,7 @@ impl Search {
         ensures satisfies { IfOk result (λ v. Satisfies (λ k. slice_index_or v.items k false) _given.now) }
         ensures each { IfOk result (λ v. length v.items ≡ self.now.vars) }
     {
+        // For the prover: the trail keeps its facts.
         let _ = self.trail.assigned();
         let mut values = Vec::with_capacity(alloc, self.vars as usize)?;
         for variable in 0..self.vars {
@@ -59,6 +61,7 @@ impl Search {
     }
 
     /// The log, where a conflict stands above level 0.
+    /// The contract alone reads `_given` and `_conflict`.
     pub(crate) fn spent(self, _given: &Store, _conflict: u32) -> Vec<Derived>
         requires search { IsSearch self _given.now }
         requires some { 0 < length self.levels.items }

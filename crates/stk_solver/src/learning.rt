@@ -32,6 +32,7 @@ fn kept_levels(restarts: &mut Restarts, trail: &Trail, levels: &[u32], others: &
 
 impl Search {
     /// Takes a learnt clause in.
+    /// The contract alone reads `_given`.
     fn take_in(&mut self, _given: &Store, learnt: Derived) -> Result<(), NoMemory>
         requires search { IsSearch self.old _given.now }
         requires few { length self.old.store < 2 ^ 31 - 1 }
@@ -51,6 +52,7 @@ impl Search {
     }
 
     /// The clause that a conflict above level 0 gives. What the conflict met is tried before the rest from now on.
+    /// The contract alone reads `_given`.
     fn analyse(&mut self, alloc: Global, _given: &Store, conflict: u32) -> Result<Derived, NoMemory>
         requires search { IsSearch self.old _given.now }
         requires some { 0 < length self.old.levels.items }
@@ -75,6 +77,7 @@ impl Search {
     }
 
     /// Goes back as far as the learnt clause makes its first literal true, or further.
+    /// The contract alone reads `_given`.
     fn back_from(&mut self, _given: &Store, clause: &[Lit])
         requires search { IsSearch self.old _given.now }
         requires some { 0 < length self.old.levels.items }

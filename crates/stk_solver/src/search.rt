@@ -32,6 +32,7 @@ fn copy_of(alloc: Global, given: &Store) -> Result<Store, NoMemory>
 {
     let mut store = Store::new(alloc);
     for id in 0..given.count() {
+        // For the prover: the store keeps its facts.
         let _ = given.count();
         store.push(given.clause(id))?;
     }
@@ -65,6 +66,7 @@ impl Search {
     }
 
     /// Propagates: answers a clause with only false literals, or `None` when every clause is quiet.
+    /// The contract alone reads `_given`.
     pub(crate) fn propagate(&mut self, _given: &Store) -> Option<u32>
         requires { IsSearch self.old _given.now }
         ensures search { IsSearch self.new _given.now }
@@ -74,8 +76,10 @@ impl Search {
         ensures more { length self.old.trail.assigned.literals ≤ length self.new.trail.assigned.literals }
         ensures found { MatchOption result (AreQuiet self.new.trail.assigned.literals self.new.store) (λ id. (id < length self.new.store) × AllFalse self.new.trail.assigned.literals (slice_index_or self.new.store id [])) }
     {
+        // For the prover: the trail keeps its facts.
         let _ = self.trail.assigned();
         let found = self.trail.propagate(&self.store);
+        // For the prover: the trail keeps its facts.
         let _ = self.trail.assigned();
         found
     }

@@ -26,18 +26,21 @@ impl Values for Symbols {
 
     fn constant(&mut self, kind: IntKind, number: i128) -> Result<TermId, NoMemory> {
         let answer = terms::constant(&mut self.terms, kind, number);
+        // For the prover: the terms keep their facts.
         let _count = self.terms.count();
         answer
     }
 
     fn input(&mut self, key: u32, kind: IntKind) -> Result<TermId, NoMemory> {
         let answer = terms::input(&mut self.terms, key);
+        // For the prover: the terms keep their facts.
         let _count = self.terms.count();
         answer
     }
 
     fn convert(&mut self, from: IntKind, to: IntKind, value: TermId) -> Result<TermId, NoMemory> {
         let answer = terms::converted(&mut self.terms, from, to, value);
+        // For the prover: the terms keep their facts.
         let _count = self.terms.count();
         answer
     }
@@ -50,6 +53,7 @@ impl Values for Symbols {
         right: TermId,
     ) -> Result<TermId, NoMemory> {
         let answer = terms::arith(&mut self.terms, op, kind, left, right);
+        // For the prover: the terms keep their facts.
         let _count = self.terms.count();
         answer
     }
@@ -63,6 +67,7 @@ impl Values for Symbols {
         count: TermId,
     ) -> Result<TermId, NoMemory> {
         let answer = terms::shift(&mut self.terms, op, kind, left, count_kind, count);
+        // For the prover: the terms keep their facts.
         let _count = self.terms.count();
         answer
     }
@@ -75,6 +80,7 @@ impl Values for Symbols {
         right: TermId,
     ) -> Result<TermId, NoMemory> {
         let answer = terms::compare(&mut self.terms, op, kind, left, right);
+        // For the prover: the terms keep their facts.
         let _count = self.terms.count();
         answer
     }
@@ -88,12 +94,14 @@ impl Values for Symbols {
         minus: bool,
     ) -> Result<TermId, NoMemory> {
         let answer = terms::moved(&mut self.terms, base, step_kind, step, size, minus);
+        // For the prover: the terms keep their facts.
         let _count = self.terms.count();
         answer
     }
 
     fn distance(&mut self, left: TermId, right: TermId, size: u64) -> Result<TermId, NoMemory> {
         let answer = terms::distance(&mut self.terms, left, right, size);
+        // For the prover: the terms keep their facts.
         let _count = self.terms.count();
         answer
     }
@@ -106,18 +114,21 @@ impl Values for Symbols {
         no: TermId,
     ) -> Result<TermId, NoMemory> {
         let answer = terms::choose(&mut self.terms, test, kind, yes, no);
+        // For the prover: the terms keep their facts.
         let _count = self.terms.count();
         answer
     }
 
     fn both(&mut self, left: TermId, right: TermId) -> Result<TermId, NoMemory> {
         let answer = terms::both(&mut self.terms, left, right);
+        // For the prover: the terms keep their facts.
         let _count = self.terms.count();
         answer
     }
 
     fn opposite(&mut self, test: TermId) -> Result<TermId, NoMemory> {
         let answer = terms::opposite(&mut self.terms, test);
+        // For the prover: the terms keep their facts.
         let _count = self.terms.count();
         answer
     }
@@ -131,6 +142,7 @@ impl Values for Symbols {
         right: TermId,
     ) -> Result<TermId, NoMemory> {
         let answer = terms::breaks(&mut self.terms, what, op, kind, left, right);
+        // For the prover: the terms keep their facts.
         let _count = self.terms.count();
         answer
     }
@@ -142,6 +154,7 @@ impl Values for Symbols {
         count: TermId,
     ) -> Result<TermId, NoMemory> {
         let answer = terms::breaks_shift(&mut self.terms, kind, count_kind, count);
+        // For the prover: the terms keep their facts.
         let _count = self.terms.count();
         answer
     }
@@ -155,6 +168,7 @@ impl Values for Symbols {
         minus: bool,
     ) -> Result<TermId, NoMemory> {
         let answer = terms::breaks_move(&mut self.terms, base, step_kind, step, size, minus);
+        // For the prover: the terms keep their facts.
         let _count = self.terms.count();
         answer
     }
@@ -166,6 +180,7 @@ impl Values for Symbols {
         count: u64,
     ) -> Result<TermId, NoMemory> {
         let answer = terms::breaks_bounds(&mut self.terms, index_kind, index, count);
+        // For the prover: the terms keep their facts.
         let _count = self.terms.count();
         answer
     }

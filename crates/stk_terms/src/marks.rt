@@ -60,6 +60,7 @@ pub fn parts(
     ensures count { IfOk result (λ m. length m.items ≡ place + 1) }
     ensures told { IfOk result (λ m. (j : ℕ) → j ≤ place → get_or m.items j false ≡ is_part (stored inputs.now nodes.now) place j) }
 {
+    // The contract alone reads the widths of the inputs.
     let _widths = inputs;
     let mut marks = begin(alloc, place)?;
     for k in 0..place + 1 {
