@@ -17,7 +17,6 @@ use crate::Place;
 use crate::rules::{
     has_struct, lacks_scalar, leave_rule, nothing, return_rule, switch_rule, unless, unless_two,
 };
-use std::alloc::Global;
 use stk_ctype::CType;
 use stk_declarators::scope;
 use stk_facts::{NodeFact, Untyped, fact, own};

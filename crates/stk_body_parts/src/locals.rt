@@ -19,7 +19,6 @@ ghost use Rattle.stk_body_parts.specs.Rows.{AreLocals};
 
 use crate::Place;
 use crate::initials::{Declared, initial};
-use std::alloc::Global;
 use stk_base::{List, Span};
 use stk_ctype::{CType, Names};
 use stk_declarators::{Tailed, are_scalars, given_count, scope, tail_type};

@@ -10,7 +10,6 @@ ghost use Rattle.stk_bodies.specs.Statements.{has_struct, lacks_scalar, switch_r
 ghost use Rattle.stk_bodies.specs.Functions.{storage_rule};
 ghost use Rattle.stk_body_parts.specs.Rows.{IsBelow, known_at};
 
-use std::alloc::Global;
 use stk_ctype::{CType, IntKind};
 use stk_facts::{Broken, NodeFact, fact};
 use stk_rules::{is_struct, is_void, reads_scalar};

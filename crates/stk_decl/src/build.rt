@@ -8,8 +8,8 @@ ghost use Rattle.stk_decl.specs.Given.{given_initialiser};
 
 use stk_base::{Boxed, List, Span};
 use stk_tree::{
-    Base, BaseForm, Declaration, Declr, Desig, Dimension, Enumr, Expr, Fixed, Init, Item, Member,
-    Param, Storage, Tail, no_node,
+    Base, BaseForm, Declaration, Declr, Desig, Dimension, Enumr, Expr, Init, Item, Member, Param,
+    Storage, Tail, no_node,
 };
 
 /// `struct [tag] { members }`

@@ -24,9 +24,7 @@ use crate::steps::{
 use stk_base::NoMemory;
 use stk_ctype::CType;
 use stk_numbers::promote;
-use stk_operating::{
-    Operator, Sort, Word, assigned_operator, converted, flipped, is_array, sort_of,
-};
+use stk_operating::{Operator, Sort, Word, assigned_operator, converted, flipped, sort_of};
 use stk_runs::Entry;
 use stk_tree::{AssignOp, BinaryOp, Expr, ExprForm, UnaryOp};
 

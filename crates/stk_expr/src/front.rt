@@ -12,7 +12,7 @@ ghost use Rattle.stk_expr.specs.Gives.{Gives};
 
 use crate::bases;
 use crate::parse::Parse;
-use std::alloc::{AllocError, AllocFailed, Global};
+use std::alloc::{AllocFailed, Global};
 use stk_base::{Class, List, Span};
 use stk_ctype::Names;
 use stk_grammar::{

@@ -8,7 +8,6 @@ ghost use Rattle.stk_facts.specs.Facts.{AreSoundFacts, Ruled, fact_of, fact_at};
 ghost use Rattle.stk_facts.specs.Outcome.{Gives, IsAt, MakesFact, finish};
 
 use crate::{Broken, NodeFact, Untyped};
-use std::alloc::Global;
 
 /// The fact at a place.
 #[tactic(auto, using(crate::proofs::FactsAt::facts_at))]

@@ -9,7 +9,6 @@ ghost use Rattle.stk_scope.specs.Scope.{IsSoundScope, scope_of};
 ghost use Rattle.stk_initialisers.specs.Typing.{designator_typed, designators_typed, initialiser_typed, item_typed, items_typed};
 
 use crate::Leaves;
-use std::alloc::Global;
 use stk_facts::{NodeFact, Untyped, fact};
 use stk_scope::Scoped;
 use stk_tree::{Desig, Init, Item};

@@ -4,7 +4,7 @@ ghost use Rattle.stk_maps.specs.Maps.{bits_in};
 
 use std::alloc::Global;
 use std::test::Fail;
-use stk_base::{List, NoMemory};
+use stk_base::NoMemory;
 use stk_findings::{Finding, Need};
 use stk_hit_tables::HitTable;
 use stk_judging::finding_of;

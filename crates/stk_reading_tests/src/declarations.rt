@@ -8,8 +8,8 @@ use stk_expr::Parse;
 use stk_lex::Token;
 use stk_lexeme::lexemes_of;
 use stk_tree::{
-    BaseForm, Declaration, Declr, Desig, Dimension, Enumr, Expr, ExprForm, Fixed, Init, Item,
-    Lexeme, Member, Node, Param, Storage, Tail, spelling,
+    BaseForm, Declaration, Declr, Desig, Dimension, Enumr, Expr, ExprForm, Init, Item, Lexeme,
+    Member, Node, Param, Storage, Tail, spelling,
 };
 
 /// What is read.

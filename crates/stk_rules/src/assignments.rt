@@ -11,7 +11,6 @@ ghost use Rattle.stk_rules.specs.Rules.{assigned, unmoved, unstepped, step_rule,
 
 use crate::types::{is_scalar, kind_of, reads_scalar, stride};
 use std::alloc::Global;
-use stk_base::NoMemory;
 use stk_ctype::{CType, Names};
 use stk_facts::{Broken, NodeFact};
 use stk_tree::AssignOp;

@@ -14,7 +14,6 @@ use crate::constants::{arithmetic, comparison, logical, shift};
 use crate::types::{decayed, is_struct, kind_of, pointee, pointer_to, reads_scalar, stride};
 use crate::unary::integer;
 use std::alloc::Global;
-use stk_base::NoMemory;
 use stk_ctype::{CType, IntKind, Names};
 use stk_facts::{Broken, Constancy, NodeFact};
 use stk_numbers::{ArithOp, CompareOp, ShiftOp, common, promote};

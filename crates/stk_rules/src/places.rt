@@ -12,7 +12,6 @@ ghost use Rattle.stk_rules.specs.Rules.{pointed, indexed, index_rule, found, mem
 
 use crate::types::{is_complete, is_struct, kind_of, pointee};
 use std::alloc::Global;
-use stk_base::NoMemory;
 use stk_ctype::{CType, Names};
 use stk_facts::{Broken, NodeFact};
 

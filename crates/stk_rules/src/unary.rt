@@ -14,7 +14,6 @@ use crate::constants::{converted, denied, flipped, negated};
 use crate::places::pointed;
 use crate::types::{is_scalar, is_struct, is_void, kind_of, pointer_to, reads_scalar};
 use std::alloc::Global;
-use stk_base::NoMemory;
 use stk_ctype::{CType, IntKind, Names};
 use stk_facts::{Broken, Constancy, NodeFact};
 use stk_numbers::promote;

@@ -14,7 +14,6 @@ ghost use Rattle.stk_scope.specs.Bases.{words_rule, struct_rule, enum_rule, type
 
 use crate::specifiers::basic_type;
 use std::alloc::Global;
-use stk_base::NoMemory;
 use stk_ctype::{CType, IntKind, Names, Symbol, Tag};
 use stk_facts::{Broken, NodeFact};
 use stk_tree::{BaseForm, Fixed};

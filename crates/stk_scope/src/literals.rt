@@ -8,7 +8,7 @@ ghost use Rattle.stk_facts.specs.Outcome.{MakesFact};
 ghost use Rattle.stk_scope.specs.Literals.{number_rule, character_rule, string_of, text_rule};
 
 use std::alloc::Global;
-use stk_base::{NoMemory, Span};
+use stk_base::Span;
 use stk_constants::{character_constant, integer_constant, string_bytes};
 use stk_ctype::{CType, IntKind, SharedType};
 use stk_facts::{Broken, NodeFact};

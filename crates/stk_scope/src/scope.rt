@@ -12,7 +12,6 @@ ghost use Rattle.stk_scope.specs.Locals.{local_of};
 
 use crate::{LocalName, Locals};
 use std::alloc::Global;
-use stk_base::NoMemory;
 use stk_ctype::{CType, IntKind, Names, Signature, Symbol};
 use stk_facts::{Broken, NodeFact};
 

@@ -11,7 +11,6 @@ use crate::roles::{
 };
 use crate::sites::put;
 use crate::{Role, Site, SiteForm};
-use std::alloc::Global;
 use stk_base::NoMemory;
 use stk_function_types::FunctionTypes;
 use stk_tree::{Dimension, Expr, ExprForm, TypeName};

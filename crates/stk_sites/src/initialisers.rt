@@ -9,7 +9,6 @@ ghost use Rattle.stk_sites.specs.Sites.{met_in, met_of};
 
 use crate::expressions::{dimensions_sites, expression_sites};
 use crate::{Role, Site};
-use std::alloc::Global;
 use stk_base::NoMemory;
 use stk_function_types::FunctionTypes;
 use stk_tree::{Declr, Desig, Init, Item, Param, Tail};

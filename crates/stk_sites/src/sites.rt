@@ -4,7 +4,6 @@ ghost use Rattle.std.specs.Prelude.{◌≡◌, [], ◌∷◌, ◌++◌, map, OnO
 ghost use Rattle.stk_sites.specs.Sites.{met_of};
 
 use crate::Role;
-use std::alloc::Global;
 use stk_base::{NoMemory, Span};
 use stk_tree::{ExprForm, Init, Label, StmtForm};
 

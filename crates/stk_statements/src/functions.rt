@@ -15,7 +15,6 @@ ghost use Rattle.stk_bodies.specs.Functions.{body_typed, function_typed, head_ty
 ghost use Rattle.stk_body_parts.specs.Rows.{AnyFact, IsHeaded};
 
 use crate::statements::{parts, statement};
-use std::alloc::Global;
 use stk_body_parts::{Place, by_nothing, storage_rule};
 use stk_ctype::CType;
 use stk_declarators::{File, scope, tail, tail_type};

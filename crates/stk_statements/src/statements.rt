@@ -13,7 +13,6 @@ ghost use Rattle.stk_bodies.specs.Sections.{Labelled, section_rule, unlabelled};
 ghost use Rattle.stk_bodies.specs.Statements.{maybe_statement_typed, part_typed, parts_typed, section_typed, sections_typed, start_typed, statement_typed, statements_typed};
 ghost use Rattle.stk_body_parts.specs.Rows.{AnyFact, AnyLabels, AreLocals, IsLabelled, IsStarted, Nothing};
 
-use std::alloc::Global;
 use stk_base::Boxed;
 use stk_body_parts::{
     Labels, Place, by_for, by_leave, by_nothing, by_switch, by_test, declaration, discarded,
@@ -23,7 +22,7 @@ use stk_ctype::IntKind;
 use stk_facts::{NodeFact, Untyped, fact, own};
 use stk_rules::kind_of;
 use stk_scope::Locals;
-use stk_tree::{Expr, Part, Section, Start, Stmt, StmtForm};
+use stk_tree::{Part, Section, Start, Stmt, StmtForm};
 
 // Types the first part of a `for`: the place of its expression, where it is one.
 fn start(

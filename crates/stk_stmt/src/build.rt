@@ -11,7 +11,7 @@ ghost use Rattle.stk_expr.specs.Gives.{Gives};
 ghost use Rattle.stk_stmt.specs.Finished.{finished_at};
 
 use std::alloc::{AllocError, Global};
-use stk_base::{Boxed, List, Span};
+use stk_base::{Boxed, List};
 use stk_expr::Parse;
 use stk_tree::{
     Base, Declaration, Declr, Expr, Function, Label, Lexeme, Part, Section, Start, Stmt, StmtForm,

@@ -15,7 +15,7 @@ ghost use Rattle.stk_stmt.specs.Heads.{IsHead, ended_lexemes, ended_spans};
 use crate::heads::{end_of, head_of};
 use crate::units::unit_of;
 use std::alloc::Global;
-use stk_base::{Boxed, Span};
+use stk_base::Boxed;
 use stk_ctype::Names;
 use stk_expr::Parse;
 use stk_lex::Token;

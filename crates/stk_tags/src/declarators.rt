@@ -6,7 +6,6 @@ ghost use Rattle.stk_tags.specs.Uses.{declarator_uses, tail_uses, parameter_uses
 
 use crate::expressions::dimensions_uses;
 use crate::{TagUse, base_uses};
-use std::alloc::Global;
 use stk_base::NoMemory;
 use stk_tree::{Declr, Param, Tail};
 

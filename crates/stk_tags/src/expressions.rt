@@ -5,7 +5,6 @@ ghost use Rattle.stk_tree.specs.View.{view_expression, view_type_name, view_dime
 ghost use Rattle.stk_tags.specs.Uses.{expression_uses, expressions_uses, type_name_uses, dimension_uses, dimensions_uses};
 
 use crate::{TagUse, base_uses};
-use std::alloc::Global;
 use stk_base::NoMemory;
 use stk_tree::{Dimension, Expr, ExprForm, TypeName};
 

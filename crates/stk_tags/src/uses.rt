@@ -4,7 +4,6 @@ ghost use Rattle.std.specs.Prelude.{◌≡◌, ◌++◌, OnOk};
 ghost use Rattle.stk_tree.specs.View.{view_base, view_base_form};
 ghost use Rattle.stk_tags.specs.Uses.{form_uses, base_uses};
 
-use std::alloc::Global;
 use stk_base::{NoMemory, Span};
 use stk_tree::{Base, BaseForm};
 

@@ -6,7 +6,6 @@ ghost use Rattle.stk_taken.specs.Expressions.{name_taken, unary_taken, expressio
 
 use crate::Mark;
 use crate::marks::find_mark;
-use std::alloc::Global;
 use stk_base::NoMemory;
 use stk_tree::{Dimension, Expr, ExprForm, TypeName, UnaryOp};
 

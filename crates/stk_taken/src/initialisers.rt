@@ -7,7 +7,6 @@ ghost use Rattle.stk_taken.specs.Expressions.{designator_taken, designators_take
 
 use crate::Mark;
 use crate::expressions::{dimensions_taken, expression_taken};
-use std::alloc::Global;
 use stk_base::NoMemory;
 use stk_tree::{Desig, Init, Item, Tail};
 

@@ -4,7 +4,6 @@ ghost use Rattle.std.specs.Prelude.{◌≡◌, ◌++◌, OnOk, map};
 ghost use Rattle.stk_tree.specs.View.{view_declarator};
 ghost use Rattle.stk_taken.specs.Marks.{find_mark, declarator_marks};
 
-use std::alloc::Global;
 use stk_base::{NoMemory, Span};
 use stk_tree::Declr;
 

@@ -5,7 +5,6 @@ ghost use Rattle.std.specs.Option.{option_map};
 ghost use Rattle.stk_tree.specs.View.{declarators, designators, dimensions, enumerators, expressions, items, maybe_initialiser, members, parameters, view_base, view_base_form, view_declarator, view_designator, view_dimension, view_enumerator, view_expression, view_expression_form, view_initialiser, view_item, view_member, view_parameter, view_tail, view_type_name};
 ghost use Rattle.stk_tree_nodes.specs.Rows.{base_form_row, base_row, declarator_row, declarators_row, designator_row, designators_row, dimension_row, dimensions_row, enumerator_row, enumerators_row, expression_form_row, expression_row, expressions_row, initialiser_row, item_row, items_row, maybe_initialiser_row, member_row, members_row, parameter_row, parameters_row, tail_row, type_name_row};
 
-use std::alloc::Global;
 use stk_base::NoMemory;
 use stk_tree::{
     Base, BaseForm, Declr, Desig, Dimension, Enumr, Expr, ExprForm, Init, Item, Member, Node,

@@ -5,8 +5,8 @@ ghost use Rattle.stk_tree.specs.View.{declarators, dimensions, enumerators, item
 
 use stk_base::Span;
 use stk_tree::{
-    Base, BaseForm, BinaryOp, Declr, Dimension, Enumr, ExprForm, Fixed, Item, Label, Member, Param,
-    StepOp, Stmt, Tail, binary_level, is_basic, levels,
+    Base, BaseForm, Declr, Dimension, Enumr, ExprForm, Fixed, Item, Label, Member, Param, StepOp,
+    Stmt, Tail, binary_level, is_basic, levels,
 };
 
 /// The level of `++` and `--`.

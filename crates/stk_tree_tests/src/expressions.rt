@@ -4,8 +4,8 @@ use crate::printed::{A, B, C, LETTER, ONE, S, T};
 use std::process::Abort;
 use stk_base::{Boxed, Span};
 use stk_tree::{
-    AssignOp, BaseForm, BinaryOp, Dimension, Expr, ExprForm, Fixed, Init, Member, StepOp, Tail,
-    TypeName, UnaryOp, Unit,
+    AssignOp, BaseForm, BinaryOp, Dimension, Expr, ExprForm, Init, Member, StepOp, Tail, TypeName,
+    UnaryOp, Unit,
 };
 
 impl<R: Abort> Maker<'_, R> {

@@ -10,7 +10,6 @@ ghost use Rattle.stk_facts.specs.Outcome.{MakesFact};
 ghost use Rattle.stk_typing.specs.Calls.{no_argument, behind, takes, call_result, call_rule};
 
 use std::alloc::Global;
-use stk_base::NoMemory;
 use stk_ctype::Signature;
 use stk_facts::{Broken, NodeFact};
 use stk_rules::{is_struct, reads_scalar};

@@ -17,7 +17,6 @@ use crate::leaves::{
     by_base, by_call, by_callee, by_cast, by_choice, by_leaf, by_pair, by_single, by_size,
     by_type_name, by_type_size,
 };
-use std::alloc::Global;
 use stk_base::Span;
 use stk_ctype::Signature;
 use stk_facts::{NodeFact, Untyped, fact};

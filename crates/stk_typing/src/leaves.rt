@@ -17,7 +17,6 @@ ghost use Rattle.stk_typing.specs.Calls.{call_rule};
 ghost use Rattle.stk_typing.specs.Forms.{structs_in, leaf_rule, single_rule, pair_rule};
 
 use crate::calls::{Arguments, call_rule};
-use std::alloc::Global;
 use stk_base::Span;
 use stk_ctype::Signature;
 use stk_facts::{Broken, NodeFact, Untyped, fact, own};

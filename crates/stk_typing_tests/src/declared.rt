@@ -5,7 +5,7 @@ ghost use Rattle.stk_ctype.specs.Structs.{structs_of};
 ghost use Rattle.stk_facts.specs.Facts.{AreSoundFacts, fact_of};
 ghost use Rattle.stk_scope.specs.Locals.{AreSoundLocals, local_of};
 
-use crate::typed::{add, add_rule, add_type};
+use crate::typed::{add_rule, add_type};
 use std::alloc::Global;
 use stk_agree::{Agreement, agree};
 use stk_base::NoMemory;

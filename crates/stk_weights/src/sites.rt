@@ -13,7 +13,7 @@ ghost use Rattle.stk_weights.specs.Loads.{cases_in, IsMetLimited, IsLimited};
 
 use crate::forms::form_weight;
 use crate::statements::{initial_weight, labels_weight, statement_weight};
-use crate::storing::{kept_count, kept_weight};
+use crate::storing::kept_weight;
 use std::alloc::Global;
 use stk_base::NoMemory;
 use stk_settings::Setting;
