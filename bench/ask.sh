@@ -1,13 +1,21 @@
 #!/bin/bash
-# Times the decider on goals such as it is asked for small functions: whether some run gets to a fragment at all (`hit`), and whether one gets there
-# without undefined behaviour before (`free`). It builds a small program over stk_query in a folder of its own, outside the repository:
+# Times the decider on goals such as it is asked for small functions: whether some run gets to a fragment at all
+# (`hit`), and whether one gets there without undefined behaviour before (`free`). It builds a small program over
+# stk_query in a folder of its own, outside the repository:
 #   bash bench/ask.sh
-# It prints a row for each goal: what was said; the terms of the store; the AND gates, variables and clauses of the goal; the conflicts (steps of the
-# derivation or log); the processor seconds of the program, which reads, rewrites and asks, and of minisat (Debian's package `minisat`, where
-# it is there) on the same clauses, with its conflicts. Goals over at most 16 bits are tried, and their clauses are made for minisat alone.
+# It prints a row for each goal: what was said; the terms of the store; the AND gates, variables and clauses of the
+# goal; the conflicts (steps of the derivation or log); the processor seconds of the program, which reads, rewrites
+# and asks, and of minisat (Debian's package `minisat`, where it is there) on the same clauses, with its conflicts.
+# Goals over at most 16 bits are tried, and their clauses are made for minisat alone.
 set -eu
 . "$(dirname "$0")/program.sh"
-build_program askbench stk_base stk_bits stk_gates stk_arith stk_terms stk_bitwise stk_blast stk_clauses stk_check stk_cnf stk_assignment stk_chains stk_propagate stk_analysis stk_activity stk_solver stk_rewrite stk_trying stk_goals stk_query <<'END'
+# the clauses of a goal are asked for here alone, so the copy of the crate lets them be called
+prepare() {
+    sed -i 's/^pub use clauses::has_room;/pub use clauses::{clauses_for, has_room};/' "$work/crates/stk_query/src/lib.rt"
+    sed -i 's/^pub(crate) fn clauses_for/pub fn clauses_for/' "$work/crates/stk_query/src/clauses.rt"
+}
+build_program askbench stk_base stk_gates stk_arith stk_terms stk_blast stk_clauses stk_check stk_cnf stk_propagate \
+    stk_solver stk_rewrite stk_query <<'END'
 //! Asks a goal in postfix notation, or writes its clauses.
 #![tactic(auto)]
 
@@ -19,8 +27,7 @@ use std::env;
 use std::io::{self, Read, Write};
 use stk_base::{List, NoMemory};
 use stk_clauses::Cnf;
-use stk_goals::{clauses_for, has_room};
-use stk_query::{Cdcl, Decider, Verdict};
+use stk_query::{Cdcl, Decider, Verdict, clauses_for, has_room};
 use stk_rewrite::simplify;
 use stk_terms::{TermId, TermOp, Terms};
 

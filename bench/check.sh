@@ -1,10 +1,11 @@
 #!/bin/bash
-# Times the check of a derivation: one step, the empty clause, by 1,000,001 hints on as many clauses, a chain of implications from the
-# first variable to the last one and its negation. It builds a small program over stk_check in a folder of its own, outside the
-# repository:
+# Times the check of a derivation: one step, the empty clause, by 1,000,001 hints on as many clauses, a chain of
+# implications from the first variable to the last one and its negation. It builds a small program over stk_check in a
+# folder of its own, outside the repository:
 #   bash bench/check.sh
-# It prints the processor seconds of the program that only makes the clauses and the derivation, and of the one that checks it too.
-# Debian's packages have no checker of derivations by hints to set beside it (drat-trim, lrat-check and cake_lpr aren't among them).
+# It prints the processor seconds of the program that only makes the clauses and the derivation, and of the one that
+# checks it too. Debian's packages have no checker of derivations by hints to set beside it (drat-trim, lrat-check and
+# cake_lpr aren't among them).
 set -eu
 . "$(dirname "$0")/program.sh"
 build_program checkbench stk_base stk_clauses stk_check <<'END'

@@ -1,12 +1,12 @@
 #!/bin/bash
-# Times the table of gates and the circuits over it. It builds a small program over stk_arith in a folder of its own, outside the
-# repository:
+# Times the table of gates and the circuits over it. It builds a small program over stk_arith in a folder of its own,
+# outside the repository:
 #   bash bench/circuits.sh
-# For each of them it prints the processor seconds of the whole run, the gates that there are at its end, and the bytes of memory for each
-# gate, beyond those of a run that makes no gate.
+# For each of them it prints the processor seconds of the whole run, the gates that there are at its end, and the
+# bytes of memory for each gate, beyond those of a run that makes no gate.
 set -eu
 . "$(dirname "$0")/program.sh"
-build_program circuitbench stk_base stk_bits stk_gates stk_arith <<'END'
+build_program circuitbench stk_base stk_gates stk_arith <<'END'
 //! Makes the circuits that the first word names.
 #![tactic(auto)]
 

@@ -1,20 +1,20 @@
 #!/bin/bash
-# Times the numbers of constants on large texts. It builds a small program over stk_constants in a folder of its own, outside the
-# repository:
+# Times the numbers of constants on large texts. It builds a small program over stk_numbers in a folder of its own,
+# outside the repository:
 #   bash bench/constants.sh
-# For each text it prints the processor seconds of the whole run, reading included, and what the text is: an integer constant, a character
-# constant, a string with so many bytes, or none of them.
+# For each text it prints the processor seconds of the whole run, reading included, and what the text is: an integer
+# constant, a character constant, a string with so many bytes, or none of them.
 set -eu
 . "$(dirname "$0")/program.sh"
 ending=$said
-build_program constantsbench stk_base stk_ctype stk_numbers stk_constants <<'END'
+build_program constantsbench stk_base stk_ctype stk_numbers <<'END'
 //! Tells what constant the input is.
 #![tactic(auto)]
 
 use std::alloc::Global;
 use std::io::{self, Read};
 use stk_base::Span;
-use stk_constants::{character_constant, integer_constant, string_bytes};
+use stk_numbers::{character_constant, integer_constant, string_bytes};
 
 // Whether the input is an integer constant, a character constant or a string, and how many bytes the string has.
 fn answer(alloc: Global, bytes: &[u8]) -> &'static str {

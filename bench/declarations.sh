@@ -1,13 +1,13 @@
 #!/bin/bash
-# Times the reader of declarations on large texts. It builds a small program over stk_decl in a folder of its own, outside the
-# repository:
+# Times the reader of declarations on large texts. It builds a small program over stk_decl in a folder of its own,
+# outside the repository:
 #   bash bench/declarations.sh
 # For each text it prints the processor seconds of the whole run, those of the same text behind a `+`, which begins no
 # declaration, and whether a declaration was read.
 set -eu
 . "$(dirname "$0")/program.sh"
 ending=$said
-build_program declbench stk_base stk_lex stk_ctype stk_tree stk_lexeme stk_tree_layout stk_grammar stk_expr stk_decl_grammar stk_decl <<'PROGRAM'
+build_program declbench stk_base stk_lex stk_ctype stk_tree stk_nodes stk_grammar stk_expr stk_decl <<'PROGRAM'
 //! Reads the input as a declaration at file scope.
 #![tactic(auto)]
 
@@ -16,8 +16,8 @@ use std::io::{self, Read, Write};
 use stk_ctype::Names;
 use stk_decl::declaration_within;
 use stk_expr::Parse;
+use stk_grammar::lexemes_of;
 use stk_lex::lex;
-use stk_lexeme::lexemes_of;
 
 fn answer(alloc: Global, bytes: &[u8]) -> &'static str {
     if bytes.len() > 16_777_216 {

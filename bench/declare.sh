@@ -1,8 +1,8 @@
 #!/bin/bash
 # Times the checker on large files of declarations:
 #   bash bench/declare.sh [PROGRAM]
-# PROGRAM is ./stack where none is named. For each sort of declaration and number of them it prints the seconds of the whole run, the memory at
-# most in megabytes, and the summary. Twice as many should take about twice the time.
+# PROGRAM is ./stack where none is named. For each sort of declaration and number of them it prints the seconds of the
+# whole run, the memory at most in megabytes, and the summary. Twice as many should take about twice the time.
 set -eu
 program=${1:-$(dirname "$0")/../stack}
 text=$(mktemp)

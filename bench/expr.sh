@@ -1,12 +1,12 @@
 #!/bin/bash
-# Times the reader of expressions on large texts. It builds a small program over stk_expr in a folder of its own, outside the
-# repository:
+# Times the reader of expressions on large texts. It builds a small program over stk_expr in a folder of its own,
+# outside the repository:
 #   bash bench/expr.sh
 # For each text it prints the seconds of the whole run, lexing included, and whether an expression was read.
 set -eu
 . "$(dirname "$0")/program.sh"
 ending=$said
-build_program exprbench stk_base stk_lex stk_ctype stk_tree stk_lexeme stk_tree_layout stk_grammar stk_expr <<'END'
+build_program exprbench stk_base stk_lex stk_ctype stk_tree stk_nodes stk_grammar stk_expr <<'END'
 //! Reads the input as an expression.
 #![tactic(auto)]
 

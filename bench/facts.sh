@@ -1,15 +1,20 @@
 #!/bin/bash
 # Compares what is listed of functions of any width with files that say what it is.
 #   bash bench/facts.sh FOLDER [PROGRAM]
-# Each FILE.c of FOLDER is preprocessed C, and FILE.facts beside it says what is listed of its functions: of each a line
-# `function NAME: N nodes, B input bits, weight W`, and then a line for each key, condition and candidate, in order, behind two blanks.
-#   key KEY KIND                                    a key, as in the inputs of a record, with the name of its kind of integers, as `UChar`
-#   key KEY KIND size BYTES                         the address of an object, and its size; `kept` follows where its numbers are kept
+# Each FILE.c of FOLDER is preprocessed C, and FILE.facts beside it says what is listed of its functions: of each a
+# line `function NAME: N nodes, B input bits, weight W`, and then a line for each key, condition and candidate, in
+# order, behind two blanks.
+#   key KEY KIND                                    a key, as in the inputs of a record, with the name of its kind of
+#                                                   integers, as `UChar`
+#   key KEY KIND size BYTES                         the address of an object, and its size; `kept` follows where its
+#                                                   numbers are kept
 #   condition KIND at PLACE                         a condition; KIND is that of a record, as `signed overflow`
-#   candidate WHAT at PLACE                         a candidate; WHAT is that of a record, as `never entered` or `same as x < 0`
-# A PLACE is `FILE:LINE:COLUMN`; columns are compared, and lines aren't. Other lines say which units are skipped, and aren't compared: no function is to
-# be listed but those that the file has. The program that lists the functions is built as bench/functions.sh says, which takes its time; it's
-# left in the file PROGRAM, or the one that stands there is taken.
+#   candidate WHAT at PLACE                         a candidate; WHAT is that of a record, as `never entered` or `same
+#                                                   as x < 0`
+# A PLACE is `FILE:LINE:COLUMN`; columns are compared, and lines aren't. Other lines say which units are skipped, and
+# aren't compared: no function is to be listed but those that the file has. The program that lists the functions is
+# built as bench/functions.sh says, which takes its time; it's left in the file PROGRAM, or the one that stands there
+# is taken.
 set -eu
 . "$(dirname "$0")/functions.sh"
 python3 - "$program" "$folder" <<'END'

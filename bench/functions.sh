@@ -1,35 +1,36 @@
-# What the scripts share that compare what is said of single functions with files that say it; they source it with their words, FOLDER and maybe
-# PROGRAM. They build a small program in a folder of its own, outside the repository, from what the crates of tests list and spell, and leave
-# it in the file PROGRAM, or take the one that stands there: it is the same for all of them.
-#   PROGRAM < FILE.c                    writes five lines for each function that is defined and breaks no rule: its name, its sizes, its keys, its
-#                                       conditions and its candidates
-#   PROGRAM NAME NUMBER.. < FILE.c      writes two lines for the functions of this name: its keys, and the trace that it gives from these
-#                                       numbers of its keys, or `no run` where they aren't those of its keys
-# Then `program` and `folder` are set, and functions.py, the part of the comparing that is the same, stands where the shell is left.
+# What the scripts share that compare what is said of single functions with files that say it; they source it with
+# their words, FOLDER and maybe PROGRAM. They build a small program in a folder of its own, outside the repository,
+# from what the crate of tests of runs lists and spells, and leave it in the file PROGRAM, or take the one that stands
+# there: it is the same for all of them.
+#   PROGRAM < FILE.c                    writes five lines for each function that is defined and breaks no rule: its
+#                                       name, its sizes, its keys, its conditions and its candidates
+#   PROGRAM NAME NUMBER.. < FILE.c      writes two lines for the functions of this name: its keys, and the trace that
+#                                       it gives from these numbers of its keys, or `no run` where they aren't those
+#                                       of its keys
+# Then `program` and `folder` are set, and functions.py, the part of the comparing that is the same, stands where the
+# shell is left.
 folder=$(cd "${1:?a folder}" && pwd)
 kept=${2:+$(realpath "$2")}
 . "$(dirname "${BASH_SOURCE[0]}")/program.sh"
-# takes the modules of the crates of tests, with what is proved of them
+# takes the modules of the crate of tests, with what is proved of them
 take_modules() {
-    local into=$work/crates/functionsbench listed=$top/crates/stk_candidates_tests traced=$top/crates/stk_path_runs_tests
+    local into=$work/crates/functionsbench tests=$top/crates/stk_run_tests
     mkdir -p "$into/src"
-    cp "$listed"/src/{facts,finding,writing}.rt "$traced/src/runs.rt" "$into/src/"
-    cp "$traced/src/writing.rt" "$into/src/traces.rt"
-    cp -r "$listed/proofs" "$traced/proofs" "$traced/specs" "$into/"
-    sed -i 's/crate::writing/crate::traces/' "$into/src/runs.rt"
-    find "$into" -type f -exec sed -i -E 's/\bstk_(candidates|path_runs)_tests\b/functionsbench/' {} +
+    cp "$tests"/src/{facts,finding,listed_writing,runs,run_writing}.rt "$into/src/"
+    cp -r "$tests/proofs" "$tests/specs" "$into/"
+    find "$into" -type f -exec sed -i -E 's/\bstk_run_tests\b/functionsbench/' {} +
 }
 build_functions() {
     take_modules
-    build_program functionsbench $(below stk_candidates_tests stk_path_runs_tests) <<'END'
+    build_program functionsbench $(below stk_run_tests) <<'END'
 //! Lists what is known of the functions of the input, or runs one of them.
 #![tactic(auto)]
 
 mod facts;
 mod finding;
+mod listed_writing;
+mod run_writing;
 mod runs;
-mod traces;
-mod writing;
 
 ghost use Rattle.stk_tree.specs.View.{view_unit};
 ghost use Rattle.functionsbench.specs.Laid.{IsLaidOut};
@@ -42,9 +43,8 @@ use std::io::{self, Read, Write};
 use stk_accept::{Accepted, accept};
 use stk_base::{MOST_BYTES, NoMemory};
 use stk_ctype::Names;
-use stk_lex::{Places, lex};
+use stk_lex::{Places, cut, lex, skim};
 use stk_tree::Unit;
-use stk_units::{cut, skim};
 
 // What is asked of functions.
 #[derive(Drop)]
@@ -210,7 +210,8 @@ CONDITIONS = {
 def column(place):
     return place.rpartition(':')[2]
 
-# the lines of FILE.SUFFIX in blocks, each a line that begins with `first` and the lines behind it that begin with two blanks
+# the lines of FILE.SUFFIX in blocks, each a line that begins with `first` and the lines behind it that begin with two
+# blanks
 def blocks(file, suffix, first):
     found, within = [], False
     for line in open(file[:-2] + suffix, encoding='latin-1').read().split('\n'):

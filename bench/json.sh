@@ -1,6 +1,6 @@
 #!/bin/bash
-# Reads the JSON records of C files by Python's reader: each line is one object, its keys in the order of their bytes, and written without a
-# space; and there are as many objects of each kind as the text records have.
+# Reads the JSON records of C files by Python's reader: each line is one object, its keys in the order of their bytes,
+# and written without a space; and there are as many objects of each kind as the text records have.
 #   bash bench/json.sh [PROGRAM [FILE.c ..]]
 # With no program it takes ./stack, and with no file those of examples/.
 set -eu

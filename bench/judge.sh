@@ -1,8 +1,8 @@
 #!/bin/bash
 # Times the checker on functions of at most 16 input bits, all of whose input maps are run.
 #   bash bench/judge.sh [PROGRAM]
-# With no program it takes ./stack. For each text it prints the processor seconds of the whole run, the most memory in KiB, and the last
-# line of the records.
+# With no program it takes ./stack. For each text it prints the processor seconds of the whole run, the most memory in
+# KiB, and the last line of the records.
 set -eu
 . "$(dirname "$0")/checker.sh"
 measure() { # the name $1 of what stands in the file text

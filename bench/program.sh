@@ -1,14 +1,17 @@
-# What the benches share; they source it. `build_program NAME CRATE..` takes the program's main.rt from standard input, builds it over
-# these crates of the repository, which it takes in a folder of its own, and leaves the shell there, with the path in `program`. A CRATE may
-# be one of the kit too. `below CRATE..` prints the crates on which these stand, the kit's too, each behind those on which it stands. Where
-# `ending` is set, its text is added at the program's end: `said` is a `main` that prints what `answer(alloc, bytes)` says of the input.
-# `many TEXT SIZE` writes a text, given with Python's escapes, again and again, up to so many bytes.
-# `timed NAME WORD..` runs the program with these words, and prints the name, its processor seconds and what it wrote.
+# What the benches share; they source it. `build_program NAME CRATE..` takes the program's main.rt from standard
+# input, builds it over these crates of the repository, which it takes in a folder of its own, and leaves the shell
+# there, with the path in `program`. A CRATE may be one of the kit too. `below CRATE..` prints the crates on which
+# these stand, the kit's too, each behind those on which it stands. Where `ending` is set, its text is added at the
+# program's end: `said` is a `main` that prints what `answer(alloc, bytes)` says of the input. `many TEXT SIZE` writes
+# a text, given with Python's escapes, again and again, up to so many bytes. `timed NAME WORD..` runs the program with
+# these words, and prints the name, its processor seconds and what it wrote.
 top=$(cd "$(dirname "${BASH_SOURCE[0]}")/.." && pwd)
 work=$(mktemp -d)
 trap 'rm -rf "$work"' EXIT
 size=16777216
 ending=
+# (a bench that changes the copies of crates has a function of this name)
+prepare() { :; }
 said='
 fn main(rt: HostRuntime) -> io::Result<()> {
     let mut bytes = Vec::new(rt.alloc());
@@ -28,6 +31,7 @@ build_program() {
         grep "^$crate:" "$top/crates.txt" >> "$work/crates.txt"
     done
     echo "$name: $*" >> "$work/crates.txt"
+    prepare
     echo 'Handles allowed: none.' > "$work/HANDLES"
     { cat; printf '%s' "$ending"; } > "$work/crates/$name/src/main.rt"
     cd "$work/crates/$name"

@@ -1,10 +1,11 @@
 #!/bin/bash
-# Times propagation over two watched literals: a chain of 1,000,000 clauses by which each literal forces the next one, and random clauses of
-# three literals over 20,000 variables, four clauses a variable, where variables are assumed in turn, with random signs, as far as a clause
-# with only false literals, 200 times. It builds a small program over stk_propagate in a folder of its own, outside the repository:
+# Times propagation over two watched literals: a chain of 1,000,000 clauses by which each literal forces the next one,
+# and random clauses of three literals over 20,000 variables, four clauses a variable, where variables are assumed in
+# turn, with random signs, as far as a clause with only false literals, 200 times. It builds a small program over
+# stk_propagate in a folder of its own, outside the repository:
 #   bash bench/propagate.sh
-# It prints the processor seconds of the program that only makes the clauses and the trail, and of the one that propagates too, and how
-# many literals it made true.
+# It prints the processor seconds of the program that only makes the clauses and the trail, and of the one that
+# propagates too, and how many literals it made true.
 set -eu
 . "$(dirname "$0")/program.sh"
 invariant() { # the function $1, its loop $2, and what the loop keeps
@@ -20,7 +21,7 @@ END
 }
 invariant round variable 'Fits l.trail l.store' l.vars
 invariant rounds turn 'Fits l.trail l.store' l.vars
-build_program propagatebench stk_base stk_clauses stk_assignment stk_chains stk_propagate <<'END'
+build_program propagatebench stk_base stk_clauses stk_propagate <<'END'
 //! Propagates.
 #![tactic(auto)]
 ghost use Rattle.std.specs.Prelude.{◌≡◌, ◌*◌, ◌<◌, List};

@@ -1,8 +1,10 @@
 #!/bin/bash
-# Times rewriting. It builds a small program over stk_terms and stk_rewrite in a folder of its own, outside the repository:
+# Times rewriting. It builds a small program over stk_terms and stk_rewrite in a folder of its own, outside the
+# repository:
 #   bash bench/rewrite.sh
-# The program makes random terms over three inputs, each over inputs and some of the terms just before, sums them up so that all are parts of one, and
-# rewrites that one. For each count it prints the processor seconds, the parts with their cost before and after, and the seconds of the same with the terms alone and no rewriting.
+# The program makes random terms over three inputs, each over inputs and some of the terms just before, sums them up
+# so that all are parts of one, and rewrites that one. For each count it prints the processor seconds, the parts with
+# their cost before and after, and the seconds of the same with the terms alone and no rewriting.
 set -eu
 . "$(dirname "$0")/program.sh"
 build_program rewritebench stk_base stk_terms stk_rewrite <<'END'

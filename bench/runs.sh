@@ -1,17 +1,18 @@
 #!/bin/bash
 # Compares path runs of functions of any width with files that say what they are.
 #   bash bench/runs.sh FOLDER [PROGRAM]
-# Each FILE.c of FOLDER is preprocessed C, and FILE.runs beside it says runs of its functions. A run is a line `run NAME: KEY=NUMBER ..`, the
-# function and a number for each of its keys in order, or `none` where it has no key, and then its trace: a line for each entry, behind two
-# blanks.
+# Each FILE.c of FOLDER is preprocessed C, and FILE.runs beside it says runs of its functions. A run is a line `run
+# NAME: KEY=NUMBER ..`, the function and a number for each of its keys in order, or `none` where it has no key, and
+# then its trace: a line for each entry, behind two blanks.
 #   ub KIND at PLACE (node N)                       a violated condition; KIND is that of a record, as `signed overflow`
 #   enter PLACE (node N)                            the branch, body or operand at this node is entered
-#   seen TRUTH at PLACE (node N)                    the comparison or test at this node was `true` or `false`; of a comparison that has a
+#   seen TRUTH at PLACE (node N)                    the comparison or test at this node was `true` or `false`; of a
+#                                                   comparison that has a
 #                                                   replacement, `, replacement TRUTH` follows
 #   nothing                                         the only line of a trace that has no entry
-# A PLACE is `FILE:LINE:COLUMN`, and N is the number of the node in its unit. Keys, numbers of nodes and columns are compared, and lines of places
-# aren't. The program that runs the functions is built as bench/functions.sh says, which takes its time; it's left in the file PROGRAM, or
-# the one that stands there is taken.
+# A PLACE is `FILE:LINE:COLUMN`, and N is the number of the node in its unit. Keys, numbers of nodes and columns are
+# compared, and lines of places aren't. The program that runs the functions is built as bench/functions.sh says, which
+# takes its time; it's left in the file PROGRAM, or the one that stands there is taken.
 set -eu
 . "$(dirname "$0")/functions.sh"
 python3 - "$program" "$folder" <<'END'

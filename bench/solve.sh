@@ -1,16 +1,18 @@
 #!/bin/bash
-# Times the search for values or a derivation beside minisat (Debian's package `minisat`), on the same clauses in one run: random clauses of
-# three literals at 4.26 clauses a variable, 20 lists each of 150 and of 200 variables; 8 and 9 pigeons in 7 and 8 holes; whether two
-# multipliers of 5, 6 and 8 bits and two adders of 64 bits differ where their operands are exchanged; and the factors of 655,957. It builds a
-# small program over stk_solver in a folder of its own, outside the repository:
+# Times the search for values or a derivation beside minisat (Debian's package `minisat`), on the same clauses in one
+# run: random clauses of three literals at 4.26 clauses a variable, 20 lists each of 150 and of 200 variables; 8 and 9
+# pigeons in 7 and 8 holes; whether two multipliers of 5, 6 and 8 bits and two adders of 64 bits differ where their
+# operands are exchanged; and the factors of 655,957. It builds a small program over stk_solver in a folder of its
+# own, outside the repository:
 #   bash bench/solve.sh
-# It prints a row for each kind: processor seconds, and how many clauses were learnt for the refutations (minisat: its conflicts, and in
-# brackets those of all lists, as it tells them of satisfied lists too). Each refutation is passed to `check`, in the time that is shown. The
-# sum leaves out rows in which one of the two needs more than 200,000 conflicts.
+# It prints a row for each kind: processor seconds, and how many clauses were learnt for the refutations (minisat: its
+# conflicts, and in brackets those of all lists, as it tells them of satisfied lists too). Each refutation is passed
+# to `check`, in the time that is shown. The sum leaves out rows in which one of the two needs more than 200,000
+# conflicts.
 set -eu
 command -v minisat > /dev/null || { echo 'minisat is missing: apt-get install minisat'; exit 1; }
 . "$(dirname "$0")/program.sh"
-build_program solvebench stk_base stk_bits stk_clauses stk_check stk_assignment stk_chains stk_propagate stk_analysis stk_activity stk_solver <<'END'
+build_program solvebench stk_base stk_clauses stk_check stk_propagate stk_solver <<'END'
 //! Solves clauses in DIMACS form.
 #![tactic(auto)]
 

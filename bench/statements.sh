@@ -2,11 +2,11 @@
 # Times the reader of units on large texts. It builds a small program over stk_stmt in a folder of its own, outside the
 # repository:
 #   bash bench/statements.sh
-# For each text it prints the processor seconds of the whole run, lexing and cutting included, how many units there are and how many of
-# them were read. No word is a typedef name.
+# For each text it prints the processor seconds of the whole run, lexing and cutting included, how many units there
+# are and how many of them were read. No word is a typedef name.
 set -eu
 . "$(dirname "$0")/program.sh"
-build_program stmtbench stk_base stk_lex stk_units stk_ctype stk_tree stk_lexeme stk_tree_layout stk_grammar stk_expr stk_decl_grammar stk_decl stk_stmt_grammar stk_stmt <<'PROGRAM'
+build_program stmtbench stk_base stk_lex stk_ctype stk_tree stk_nodes stk_grammar stk_expr stk_decl stk_stmt <<'PROGRAM'
 //! Reads the units of the input.
 #![tactic(auto)]
 
@@ -15,9 +15,8 @@ use std::io::{self, Read, Write};
 use stk_base::NoMemory;
 use stk_ctype::Names;
 use stk_expr::Parse;
-use stk_lex::{Token, lex};
+use stk_lex::{Piece, Skimmed, Token, cut, lex, skim};
 use stk_stmt::unit;
-use stk_units::{Piece, Skimmed, cut, skim};
 
 /// Whether a piece of these tokens is read as a unit.
 fn is_read(

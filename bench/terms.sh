@@ -1,8 +1,9 @@
 #!/bin/bash
 # Times the store of terms. It builds a small program over stk_terms in a folder of its own, outside the repository:
 #   bash bench/terms.sh
-# The program makes terms over four inputs and values the last one: a chain of sums, differences and exclusive ors of the
-# two terms before. For each count it prints the processor seconds of the whole run, the greatest memory that it held, and the bytes a term.
+# The program makes terms over four inputs and values the last one: a chain of sums, differences and exclusive ors of
+# the two terms before. For each count it prints the processor seconds of the whole run, the greatest memory that it
+# held, and the bytes a term.
 set -eu
 . "$(dirname "$0")/program.sh"
 build_program termsbench stk_base stk_terms <<'END'

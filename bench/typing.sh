@@ -1,8 +1,8 @@
 #!/bin/bash
 # Times the checker on functions whose bodies it types and doesn't judge: large bodies, and many functions.
 #   bash bench/typing.sh [PROGRAM]
-# With no program it takes ./stack. For each text it prints the processor seconds of the whole run, reading and declaring included, and
-# the last line of the records.
+# With no program it takes ./stack. For each text it prints the processor seconds of the whole run, reading and
+# declaring included, and the last line of the records.
 set -eu
 . "$(dirname "$0")/checker.sh"
 measure() { # the name $1 of what stands in the file text

@@ -1,18 +1,17 @@
 #!/bin/bash
-# Times skimming and cutting on large texts. It builds a small program over stk_units in a folder of its own, outside the
+# Times skimming and cutting on large texts. It builds a small program over stk_lex in a folder of its own, outside the
 # repository:
 #   bash bench/units.sh
 # For each text it prints the seconds and the memory at most of the whole run, reading and lexing included, and what the
 # program prints: the tokens, those that are kept, the notes and the units.
 set -eu
 . "$(dirname "$0")/program.sh"
-build_program unitsbench stk_base stk_lex stk_units <<'END'
+build_program unitsbench stk_base stk_lex <<'END'
 //! Counts the units of the input.
 #![tactic(auto)]
 
 use std::io::{self, Read, Write};
-use stk_units::{cut, skim};
-use stk_lex::lex;
+use stk_lex::{cut, lex, skim};
 
 fn main(rt: HostRuntime) -> io::Result<()> {
     let mut bytes = Vec::new(rt.alloc());

@@ -1,4 +1,4 @@
-/* Both tests for an overflow rely on what isn't defined: a compiler may take the first for false and the second for true. */
+/* Both tests for an overflow rely on what is not defined: a compiler may take one for false and one for true. */
 int wraps(unsigned char x) {
     int y = 2147483647 - x;
     if (y + 100 < y) return 1;

@@ -1,9 +1,9 @@
 -- What an answer says of the outcome.
 use Rattle.std.proofs.Common.{◌≡◌, ◌∙◌, ℕ, List, Ok, Err, refl, sym, ap}
-use Rattle.stk_facts.specs.declared.untyped.Untyped.TheVariants.{Rule}
+use Rattle.stk_type_rules.specs.declared.untyped.Untyped.TheVariants.{Rule}
 use Rattle.stk_ctype.specs.declared.symbol.NameEntry.{NameEntry}
-use Rattle.stk_facts.specs.Facts.{Fact}
-use Rattle.stk_facts.specs.Outcome.{Outcome, Good, Refused}
+use Rattle.stk_type_rules.specs.Facts.{Fact}
+use Rattle.stk_type_rules.specs.Outcome.{Outcome, Good, Refused}
 use Rattle.stk_declare.specs.Answers.{Answers}
 
 -- an outcome has a value that is shown so

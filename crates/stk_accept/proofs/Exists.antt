@@ -4,19 +4,19 @@ use Rattle.std.proofs.lemmas.Bool.{false≢true}
 use Rattle.stk_base.specs.declared.span.Span.{Span}
 use Rattle.stk_ctype.specs.declared.symbol.NameEntry.{NameEntry}
 use Rattle.stk_ctype.specs.Named.{named}
-use Rattle.stk_facts.specs.Outcome.{Outcome, Good, Refused}
+use Rattle.stk_type_rules.specs.Outcome.{Outcome, Good, Refused}
 use Rattle.stk_lex.specs.declared.token.Token.{Token}
-use Rattle.stk_lexeme.specs.Lexemes.{lexemes_of, spans_of}
+use Rattle.stk_grammar.specs.Lexemes.{lexemes_of, spans_of}
 use Rattle.stk_tree.specs.declared.fixed.Lexeme.{Lexeme}
 use Rattle.stk_tree.specs.Syntax.{UnitTree}
 use Rattle.stk_tree.specs.Syntax as s
 use Rattle.stk_tree.specs.Layout.{unit_laid_out}
 use Rattle.stk_tree.specs.Unlaid.{unlaid_unit}
-use Rattle.stk_tree_nodes.specs.Rows.{unit_row}
-use Rattle.stk_stmt_grammar.specs.Reading.{unit_at}
-use Rattle.stk_stmt_grammar.specs.Units.{IsUnit}
-use Rattle.stk_stmt_grammar.proofs.LaidUnits.{laid_unlaid_unit, laid_is_unit}
-use Rattle.stk_stmt_grammar.proofs.Laws.{found_unlaid, none_of_none, unit_of_found, one_unit}
+use Rattle.stk_nodes.specs.Rows.{unit_row}
+use Rattle.stk_grammar.specs.StatementReading.{unit_at}
+use Rattle.stk_grammar.specs.Units.{IsUnit}
+use Rattle.stk_grammar.proofs.LaidUnits.{laid_unlaid_unit, laid_is_unit}
+use Rattle.stk_grammar.proofs.StatementLaws.{found_unlaid, none_of_none, unit_of_found, one_unit}
 use Rattle.stk_stmt.specs.Heads.{ended_lexemes, ended_spans, is_declaration}
 use Rattle.stk_declare.specs.Declaring.{unit_declared}
 use Rattle.stk_accept.specs.declared.accepting.Refusal.{Refusal}

@@ -2,17 +2,17 @@
 use Rattle.std.specs.Prelude.{◌≡◌, ℕ, Bool, List, take, Option, Some, None, slice_get}
 use Rattle.stk_ctype.specs.declared.symbol.NameEntry.{NameEntry}
 use Rattle.stk_ctype.specs.Named.{named}
-use Rattle.stk_facts.specs.Facts.{Fact}
-use Rattle.stk_facts.specs.Outcome.{Good, Refused}
+use Rattle.stk_type_rules.specs.Facts.{Fact}
+use Rattle.stk_type_rules.specs.Outcome.{Good, Refused}
 use Rattle.stk_lex.specs.declared.token.Token.{Token}
-use Rattle.stk_lexeme.specs.Lexemes.{lexemes_of, spans_of}
+use Rattle.stk_grammar.specs.Lexemes.{lexemes_of, spans_of}
 use Rattle.stk_tree.specs.declared.node.Node.{Node}
 use Rattle.stk_tree.specs.Syntax.{UnitTree}
 use Rattle.stk_tree.specs.Layout.{unit_laid_out}
 use Rattle.stk_tree.specs.Unlaid.{unlaid_unit}
 use Rattle.stk_tree.specs.View.{view_unit}
-use Rattle.stk_tree_nodes.specs.Rows.{unit_row}
-use Rattle.stk_stmt_grammar.specs.Units.{IsUnit}
+use Rattle.stk_nodes.specs.Rows.{unit_row}
+use Rattle.stk_grammar.specs.Units.{IsUnit}
 use Rattle.stk_stmt.specs.Heads.{IsHead, ended_spans}
 use Rattle.stk_declare.specs.Declaring.{unit_declared}
 use Rattle.stk_accept.specs.declared.accepting.Refusal.{Refusal}
@@ -52,7 +52,8 @@ pub record Accepts (bytes : List ℕ) (mark : Bool) (es : List NameEntry) (token
   pub facts : List Fact
   pub declared : unit_declared bytes mark es u ≡ Good now facts
 
--- a unit is refused by a rule: its tree has a first node that a rule refuses, by this lowest rule, and the node begins here
+-- a unit is refused by a rule: its tree has a first node that a rule refuses, by this lowest rule, and the node begins
+-- here
 pub record BreaksRule (bytes : List ℕ) (mark : Bool) (es : List NameEntry) (tokens : List Token) (at rule : ℕ) : Type 0 where
   pub unit : UnitTree
   pub tree : IsTree bytes es tokens unit
@@ -65,13 +66,15 @@ abbrev pub IsRefusedFor : List ℕ → Bool → List NameEntry → List Token �
 IsRefusedFor bytes mark es tokens refusal.NoTree = (u : UnitTree) → IsUnitOf bytes es tokens u → ⊥
 IsRefusedFor bytes mark es tokens (refusal.Rule at rule) = BreaksRule bytes mark es tokens at rule
 
--- The names that the tokens before the body of a function leave in force where the unit isn't accepted: what they declare as a declaration, where that is accepted, and else those before.
+-- The names that the tokens before the body of a function leave in force where the unit isn't accepted: what they
+-- declare as a declaration, where that is accepted, and else those before.
 pub data LeavesHead (bytes : List ℕ) (mark : Bool) (es : List NameEntry) (tokens : List Token) : List NameEntry → Type 0 where
   no_head : ((u : UnitTree) → IsHeadOf bytes es tokens u → ⊥) → LeavesHead bytes mark es tokens es
   refused_head : (u : UnitTree) (node rule : ℕ) → IsHeadTree bytes es tokens u → unit_declared bytes mark es u ≡ Refused node rule → LeavesHead bytes mark es tokens es
   declared_head : (u : UnitTree) (now : List NameEntry) (facts : List Fact) → IsHeadTree bytes es tokens u → unit_declared bytes mark es u ≡ Good now facts → LeavesHead bytes mark es tokens now
 
--- the names that a unit leaves in force that isn't accepted, where so many of its tokens stand before a body, or it has none
+-- the names that a unit leaves in force that isn't accepted, where so many of its tokens stand before a body, or it has
+-- none
 abbrev pub Leaves : List ℕ → Bool → List NameEntry → List Token → Option ℕ → List NameEntry → Type 0
 Leaves bytes mark es tokens None now = now ≡ es
 Leaves bytes mark es tokens (Some body) now = LeavesHead bytes mark es (take body tokens) now

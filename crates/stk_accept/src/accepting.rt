@@ -4,7 +4,7 @@ ghost use Rattle.std.specs.Prelude.{◌≡◌, ◌≤◌, None, IfOk, IfSome, On
 ghost use Rattle.stk_base.specs.Limits.{most_bytes};
 ghost use Rattle.stk_tree.specs.Syntax.{UnitTree};
 ghost use Rattle.stk_tree.specs.View.{view_unit};
-ghost use Rattle.stk_tree_nodes.specs.Rows.{unit_row};
+ghost use Rattle.stk_nodes.specs.Rows.{unit_row};
 ghost use Rattle.stk_accept.specs.Accepting.{beginning, IsUnitOf, IsHeadOf, IsTree, IsHeadTree, IsAnswered, Leaves, LeavesHead};
 
 use std::alloc::Global;
@@ -12,14 +12,14 @@ use stk_base::{Boxed, NoMemory};
 use stk_ctype::Names;
 use stk_declare::declare;
 use stk_expr::Parse;
-use stk_facts::Untyped;
 use stk_lex::Token;
+use stk_nodes::unit_nodes;
 use stk_stmt::{head, unit};
 use stk_tree::{Node, Unit};
-use stk_tree_nodes::unit_nodes;
+use stk_type_rules::Untyped;
 
-/// Why a unit isn't accepted: no tree is its tokens; or a rule, by its number, refuses the node that begins at the byte `at`, the first
-/// one that any rule refuses, by the lowest rule that does.
+/// Why a unit isn't accepted: no tree is its tokens; or a rule, by its number, refuses the node that begins at the byte
+/// `at`, the first one that any rule refuses, by the lowest rule that does.
 #[derive(Clone, Copy, Debug, PartialEq, Eq)]
 pub enum Refusal {
     NoTree,
@@ -43,8 +43,7 @@ fn beginning(nodes: &[Node], number: u32) -> u32
     }
 }
 
-/// The byte at which the node of this number begins in a unit that is laid out; 0 where there is no such node. The only refusal is want
-/// of memory.
+/// The byte at which the node of this number begins in a unit that is laid out; 0 where there is no such node.
 pub fn place_of(alloc: Global, unit: &Unit, number: u32) -> Result<u32, NoMemory>
     ensures { IfOk result (λ at. at ≡ beginning (unit_row (view_unit unit.now)) number) }
 {
@@ -131,13 +130,14 @@ fn leave(
     }
 }
 
-/// Reads a unit of the input and declares what it declares (C11 6.7, 6.9). `tokens` are those of the unit, at most 16,777,216;
-/// `body` says how many of them stand before the body of a function, where one was found; `mark` that the unit is marked as one of
-/// functions that don't return.
+/// Reads a unit of the input and declares what it declares (C11 6.7, 6.9). `tokens` are those of the unit, at most
+/// 16,777,216; `body` says how many of them stand before the body of a function, where one was found; `mark` that
+/// the unit is marked as one of functions that don't return.
 ///
-/// `Tree` is the unit, which is accepted, and the names are those that it leaves: what a declaration declares, or the head of a
-/// function. `Refused` says why it isn't accepted. The names then stay as they were, but for a unit with a body: what the tokens
-/// before it declare as a declaration holds where that is accepted. The only other answer is want of memory.
+/// `Tree` is the unit, which is accepted, and the names are those that it leaves: what a declaration declares, or the
+/// head of a function. `Refused` says why it isn't accepted. The names then stay as they were, but for a unit with a
+/// body: what the tokens before it declare as a declaration holds where that is accepted. The only other answer is want
+/// of memory.
 pub fn accept(
     alloc: Global,
     bytes: &[u8],

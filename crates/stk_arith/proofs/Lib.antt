@@ -6,3 +6,5 @@ pub mod Shifting
 pub mod LeftShifts
 pub mod Products
 pub mod Quotients
+pub mod Steps
+pub mod BitParts

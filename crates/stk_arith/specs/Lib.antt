@@ -1,3 +1,4 @@
 pub mod Rows
 pub mod Shifts
 pub mod Division
+pub mod Words

@@ -10,7 +10,7 @@ use stk_base::NoMemory;
 use stk_gates::{Edge, Gates};
 
 /// A row of one edge, many times.
-pub fn filled(alloc: Global, edge: Edge, count: usize) -> Result<Vec<Edge>, NoMemory>
+pub(crate) fn filled(alloc: Global, edge: Edge, count: usize) -> Result<Vec<Edge>, NoMemory>
     ensures { IfOk result (λ r. r.items ≡ replicate count edge) }
 {
     Ok(vec![in alloc; edge; count]?)
@@ -63,7 +63,7 @@ pub fn select(
 
 /// The row where an edge is true, and else 0.
 #[tactic(auto, using(crate::proofs::Numbers::kept))]
-pub fn mask(
+pub(crate) fn mask(
     alloc: Global,
     gates: &mut Gates,
     test: Edge,

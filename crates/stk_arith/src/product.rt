@@ -42,7 +42,8 @@ fn add_shifted(
     Ok(all)
 }
 
-/// The product of two rows in as many bits: what lies beyond them is dropped. Row `i` is added on its last places alone.
+/// The product of two rows in as many bits: what lies beyond them is dropped. Row `i` is added on its last places
+/// alone.
 #[tactic(auto, using(crate::proofs::Numbers::parts_of_rows))]
 pub fn multiply(
     alloc: Global,

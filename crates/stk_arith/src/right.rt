@@ -76,7 +76,8 @@ fn filling_right(
     Ok(List::from_vec(all))
 }
 
-/// The first row shifted to the right by the second row's number, filling with 0. A count of at least the width gives 0.
+/// The first row shifted to the right by the second row's number, filling with 0. A count of at least the width gives
+/// 0.
 #[tactic(auto, using(crate::proofs::Numbers::parts_of_rows))]
 pub fn shift_right(
     alloc: Global,

@@ -10,7 +10,7 @@ use stk_base::NoMemory;
 use stk_gates::{Edge, Gates};
 
 /// How many bits of a count shift a row of this width by less than it.
-pub fn stages(width: usize) -> usize
+pub(crate) fn stages(width: usize) -> usize
     requires { width ≤ 128 }
     ensures covers { width ≤ 2 ^ result }
     ensures below { 0 < result → 2 ^ (result - 1) < width }
@@ -38,7 +38,7 @@ pub fn stages(width: usize) -> usize
 
 /// The row, or one edge in each place where the count is too large.
 #[tactic(auto, using(crate::proofs::Numbers::parts_of_rows))]
-pub fn finished(
+pub(crate) fn finished(
     alloc: Global,
     gates: &mut Gates,
     over: Edge,

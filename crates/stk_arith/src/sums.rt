@@ -11,7 +11,7 @@ use stk_gates::{Edge, Gates};
 
 /// The sum of one place, and the carry to the next.
 #[derive(Clone, Copy)]
-struct Place {
+struct PlaceSum {
     sum: Edge,
     carry: Edge,
 }
@@ -24,7 +24,7 @@ pub struct Sum {
 }
 
 /// Adds one place.
-fn add_place(gates: &mut Gates, a: Edge, b: Edge, carry: Edge) -> Result<Place, NoMemory>
+fn add_place(gates: &mut Gates, a: Edge, b: Edge, carry: Edge) -> Result<PlaceSum, NoMemory>
     requires a { IsEdge gates.old a }
     requires b { IsEdge gates.old b }
     requires carry { IsEdge gates.old carry }
@@ -40,12 +40,12 @@ fn add_place(gates: &mut Gates, a: Edge, b: Edge, carry: Edge) -> Result<Place, 
     let both = gates.and(a, b)?;
     let carried = gates.and(carry, odd)?;
     let next = gates.or(both, carried)?;
-    Ok(Place { sum, carry: next })
+    Ok(PlaceSum { sum, carry: next })
 }
 
 /// The sum of two rows and a carry.
 #[tactic(auto, using(crate::proofs::Numbers::kept))]
-pub fn add_rows(
+pub(crate) fn add_rows(
     alloc: Global,
     gates: &mut Gates,
     a: &[Edge],
@@ -93,7 +93,7 @@ pub fn inverted_row(alloc: Global, row: &[Edge]) -> Result<Vec<Edge>, NoMemory>
 
 /// The difference of two rows in as many places. The carry says that nothing was borrowed.
 #[tactic(auto, using(crate::proofs::Numbers::kept))]
-pub fn subtract_rows(
+pub(crate) fn subtract_rows(
     alloc: Global,
     gates: &mut Gates,
     a: &[Edge],
@@ -151,7 +151,12 @@ pub fn sub(alloc: Global, gates: &mut Gates, a: &[Edge], b: &[Edge]) -> Result<L
 
 /// Whether the first row's number is the smaller one, without a sign.
 #[tactic(auto, using(crate::proofs::Numbers::kept))]
-pub fn below(alloc: Global, gates: &mut Gates, a: &[Edge], b: &[Edge]) -> Result<Edge, NoMemory>
+pub(crate) fn below(
+    alloc: Global,
+    gates: &mut Gates,
+    a: &[Edge],
+    b: &[Edge],
+) -> Result<Edge, NoMemory>
     requires same { length b.now ≡ length a.now }
     requires a { AreEdges gates.old a.now }
     requires b { AreEdges gates.old b.now }

@@ -63,7 +63,8 @@ not_too_large (Err e) memory large = cc
 pub stays_near : (items piece : List ℕ) (count limit size : ℕ) → length items ≤ limit → count ≤ size → length (items ++ take count piece) ≤ limit + size
 stays_near items piece count limit size within fits = simp (length-append, length-take) (omega (arith, within, fits))
 
--- n bytes copied from a place of a vector to the front of a piece, what stands behind that place in the piece, and what is left of the vector
+-- n bytes copied from a place of a vector to the front of a piece, what stands behind that place in the piece, and what
+-- is left of the vector
 pub copied : (n at : ℕ) (bytes whole left new tail : List ℕ) → left ≡ drop at bytes → whole ≡ bytes → n ≤ length (take (length whole - at) (drop at whole))
     → new ≡ take n (take (length whole - at) (drop at whole)) → left ≡ take n (new ++ tail) ++ drop (at + n) bytes
 copied n at bytes whole left new tail here same fits copy =

@@ -1,7 +1,8 @@
 -- What a source and a sink in memory hold, and how their calls change that.
 use Rattle.std.specs.Prelude.{ℕ, ◌+◌, ◌-◌, ◌^◌, min, List, ◌++◌, drop, length}
 
--- what a source has left, how many bytes it gives at most in a call, which calls fail, and how many were made and failed
+-- what a source has left, how many bytes it gives at most in a call, which calls fail, and how many were made and
+-- failed
 pub record SourceState : Type 0 where
   pub left : List ℕ
   pub most : ℕ
@@ -9,7 +10,8 @@ pub record SourceState : Type 0 where
   pub calls : ℕ
   pub faults : ℕ
 
--- what a sink took and how many of that it flushed, how many bytes it takes at most in a call, and the same of its calls
+-- what a sink took and how many of that it flushed, how many bytes it takes at most in a call, and the same of its
+-- calls
 pub record SinkState : Type 0 where
   pub taken : List ℕ
   pub flushed : ℕ

@@ -1,7 +1,8 @@
-//! What every crate of the checker stands on: lists and boxes that contracts see as what they hold, stretches of the
-//! input, how a run ends, and the outside as sources and sinks.
+//! What every crate of the checker stands on: lists, boxes and bits that contracts see as what they hold, stretches of
+//! the input, how a run ends, and the outside as sources and sinks.
 #![tactic(auto)]
 
+mod bits;
 mod boxed;
 mod failures;
 mod limits;
@@ -14,6 +15,7 @@ mod span;
 mod status;
 mod token;
 
+pub use bits::Bits;
 pub use boxed::Boxed;
 pub use failures::{Failed, NoMemory};
 pub use limits::MOST_BYTES;

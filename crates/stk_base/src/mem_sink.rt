@@ -41,8 +41,8 @@ impl Model for MemSink {
 }
 
 impl MemSink {
-    /// An empty sink, which takes at most `most` bytes in a call, at least 1. It fails the calls of `write` and `flush`,
-    /// counted together from 0, whose numbers are in `failing`, and a `write` that finds no memory.
+    /// An empty sink, which takes at most `most` bytes in a call, at least 1. It fails the calls of `write` and
+    /// `flush`, counted together from 0, whose numbers are in `failing`, and a `write` that finds no memory.
     pub fn new(alloc: Global, most: usize, failing: Vec<u64>) -> MemSink
         requires { 1 ≤ most }
         ensures { result ≡ record {

@@ -28,7 +28,8 @@ pub trait Sink {
         ensures flushed { flushed self.new ≡ flushed self.old }
         ensures cause { HasCause (faults self.old) (faults self.new) result };
 
-    /// Flushes all that the sink took. `Failed` comes exactly where the sink counted a fault, and leaves what is flushed.
+    /// Flushes all that the sink took. `Failed` comes exactly where the sink counted a fault, and leaves what is
+    /// flushed.
     fn flush(&mut self) -> Result<(), Failed>
         ensures taken { taken self.new ≡ taken self.old }
         ensures flushed { OnOk result (IsFlushed (taken self.new) (flushed self.new)) }

@@ -13,7 +13,8 @@ pub trait Source {
     /// The bytes that are still to come, where the source tells them.
     ghost left: { Self → Option (List ℕ) };
 
-    /// How often the source has failed, a number that doesn't fall. A source that counts in a u64 stays at its last value.
+    /// How often the source has failed, a number that doesn't fall. A source that counts in a u64 stays at its last
+    /// value.
     ghost faults: { Self → ℕ };
 
     /// Reads up to `piece.len()` bytes into the front of `piece`, and answers how many. 0 for a piece that isn't empty
@@ -58,12 +59,13 @@ impl From<Failed> for ReadAll {
 pub const READ_PIECE: usize = 16_384;
 
 /// Reads a source to its end, if it has at most `limit` bytes. Ok is all that was left, in order, and nothing is left
-/// afterwards. After any other answer what is left is a suffix of what was left, and `came` below is what lies before it.
+/// afterwards. After any other answer what is left is a suffix of what was left, and `came` below is what lies before
+/// it.
 ///
 /// `TooLarge` comes exactly where more than `limit` bytes came before the end and before any failed call; it then stops
 /// at once, so that at most one piece more had come. `ReadFault` comes only where the source counted a fault, and no
-/// other answer where it did: the first failed call is the last one. `NoMemory` comes where an allocation was refused:
-/// then at most `limit` bytes had come. `limit` is below 2 to the 32.
+/// other answer where it did: the first failed call is the last one. Before `NoMemory` at most `limit` bytes had come.
+/// `limit` is below 2 to the 32.
 pub fn read_all<S: Source>(alloc: Global, source: &mut S, limit: u64) -> Result<Vec<u8>, ReadAll>
     requires { limit < 2 ^ 32 }
     ensures whole { IfOk result (λ bytes. Came (S.left source.old) (S.left source.new) bytes.items) }

@@ -10,7 +10,7 @@ use Rattle.stk_gates.proofs.Edges.{edge_value-plain}
 use Rattle.stk_gates.proofs.Decided.{every_input}
 use Rattle.stk_arith.specs.Rows.{bit, number}
 use Rattle.stk_arith.proofs.Numbers.{number-below}
-use Rattle.stk_bitwise.specs.Words.{row_from}
+use Rattle.stk_arith.specs.Words.{row_from}
 use Rattle.stk_terms.specs.Fitting.{AreResidues}
 use Rattle.stk_terms.specs.Values.{number_at}
 use Rattle.stk_blast.specs.Inputs.{residues_from}

@@ -5,7 +5,7 @@ use Rattle.std.proofs.lemmas.List.Sums.{sum_by-cons}
 use Rattle.stk_gates.specs.declared.edge.Edge.{Edge}
 use Rattle.stk_gates.specs.Tables.{Table, IsEdge, gate_count}
 use Rattle.stk_arith.specs.Rows.{number, AreEdges}
-use Rattle.stk_bitwise.specs.Words.{row_from}
+use Rattle.stk_arith.specs.Words.{row_from}
 use Rattle.stk_blast.specs.Inputs.{residues_from}
 
 pub length-row_from : (first n : ℕ) → length (row_from first n) ≡ n

@@ -11,7 +11,7 @@ use Rattle.stk_arith.specs.Rows.{bit, number, signed_place, is_less}
 use Rattle.stk_arith.specs.Shifts.{shifted_left, is_negative, shifted_right}
 use Rattle.stk_arith.proofs.LeftShifts.{shifted_left-over}
 use Rattle.stk_arith.proofs.Shifting.{complement_shift}
-use Rattle.stk_bitwise.specs.Words.{extended as row_extended}
+use Rattle.stk_arith.specs.Words.{extended as row_extended}
 use Rattle.stk_terms.specs.Values.{bit as term_bit, is_positive, signed, extended, sign_bits}
 
 -- the number of a row of one edge

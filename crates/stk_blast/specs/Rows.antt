@@ -7,7 +7,8 @@ use Rattle.stk_terms.specs.Terms.{Stored}
 use Rattle.stk_terms.specs.Values.{width_at, number_at}
 use Rattle.stk_blast.specs.Inputs.{residues_of}
 
--- the row has the width of the term at the place i, its edges are of the table, and its number is the term's for every input
+-- the row has the width of the term at the place i, its edges are of the table, and its number is the term's for every
+-- input
 pub record IsRow (t : Table) (s : Stored) (i : ℕ) (row : List Edge) : Type 0 where
   pub long : length row ≡ width_at s i
   pub edges : AreEdges t row

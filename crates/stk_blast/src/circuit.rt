@@ -82,9 +82,9 @@ fn row_where(
     Ok(List::empty(alloc))
 }
 
-/// A row whose number is the term's for every input, where the gates of the inputs are one for each bit of the terms' inputs,
-/// in their order, the least bit first. Older edges keep their meanings, and at most as many gates come in as the term costs,
-/// also after `NoMemory`. It goes over the terms up to this one once.
+/// A row whose number is the term's for every input, where the gates of the inputs are one for each bit of the terms'
+/// inputs, in their order, the least bit first. Older edges keep their meanings, and at most as many gates come in as
+/// the term costs, also after `NoMemory`. It goes over the terms up to this one once.
 pub fn blast(
     alloc: Global,
     terms: &Terms,

@@ -6,9 +6,8 @@ ghost use Rattle.stk_arith.specs.Rows.{number, AreEdges};
 ghost use Rattle.stk_terms.specs.Values.{bit, signed};
 
 use std::alloc::Global;
-use stk_arith::{less, select};
+use stk_arith::{equal, less, select};
 use stk_base::{List, NoMemory};
-use stk_bitwise::equal;
 use stk_gates::{Edge, Gates};
 
 /// The row of one edge.
@@ -22,7 +21,7 @@ fn alone(alloc: Global, edge: Edge) -> Result<List<Edge>, NoMemory>
 
 /// Whether two rows have the same number.
 #[tactic(auto, using(stk_arith::proofs::Numbers::kept))]
-pub fn equality(
+pub(crate) fn equality(
     alloc: Global,
     gates: &mut Gates,
     a: &[Edge],
@@ -45,7 +44,7 @@ pub fn equality(
 
 /// Whether the first row's number is the smaller one, without signs.
 #[tactic(auto, using(stk_arith::proofs::Numbers::kept))]
-pub fn order(
+pub(crate) fn order(
     alloc: Global,
     gates: &mut Gates,
     a: &[Edge],
@@ -69,7 +68,7 @@ pub fn order(
 
 /// Whether the first row's number is the smaller one in two's complement.
 #[tactic(auto, using(stk_arith::proofs::Numbers::kept))]
-pub fn signed_order(
+pub(crate) fn signed_order(
     alloc: Global,
     gates: &mut Gates,
     a: &[Edge],
@@ -93,7 +92,7 @@ pub fn signed_order(
 
 /// The second row where the first one's number is 1, and else the third.
 #[tactic(auto, using(stk_arith::proofs::Numbers::kept))]
-pub fn choice(
+pub(crate) fn choice(
     alloc: Global,
     gates: &mut Gates,
     test: &[Edge],

@@ -6,8 +6,8 @@ ghost use Rattle.stk_arith.specs.Rows.{number, AreEdges};
 ghost use Rattle.stk_blast.specs.Inputs.{residues_of};
 
 use std::alloc::Global;
+use stk_arith::{constant_row, gate_row};
 use stk_base::{List, NoMemory};
-use stk_bitwise::{constant_row, gate_row};
 use stk_gates::Edge;
 
 /// How many bits the first inputs have.
@@ -24,7 +24,7 @@ fn bits_before(widths: &[u8], count: usize) -> u32
 }
 
 /// The row of an input.
-pub fn input_row(alloc: Global, widths: &[u8], key: usize) -> Result<List<Edge>, NoMemory>
+pub(crate) fn input_row(alloc: Global, widths: &[u8], key: usize) -> Result<List<Edge>, NoMemory>
     requires key { key < length widths.now }
     requires few { sum widths.now < 2 ^ 29 }
     ensures length { IfOk result (λ r. length r ≡ slice_index widths.now key) }
@@ -37,7 +37,7 @@ pub fn input_row(alloc: Global, widths: &[u8], key: usize) -> Result<List<Edge>,
 }
 
 /// The row of a constant of a width.
-pub fn number_row(alloc: Global, width: u8, value: u128) -> Result<List<Edge>, NoMemory>
+pub(crate) fn number_row(alloc: Global, width: u8, value: u128) -> Result<List<Edge>, NoMemory>
     requires width { width ≤ 128 }
     requires value { value < 2 ^ width }
     ensures length { IfOk result (λ r. length r ≡ width) }

@@ -13,15 +13,17 @@ use crate::inputs::{input_row, number_row};
 use crate::rows::{difference, inverted, widened};
 use crate::shift::{left, right, right_signed};
 use std::alloc::Global;
-use stk_arith::{add, divide, multiply, remainder};
+use stk_arith::{
+    add, and_rows, cut, divide, joined, multiply, negative, or_rows, remainder, xor_rows,
+    zero_extended,
+};
 use stk_base::{List, NoMemory};
-use stk_bitwise::{and_rows, cut, joined, negative, or_rows, xor_rows, zero_extended};
 use stk_gates::{Edge, Gates};
 use stk_terms::TermOp;
 
 /// The row of an operator over the rows of its arguments; a row is empty where the operator has no such argument.
 #[tactic(auto, using(stk_arith::proofs::Numbers::kept))]
-pub fn operate(
+pub(crate) fn operate(
     alloc: Global,
     gates: &mut Gates,
     inputs: &[u8],

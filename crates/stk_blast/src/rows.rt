@@ -6,13 +6,12 @@ ghost use Rattle.stk_arith.specs.Rows.{number, AreEdges};
 ghost use Rattle.stk_terms.specs.Values.{extended};
 
 use std::alloc::Global;
-use stk_arith::{inverted_row, sub};
+use stk_arith::{inverted_row, sign_extended, sub};
 use stk_base::{List, NoMemory};
-use stk_bitwise::sign_extended;
 use stk_gates::{Edge, Gates};
 
 /// The row with each bit inverted.
-pub fn inverted(alloc: Global, row: &[Edge]) -> Result<List<Edge>, NoMemory>
+pub(crate) fn inverted(alloc: Global, row: &[Edge]) -> Result<List<Edge>, NoMemory>
     ensures length { IfOk result (λ r. length r ≡ length row.now) }
     ensures edges { IfOk result (λ r. (t : Table) → AreEdges t row.now → AreEdges t r) }
     ensures value { IfOk result (λ r. (values : ℕ → Bool) → number values r ≡ 2 ^ length row.now - 1 - number values row.now) }
@@ -22,7 +21,7 @@ pub fn inverted(alloc: Global, row: &[Edge]) -> Result<List<Edge>, NoMemory>
 }
 
 /// The row with copies of its sign bit in front, up to a width.
-pub fn widened(alloc: Global, row: &[Edge], width: usize) -> Result<List<Edge>, NoMemory>
+pub(crate) fn widened(alloc: Global, row: &[Edge], width: usize) -> Result<List<Edge>, NoMemory>
     requires some { 0 < length row.now }
     requires wider { length row.now ≤ width }
     ensures length { IfOk result (λ r. length r ≡ width) }
@@ -34,7 +33,7 @@ pub fn widened(alloc: Global, row: &[Edge], width: usize) -> Result<List<Edge>, 
 }
 
 /// The difference of two rows, modulo 2 to their width.
-pub fn difference(
+pub(crate) fn difference(
     alloc: Global,
     gates: &mut Gates,
     a: &[Edge],

@@ -11,7 +11,7 @@ use stk_base::{List, NoMemory};
 use stk_gates::{Edge, Gates};
 
 /// The first row shifted to the left by the second row's number.
-pub fn left(
+pub(crate) fn left(
     alloc: Global,
     gates: &mut Gates,
     a: &[Edge],
@@ -34,7 +34,7 @@ pub fn left(
 }
 
 /// The first row shifted to the right by the second row's number, filled with zeros.
-pub fn right(
+pub(crate) fn right(
     alloc: Global,
     gates: &mut Gates,
     a: &[Edge],
@@ -57,7 +57,7 @@ pub fn right(
 }
 
 /// The first row shifted to the right by the second row's number, filled with its sign bit.
-pub fn right_signed(
+pub(crate) fn right_signed(
     alloc: Global,
     gates: &mut Gates,
     a: &[Edge],

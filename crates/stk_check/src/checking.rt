@@ -84,11 +84,11 @@ fn is_step(
     leads(marks, stamp, vars, given, earlier, step.hints.as_slice())
 }
 
-/// Whether the derivation refutes the clauses: true exactly where it has a step, each step is by its hints over the given
-/// clauses and the steps before it, and the last clause is empty. No values satisfy the clauses then.
+/// Whether the derivation refutes the clauses: true exactly where it has a step, each step is by its hints over the
+/// given clauses and the steps before it, and the last clause is empty. No values satisfy the clauses then.
 ///
-/// Each literal's variable is below `vars`. Its time is linear in `vars` and the literals of the steps and of the clauses that
-/// the hints name. All its memory, two marks a variable, is taken before the first step.
+/// Each literal's variable is below `vars`. Its time is linear in `vars` and the literals of the steps and of the
+/// clauses that the hints name. All its memory, two marks a variable, is taken before the first step.
 pub fn check(alloc: Global, cnf: &Cnf, derivation: &Derivation) -> Result<bool, NoMemory>
     requires within { All (AreBelow cnf.now.vars) cnf.now.store }
     ensures refutes { IfOk result (λ yes. IsTrue yes ↔ IsRefutation cnf.now.vars cnf.now.store derivation.now.steps) }

@@ -1,4 +1,5 @@
-// The true literals of one step, as marks: a literal is true where its mark is the step's stamp, so nothing is ever unmarked.
+// The true literals of one step, as marks: a literal is true where its mark is the step's stamp, so nothing is ever
+// unmarked.
 ghost use Rattle.std.specs.Prelude.{◌≡◌, ◌*◌, ◌<◌, ◌≤◌, ◌↔◌, length, IsTrue};
 ghost use Rattle.std.specs.List.{All};
 ghost use Rattle.stk_clauses.specs.Literals.{AreBelow};
@@ -51,8 +52,8 @@ pub(crate) fn look(marks: &[usize], stamp: usize, vars: u32, clause: &[Lit]) -> 
     }
 }
 
-/// Marks the negations of a clause's literals. Says whether its variables are below `vars` and no literal stands beside its
-/// negation.
+/// Marks the negations of a clause's literals. Says whether its variables are below `vars` and no literal stands beside
+/// its negation.
 pub(crate) fn assume_false(marks: &mut [usize], stamp: usize, vars: u32, clause: &[Lit]) -> bool
     requires sized { length marks.old ≡ 2 * vars }
     requires positive { 0 < stamp }

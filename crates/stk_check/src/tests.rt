@@ -117,8 +117,8 @@ static TABLE: [Case; 17] = [
     },
 ];
 
-/// Steps over the eight clauses of three variables: a refutation; it without its last step; and with the first hint of a step
-/// replaced by the step's own number.
+/// Steps over the eight clauses of three variables: a refutation; it without its last step; and with the first hint of
+/// a step replaced by the step's own number.
 static LONG: [&[(&[u32], &[u32])]; 6] = [
     &[
         (&[0, 2], &[0, 1]),

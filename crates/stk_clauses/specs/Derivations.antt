@@ -32,14 +32,16 @@ pub record IsRefutation (vars : ℕ) (given : List (List Lit)) (steps : List Der
 abbrev pub AreNew : List (List Lit) → List Derived → Type 0
 AreNew given steps = (k : ℕ) (d : Derived) → k < length steps → IsNew (given ++ clauses_of_steps (take k steps)) (slice_index_or steps k d).clause
 
--- assuming these literals one after the other, each unassigned when its turn comes, leads to a falsified clause, and nothing before does
+-- assuming these literals one after the other, each unassigned when its turn comes, leads to a falsified clause, and
+-- nothing before does
 pub record ConflictStands (cs : List (List Lit)) (turns : List Lit) : Type 0 where
   pub some : 0 < length turns
   pub quiet : (i : ℕ) → i < length turns → Falsifies cs (Contains (take i turns)) → ⊥
   pub unassigned : (i : ℕ) (d : Lit) → i < length turns → Leaves cs (Contains (take i turns)) (slice_index_or turns i d)
   pub last : Falsifies cs (Contains turns)
 
--- a spent log has exactly so many steps, each by its hints and new, and behind them one more conflict stands above no assumption
+-- a spent log has exactly so many steps, each by its hints and new, and behind them one more conflict stands above no
+-- assumption
 pub record IsSpentLog (vars : ℕ) (given : List (List Lit)) (budget : ℕ) (steps : List Derived) : Type 0 where
   pub exact : length steps ≡ budget
   pub each : AreSteps vars given steps

@@ -7,7 +7,8 @@ use Rattle.stk_clauses.specs.Literals.{negated, IsUnsatisfiable}
 use Rattle.stk_clauses.specs.Propagation.{IsNew, IsOpen, AreQuiet, HasNoPair}
 use Rattle.stk_clauses.specs.Derivations.{IsRefutation}
 
--- where the true literals t have no pair and leave every clause quiet, a clause with an open literal whose others are false is new
+-- where the true literals t have no pair and leave every clause quiet, a clause with an open literal whose others are
+-- false is new
 abbrev pub QuietMakesNew : Type 0
 QuietMakesNew = (cs : List (List Lit)) (c t : List Lit) (l : Lit) → HasNoPair t → AreQuiet t cs → Contains c l → IsOpen t l → ((m : Lit) → Contains c m → m ≢ l → Contains t (negated m)) → IsNew cs c
 

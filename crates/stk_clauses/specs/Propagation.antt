@@ -1,4 +1,5 @@
--- Unit propagation, as the least set of literals that is closed under the unit rule; new clauses; and partial assignments.
+-- Unit propagation, as the least set of literals that is closed under the unit rule; new clauses; and partial
+-- assignments.
 use Rattle.std.specs.Prelude.{◌≢◌, ◌⊎◌, List}
 use Rattle.std.specs.List.{Contains, All}
 use Rattle.stk_clauses.specs.declared.literal.Lit.{Lit}
@@ -21,7 +22,8 @@ Leaves cs A l = (Forced cs A l → ⊥) × (Forced cs A (negated l) → ⊥)
 abbrev pub OthersFalse : List Lit → Lit → Lit → Type 0
 OthersFalse c l m = Contains c (negated m) × (m ≢ negated l)
 
--- a new clause has a literal such that, its other literals being assumed false, propagation falsifies no clause and leaves it unassigned
+-- a new clause has a literal such that, its other literals being assumed false, propagation falsifies no clause and
+-- leaves it unassigned
 abbrev pub IsNew : List (List Lit) → List Lit → Type 0
 IsNew cs c = (l : Lit) × Contains c l × (Falsifies cs (OthersFalse c l) → ⊥) × Leaves cs (OthersFalse c l) l
 

@@ -10,7 +10,8 @@ use std::alloc::Global;
 use std::marker::Model;
 use stk_base::NoMemory;
 
-/// A list of clauses, numbered from 0. The literals of a clause differ from each other, and there are fewer than 2^31 clauses.
+/// A list of clauses, numbered from 0. The literals of a clause differ from each other, and there are fewer than 2^31
+/// clauses.
 ///
 /// All literals stand in one vector, and where each clause ends in another.
 #[derive(Drop)]

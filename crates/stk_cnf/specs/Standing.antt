@@ -18,9 +18,9 @@ pub data Needs (t : Table) (goal : Edge) : ℕ → Type 0 where
 abbrev pub variables : Table → List ℕ → (ℕ → Bool) → ℕ → Bool
 variables t ands gates i = if nat_lt i t.inputs then gates (1 + i) else gates (slice_index ands (i - t.inputs))
 
--- the variables are all inputs and the AND gates that the edge needs, in ascending order; what satisfies the clauses are exactly the
--- extensions of the inputs that make the edge true, one for each; there are at most three clauses for each of these gates and one more,
--- of at most three literals
+-- the variables are all inputs and the AND gates that the edge needs, in ascending order; what satisfies the clauses
+-- are exactly the extensions of the inputs that make the edge true, one for each; there are at most three clauses for
+-- each of these gates and one more, of at most three literals
 pub record StandsFor (t : Table) (goal : Edge) (cnf : Cnf) : Type 0 where
   pub ands : List ℕ
   pub ascending : (i j : ℕ) → i < j → j < length ands → slice_index ands i < slice_index ands j

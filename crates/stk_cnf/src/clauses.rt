@@ -97,10 +97,11 @@ fn encoded(
     Ok(store)
 }
 
-/// Clauses that stand for an edge of the table: over the inputs, input i being variable i, and the AND gates on which the edge
-/// depends, in ascending order, what satisfies them are exactly the extensions of the inputs that make the edge true, one for
-/// each. There are at most three clauses for each of these gates and one more, and none has more than three literals. An edge
-/// that is constant false gives the empty clause alone, and one that is constant true gives none.
+/// Clauses that stand for an edge of the table: over the inputs, input i being variable i, and the AND gates on which
+/// the edge depends, in ascending order, what satisfies them are exactly the extensions of the inputs that make the
+/// edge true, one for each. There are at most three clauses for each of these gates and one more, and none has more
+/// than three literals. An edge that is constant false gives the empty clause alone, and one that is constant true
+/// gives none.
 ///
 /// The table is gone through once down and once up, without recursion.
 pub fn clauses_of(alloc: Global, gates: &Gates, goal: Edge) -> Result<Cnf, NoMemory>

@@ -1,4 +1,5 @@
--- Trees of types as trees of numbers, from which they are got back: so values that are seen as types are told apart by them.
+-- Trees of types as trees of numbers, from which they are got back: so values that are seen as types are told apart by
+-- them.
 use Rattle.std.specs.Prelude.{◌≡◌, ℕ, suc, zero, Bool, true, false, [], ◌∷◌, Option, Some, None, slice_index_or}
 use Rattle.std.proofs.Common.{refl, sym, ap, ◌∙◌}
 use base.Stored.{Gv, gnil, gnum, gcons, Coded}

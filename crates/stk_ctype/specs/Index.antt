@@ -1,4 +1,5 @@
--- What an index of words keeps: for each word the last of its meanings, and behind each word the meaning that it had before.
+-- What an index of words keeps: for each word the last of its meanings, and behind each word the meaning that it had
+-- before.
 use Rattle.std.specs.Prelude.{◌≡◌, ℕ, List, [], ◌∷◌, ◌++◌, Option, Some, None, if◌then◌else◌}
 use Rattle.std.specs.Ordering.{nat_cmp}
 use Rattle.std.specs.Cmp.Lexicographic.{slice_cmp}

@@ -19,7 +19,8 @@ parts (array_type t n) = []
 parts (struct_type id) = []
 parts (function_type f) = parts_of_signature f
 
--- types that are built one after the other, each in place of its parts at the end of what is built so far, leave one whole type
+-- types that are built one after the other, each in place of its parts at the end of what is built so far, leave one
+-- whole type
 abbrev pub Builds : TypeTree → List TypeTree → List TypeTree → Type 0
 Builds whole [] built = built ≡ whole ∷ []
 Builds whole (t ∷ ts) built = (rest : List TypeTree) × (built ≡ rest ++ parts t) × Builds whole ts (rest ++ t ∷ [])

@@ -19,7 +19,8 @@ abbrev pub IsCount : Option ℕ → Type 0
 IsCount count = IfSome count (λ n. 1 ≤ n)
 
 abbrev mutual
-  -- a type is sound: each struct in it is declared, each array in it has a complete element type and at least one element, and no type in it is larger than the limit (C11 6.7.6.2)
+  -- a type is sound: each struct in it is declared, each array in it has a complete element type and at least one
+  -- element, and no type in it is larger than the limit (C11 6.7.6.2)
   pub IsSound : Structs → TypeTree → Type 0
   IsSound structs void_type = Unit {0}
   IsSound structs (integer_type kind) = Unit {0}
@@ -72,7 +73,8 @@ IsSoundSymbol structs (symbol.Object t) = IsSound structs (type_of t)
 IsSoundSymbol structs (symbol.Function f) = IsSoundSignature structs (signature_of f)
 IsSoundSymbol structs (symbol.Enumerator value) = Unit {0}
 
--- an entry rests on the structs that there are: its types are sound; a struct that gets members has none yet, and then has a size from 1 to the limit
+-- an entry rests on the structs that there are: its types are sound; a struct that gets members has none yet, and then
+-- has a size from 1 to the limit
 abbrev pub RestsOn : Structs → NameEntry → Type 0
 RestsOn structs (entry.Symbol name symbol) = IsSoundSymbol structs symbol
 RestsOn structs (entry.Struct tag) = Unit {0}

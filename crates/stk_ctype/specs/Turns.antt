@@ -27,7 +27,8 @@ abbrev pub turns_of_types : List CType → ℕ
 turns_of_types ts = turns_of_row (row_of (map type_of ts))
 
 abbrev mutual
-  -- the turns that a type takes which waits outside: a function one to come out, and what waits in the place of its result
+  -- the turns that a type takes which waits outside: a function one to come out, and what waits in the place of its
+  -- result
   pub turns_outside : TypeTree → ℕ
   turns_outside void_type = 0
   turns_outside (integer_type k) = 0

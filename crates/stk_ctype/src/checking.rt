@@ -7,7 +7,7 @@ ghost use Rattle.stk_ctype.specs.Sound.{IsSound, IsCount, IsWithinLimit, IsOpenA
 use crate::{CType, MemberInfo, NameEntry, Names, Symbol};
 
 // Whether a type is sound under names; false of each function type.
-pub fn is_sound(names: &Names, ty: &CType) -> bool
+pub(crate) fn is_sound(names: &Names, ty: &CType) -> bool
     ensures { IsTrue result → IsSound (structs_of names.now) (type_of ty.now) }
 {
     match ty {
@@ -51,7 +51,7 @@ fn is_declared(names: &Names, id: u32) -> bool
 }
 
 // Whether a struct may have these members.
-pub fn are_members(names: &Names, members: &[MemberInfo]) -> bool
+pub(crate) fn are_members(names: &Names, members: &[MemberInfo]) -> bool
     ensures { IsTrue result → AreMembers (structs_of names.now) members.now }
 {
     let Some((first, rest)) = members.split_first() else {
@@ -79,7 +79,7 @@ fn is_open(ty: &CType) -> bool
 }
 
 // Whether an entry rests on the names; false where it has a function type.
-pub fn rests_on(names: &Names, entry: &NameEntry) -> bool
+pub(crate) fn rests_on(names: &Names, entry: &NameEntry) -> bool
     ensures { IsTrue result → RestsOn (structs_of names.now) entry.now }
 {
     match entry {

@@ -1,5 +1,5 @@
-// Copies of types. What a pointer points to and the element of an array are shared. A function is listed part by part, and then
-// built from its last part to its first, so that no nesting of types takes stack.
+// Copies of types. What a pointer points to and the element of an array are shared. A function is listed part by part,
+// and then built from its last part to its first, so that no nesting of types takes stack.
 ghost use Rattle.std.specs.Prelude.{◌≡◌, ◌≤◌, [], ◌∷◌, ◌++◌, length, map, reverse, IfOk, OnOk, List};
 ghost use Rattle.stk_ctype.specs.Types.{TypeTree, type_of};
 ghost use Rattle.stk_ctype.specs.Parts.{parts, Builds};

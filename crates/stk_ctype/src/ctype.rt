@@ -5,11 +5,11 @@ use crate::{IntKind, OwnedSignature, SharedType};
 use std::mem;
 use stk_base::List;
 
-/// A type of C (C11 6.2.5): `void`, an integer type, a pointer to a type, an array of a type with its number of elements
-/// where that is known, a struct by its number, a function.
+/// A type of C (C11 6.2.5): `void`, an integer type, a pointer to a type, an array of a type with its number of
+/// elements where that is known, a struct by its number, a function.
 ///
-/// Structs are numbered from 0 in the order in which names declare them. What a pointer points to, and the element of an array,
-/// are shared by all types that are made of them.
+/// Structs are numbered from 0 in the order in which names declare them. What a pointer points to, and the element of
+/// an array, are shared by all types that are made of them.
 #[cycle(ctype)]
 pub enum CType {
     Void,
@@ -20,8 +20,8 @@ pub enum CType {
     Function(OwnedSignature),
 }
 
-/// What a function takes and gives: its result, its parameters in order, whether it takes more arguments, and whether it is
-/// marked as one that doesn't return.
+/// What a function takes and gives: its result, its parameters in order, whether it takes more arguments, and whether
+/// it is marked as one that doesn't return.
 #[derive(Drop)]
 #[cycle(ctype)]
 pub struct Signature {
@@ -90,8 +90,8 @@ impl Drop for CType {
 
 /// Drops a type and the types of a row.
 ///
-/// A function that is met takes the row at hand, and the function that keeps the row outside, into the places of its own
-/// parameters and result. So the rows that wait hang on `outer`, and it takes neither stack nor memory.
+/// A function that is met takes the row at hand, and the function that keeps the row outside, into the places of its
+/// own parameters and result. So the rows that wait hang on `outer`, and it takes neither stack nor memory.
 #[cycle(ctype_drop)]
 fn drop_row(first: CType, types: List<CType>) {
     let mut at = first;

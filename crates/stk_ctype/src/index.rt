@@ -6,7 +6,8 @@ use std::alloc::Global;
 use std::collections::BTreeMap;
 use stk_base::NoMemory;
 
-/// For each word its last meaning, and for each word that was pushed the meaning that it had before, so that a push can be undone.
+/// For each word its last meaning, and for each word that was pushed the meaning that it had before, so that a push can
+/// be undone.
 #[derive(Drop)]
 pub struct Index<M> {
     pub last: BTreeMap<Vec<u8>, M>,

@@ -1,8 +1,8 @@
 ghost use Rattle.std.specs.Prelude.{◌≡◌, ◌≤◌};
 ghost use Rattle.stk_ctype.specs.Kinds.{bytes_of};
 
-/// The integer kinds (C11 6.2.5) of this profile: `char` is signed, `short` has 16 bits, `int` 32, `long` and `long long`
-/// have 64.
+/// The integer kinds (C11 6.2.5) of this profile: `char` is signed, `short` has 16 bits, `int` 32, `long` and `long
+/// long` have 64.
 #[derive(Clone, Copy, Debug, PartialEq, Eq)]
 pub enum IntKind {
     Bool,

@@ -1,9 +1,7 @@
-//! The types of C under this profile (LP64), and the names that are in force: what each name and tag means, and the size of
-//! each type.
+//! The types of C under this profile (LP64), and the names that are in force: what each name and tag means, and the
+//! size of each type.
 #![tactic(auto)]
 
-#[cfg(test)]
-mod checking;
 mod copying;
 mod ctype;
 mod facts;
@@ -14,8 +12,6 @@ mod owned_signature;
 mod shared_type;
 mod sizes;
 mod symbol;
-#[cfg(test)]
-mod tests;
 
 pub use ctype::{CType, Signature};
 pub use index::Index;
@@ -24,3 +20,8 @@ pub use names::Names;
 pub use owned_signature::OwnedSignature;
 pub use shared_type::SharedType;
 pub use symbol::{MemberInfo, NameEntry, Symbol, Tag};
+
+#[cfg(test)]
+mod checking;
+#[cfg(test)]
+mod tests;

@@ -64,9 +64,9 @@ impl Names {
 
     /// Appends an entry.
     ///
-    /// The types in it are sound under the names so far, and the struct of a `Members` entry has no members yet, and then has
-    /// a size from 1 to 2,147,483,647 bytes. Types that were sound before stay so, and keep their sizes. After `NoMemory` the names
-    /// are as before.
+    /// The types in it are sound under the names so far, and the struct of a `Members` entry has no members yet, and
+    /// then has a size from 1 to 2,147,483,647 bytes. Types that were sound before stay so, and keep their sizes. After
+    /// `NoMemory` the names are as before.
     pub fn add(&mut self, entry: NameEntry) -> Result<(), NoMemory>
         requires room { length self.old < 2 ^ 32 - 1 }
         requires rests { RestsOn (structs_of self.old) entry }
@@ -117,8 +117,8 @@ impl Names {
         self.facts.layouts.len() as u32
     }
 
-    /// What a name means: the meaning in the last entry of this name, and `None` exactly where no entry has it. The name is
-    /// given as bytes, and the types in its meaning are sound.
+    /// What a name means: the meaning in the last entry of this name, and `None` exactly where no entry has it. The
+    /// name is given as bytes, and the types in its meaning are sound.
     pub fn find(&self, name: &[u8]) -> Option<&Symbol>
         ensures value { option_copied result ≡ find name.now self.now }
         ensures sound { IfSome (option_copied result) (IsSoundSymbol (structs_of self.now)) }
@@ -136,8 +136,8 @@ impl Names {
         matches!(self.find(name), Some(Symbol::TypeDef(_)))
     }
 
-    /// What a tag means: the struct or the enumeration of the last entry with this tag, and `None` exactly where no entry
-    /// has it. The tag is given as bytes, and the struct that it means is declared.
+    /// What a tag means: the struct or the enumeration of the last entry with this tag, and `None` exactly where no
+    /// entry has it. The tag is given as bytes, and the struct that it means is declared.
     pub fn tag(&self, tag: &[u8]) -> Option<Tag>
         ensures value { result ≡ tag_of tag.now self.now }
         ensures sound { IfSome result (IsSoundTag (structs_of self.now)) }

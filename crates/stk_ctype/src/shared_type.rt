@@ -51,8 +51,8 @@ fn product_of(left: Option<u64>, right: Option<u64>) -> Option<u64>
 
 /// A type that may have several owners, which contracts see as its tree. Sharing it takes no memory, whatever its size.
 ///
-/// It knows what is inside all arrays of the type, and how many of them, so that the size of arrays of arrays is found without a
-/// walk down them.
+/// It knows what is inside all arrays of the type, and how many of them, so that the size of arrays of arrays is found
+/// without a walk down them.
 #[cycle(ctype)]
 #[derive(Drop)]
 pub struct SharedType {

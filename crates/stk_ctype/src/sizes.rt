@@ -85,8 +85,8 @@ impl Names {
 
     /// The size of a type in bytes, from 1 to 2,147,483,647 (C11 6.5.3.4).
     ///
-    /// `None` exactly where the type isn't a complete object type: it is `void`, a function, an array of unknown size or a
-    /// struct that has no members yet. It takes constant time.
+    /// `None` exactly where the type isn't a complete object type: it is `void`, a function, an array of unknown size
+    /// or a struct that has no members yet. It takes constant time.
     pub fn size_of(&self, ty: &CType) -> Option<u64>
         requires { IsSound (structs_of self.now) (type_of ty.now) }
         ensures { result ≡ size_of (structs_of self.now) (type_of ty.now) }
@@ -116,8 +116,8 @@ impl Names {
 
     /// The size in bytes of a struct with these members, in order (C11 6.7.2.1).
     ///
-    /// Each type is sound, and complete but for a last one of unknown array size. `None` exactly where the size isn't from 1
-    /// to 2,147,483,647. It takes no memory.
+    /// Each type is sound, and complete but for a last one of unknown array size. `None` exactly where the size isn't
+    /// from 1 to 2,147,483,647. It takes no memory.
     pub fn layout(&self, members: &[MemberInfo]) -> Option<u64>
         requires { AreMembers (structs_of self.now) members.now }
         ensures { result ≡ layout_of (structs_of self.now) members.now }

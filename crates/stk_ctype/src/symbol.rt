@@ -18,8 +18,8 @@ pub struct MemberInfo {
     pub ty: CType,
 }
 
-/// One step of declaring: a name gets a meaning; a struct is declared, with a tag or without; the struct of a number gets
-/// its members, in order; the tag of an enumeration is declared.
+/// One step of declaring: a name gets a meaning; a struct is declared, with a tag or without; the struct of a number
+/// gets its members, in order; the tag of an enumeration is declared.
 ///
 /// The number of a struct counts the `Struct` entries before its own.
 #[derive(Drop)]

@@ -7,9 +7,9 @@ use Rattle.stk_tree.specs.declared.fixed.Lexeme.{Lexeme}
 use Rattle.stk_tree.specs.Syntax.{DeclarationTree}
 use Rattle.stk_tree.specs.View.{view_declaration}
 use Rattle.stk_tree.specs.Unlaid.{unlaid_declaration}
-use Rattle.stk_decl_grammar.specs.Declarations.{DeclarationLeads, FrontLeads}
-use Rattle.stk_decl_grammar.specs.Reading.{declaration_at, front_at}
-use Rattle.stk_decl_grammar.proofs.Laws.{declaration_leads_read, front_leads_read, no_declaration_leads, no_front_leads}
+use Rattle.stk_grammar.specs.Declarations.{DeclarationLeads, FrontLeads}
+use Rattle.stk_grammar.specs.DeclarationReading.{declaration_at, front_at}
+use Rattle.stk_grammar.proofs.DeclarationLaws.{declaration_leads_read, front_leads_read, no_declaration_leads, no_front_leads}
 use Rattle.stk_expr.specs.Gives.{Gives}
 use Rattle.stk_expr.specs.declared.parse.Parse.{Parse}
 use Rattle.stk_expr.specs.declared.parse.Parse.TheVariants as parse

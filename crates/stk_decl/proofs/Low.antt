@@ -10,7 +10,7 @@ use Rattle.stk_grammar.specs.Reading.{◌>>=◌, Found, behind_left_brace, behin
 use Rattle.stk_grammar.specs.Stopped.{stopped_at}
 use Rattle.stk_grammar.proofs.Operators.{bind_some, if_some, some_is}
 use Rattle.stk_grammar.proofs.Stopped.{stopped_sound}
-use Rattle.stk_decl_grammar.specs.Reading.{Reader, behind_path, designator_at, designators_at, initialiser_at, initialiser_on, item_at, items_at, items_from, low_path, more_items_at, path_at}
+use Rattle.stk_grammar.specs.DeclarationReading.{Reader, behind_path, designator_at, designators_at, initialiser_at, initialiser_on, item_at, items_at, items_from, low_path, more_items_at, path_at}
 use Rattle.stk_decl.specs.declared.turns.Turn.{Turn}
 use Rattle.stk_decl.specs.declared.turns.Turn.TheVariants.{End, More}
 use Rattle.stk_decl.specs.Rows.{paired}

@@ -8,14 +8,14 @@ use Rattle.stk_tree.specs.Syntax.{DeclarationTree}
 use Rattle.stk_tree.specs.Syntax as s
 use Rattle.stk_tree.specs.Layout.{laid_declaration}
 use Rattle.stk_tree.specs.Tokens.{base_tokens, declaration_tokens, declarators_tokens, storage_tokens}
-use Rattle.stk_tree_layout.proofs.LaidNestings.{declaration_nesting-laid}
-use Rattle.stk_tree_layout.proofs.LaidPlaces.{base_placed-laid, declarator_placed-laid, file_placed-laid, function_declarator-laid, is_unbraced-laid, local_placed-laid}
-use Rattle.stk_tree_layout.proofs.LaidTokens.{base_tokens-laid, declaration_tokens-laid, declarators_tokens-laid}
+use Rattle.stk_nodes.proofs.LaidNestings.{declaration_nesting-laid}
+use Rattle.stk_nodes.proofs.LaidPlaces.{base_placed-laid, declarator_placed-laid, file_placed-laid, function_declarator-laid, is_unbraced-laid, local_placed-laid}
+use Rattle.stk_nodes.proofs.LaidTokens.{base_tokens-laid, declaration_tokens-laid, declarators_tokens-laid}
 use Rattle.stk_grammar.proofs.LaidUnlaid.{unlaid_base-laid, unlaid_declarators-laid}
 use Rattle.stk_grammar.proofs.LaidFits.{base_fits-laid, declarators_fits-laid}
 use Rattle.stk_tree.specs.Unlaid.{unlaid_declaration}
 use Rattle.stk_tree.specs.Fits.{declaration_fits}
-use Rattle.stk_decl_grammar.specs.Declarations.{IsDeclaration, IsFront, declaration_placed, front_placed, front_tokens}
+use Rattle.stk_grammar.specs.Declarations.{IsDeclaration, IsFront, declaration_placed, front_placed, front_tokens}
 
 module _ (set : ℕ → ℕ → ℕ → Node) where
   fits : (named : Span → Bool) (d : DeclarationTree) (n t : ℕ) → declaration_fits named (laid_declaration set n t d) ≡ declaration_fits named d

@@ -6,7 +6,7 @@ use Rattle.stk_tree.specs.Syntax.{DeclrTree, DeclrTrees, DesigTree, DesigTrees, 
 use Rattle.stk_tree.specs.Syntax as s
 use Rattle.stk_tree.specs.View.{chained}
 use Rattle.stk_grammar.specs.Reading.{◌>>=◌, Found, Sub, behind_comma, behind_left_bracket, behind_right_brace, behind_right_bracket, behind_right_paren, behind_semicolon, dimension_at, dimensions_at, dimensions_on}
-use Rattle.stk_decl_grammar.specs.Reading.{Reader, begins_designator, declarators_at, declarators_on, designators_at, designators_on, enumerators_at, enumerators_go, enumerators_on, items_at, items_from, items_go, items_on, members_at, members_on, more_declarators_at, more_ends, more_enumerators_at, more_items_at, more_members_at, more_parameters_at, parameters_at, parameters_go, parameters_on}
+use Rattle.stk_grammar.specs.DeclarationReading.{Reader, begins_designator, declarators_at, declarators_on, designators_at, designators_on, enumerators_at, enumerators_go, enumerators_on, items_at, items_from, items_go, items_on, members_at, members_on, more_declarators_at, more_ends, more_enumerators_at, more_items_at, more_members_at, more_parameters_at, parameters_at, parameters_go, parameters_on}
 use Rattle.stk_expr.specs.declared.parse.Parse.{Parse}
 use Rattle.stk_expr.specs.declared.parse.Parse.TheVariants as parse
 use Rattle.stk_expr.specs.Fronts.{in_front}

@@ -11,7 +11,7 @@ use Rattle.stk_tree.specs.Syntax as s
 use Rattle.stk_tree.specs.Unlaid.{no_node}
 use Rattle.stk_grammar.specs.Reading.{◌>>=◌, Found, behind_right_paren, stars_at}
 use Rattle.stk_grammar.proofs.Operators.{if_some}
-use Rattle.stk_decl_grammar.specs.Reading.{Reader, behind_void, declarator_at, declarator_behind, declarator_name_behind, declared_tail_at, enumerator_at, enumerators_at, full_base_at, full_base_from, full_base_on, initial_at, low_declarator, member_at, members_at, more_parameters_at, name_at, parameter_tail_at, parameters_from}
+use Rattle.stk_grammar.specs.DeclarationReading.{Reader, behind_void, declarator_at, declarator_behind, declarator_name_behind, declared_tail_at, enumerator_at, enumerators_at, full_base_at, full_base_from, full_base_on, initial_at, low_declarator, member_at, members_at, more_parameters_at, name_at, parameter_tail_at, parameters_from}
 use Rattle.stk_expr.specs.declared.parse.Parse.{Parse}
 use Rattle.stk_expr.specs.declared.parse.Parse.TheVariants as parse
 use Rattle.stk_expr.specs.Gives.{Fails}

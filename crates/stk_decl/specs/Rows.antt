@@ -1,9 +1,9 @@
--- Rows with a first element, and whether a mark of its own stands before the end.
+-- Rows with a first element, and whether a punctuator of its own stands before the end.
 use Rattle.std.specs.Prelude.{ℕ, suc, Bool, length, Some}
 use Rattle.stk_grammar.specs.Reading.{◌>>=◌}
-use Rattle.stk_decl_grammar.specs.Reading.{Reader}
+use Rattle.stk_grammar.specs.DeclarationReading.{Reader}
 
--- an element before a row, and whether that mark stands there
+-- an element before a row, and whether that punctuator stands there
 abbrev pub paired : {X T : Type 0} → (X → T → T) → X → T × Bool → T × Bool
 paired add x y = (add x y.0, y.1)
 

@@ -5,7 +5,7 @@ use Rattle.stk_tree.specs.declared.fixed.Lexeme.{Lexeme}
 use Rattle.stk_tree.specs.Nesting.{tail_nesting}
 use Rattle.stk_tree.specs.Syntax.{TailTree}
 use Rattle.stk_grammar.specs.Reading.{◌>>=◌, Found}
-use Rattle.stk_decl_grammar.specs.Reading.{Reader, declared_tail_at}
+use Rattle.stk_grammar.specs.DeclarationReading.{Reader, declared_tail_at}
 
 -- what was found behind a name, where it nests no deeper than this room with that many stars
 abbrev pub low_tail : ℕ → ℕ → TailTree × List Lexeme → Found TailTree

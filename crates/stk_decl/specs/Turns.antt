@@ -2,16 +2,16 @@
 use Rattle.std.specs.Prelude.{true, false, List, Option, Some, None}
 use Rattle.stk_tree.specs.declared.fixed.Lexeme.{Lexeme}
 use Rattle.stk_grammar.specs.Reading.{Found, behind_comma, behind_right_brace, behind_right_paren, behind_semicolon}
-use Rattle.stk_decl_grammar.specs.Reading.{more_ends}
+use Rattle.stk_grammar.specs.DeclarationReading.{more_ends}
 use Rattle.stk_decl.specs.declared.turns.Turn.{Turn}
 use Rattle.stk_decl.specs.declared.turns.Turn.TheVariants.{End, More}
 
--- the end of a row, where its last mark stands
+-- the end of a row, where its last punctuator stands
 abbrev pub ended : Option (List Lexeme) → Found Turn
 ended None = None
 ended (Some rest) = Some (End false, rest)
 
--- behind a comma: the end of the row, where its last mark stands, and else one more element
+-- behind a comma: the end of the row, where its last punctuator stands, and else one more element
 abbrev pub behind_comma_on : Option (List Lexeme) → List Lexeme → Found Turn
 behind_comma_on None next = Some (More, next)
 behind_comma_on (Some rest) next = Some (End true, rest)

@@ -5,7 +5,7 @@ ghost use Rattle.stk_tree.specs.Nesting.{declarator_nesting, dimensions_nesting,
 ghost use Rattle.stk_tree.specs.View.{dimensions, view_declarator, view_dimension};
 ghost use Rattle.stk_grammar.specs.Reading.{dimensions_at};
 ghost use Rattle.stk_grammar.specs.Stopped.{stopped_at};
-ghost use Rattle.stk_decl_grammar.specs.Reading.{array_declarator_at};
+ghost use Rattle.stk_grammar.specs.DeclarationReading.{array_declarator_at};
 ghost use Rattle.stk_ctype.specs.Named.{named};
 ghost use Rattle.stk_expr.specs.Gives.{Gives};
 
@@ -26,7 +26,7 @@ pub struct FoundDeclarator<'a> {
 }
 
 /// Array parts in a row.
-pub fn array_parts<'a>(
+pub(crate) fn array_parts<'a>(
     alloc: Global,
     bytes: &[u8],
     names: &Names,
@@ -41,8 +41,8 @@ pub fn array_parts<'a>(
 }
 
 /// `* .. [name] arrays`, of at most the nesting `room`; the name may be missing where `nameless` says so.
-#[tactic(auto, unfolding(stk_decl_grammar::specs::Reading::array_declarator_at))]
-pub fn array_declarator<'a>(
+#[tactic(auto, unfolding(stk_grammar::specs::DeclarationReading::array_declarator_at))]
+pub(crate) fn array_declarator<'a>(
     alloc: Global,
     bytes: &[u8],
     names: &Names,

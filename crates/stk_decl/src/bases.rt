@@ -3,20 +3,19 @@
 ghost use Rattle.std.specs.Prelude.{◌≡◌, ◌≤◌, ◌<◌, map};
 ghost use Rattle.stk_tree.specs.Nesting.{most_nesting};
 ghost use Rattle.stk_tree.specs.View.{enumerators, given_expression, members, view_base_form, view_enumerator, view_member};
-ghost use Rattle.stk_decl_grammar.specs.Reading.{enum_behind, enumerator_at, enumerators_at, full_base_at, full_base_on, member_at, members_at, optional_word_at, struct_behind, value_at};
+ghost use Rattle.stk_grammar.specs.DeclarationReading.{enum_behind, enumerator_at, enumerators_at, full_base_at, full_base_on, member_at, members_at, optional_word_at, struct_behind, value_at};
 ghost use Rattle.stk_ctype.specs.Named.{named};
 ghost use Rattle.stk_expr.specs.Gives.{Gives};
 
 use crate::build;
-use crate::declarators::{Place, declarators};
+use crate::declarators::{DeclaratorScope, declarators};
 use crate::fronts::name_at;
 use crate::turns::{Turn, brace_turn};
 use std::alloc::Global;
 use stk_base::{Class, List};
 use stk_ctype::Names;
-use stk_decl_grammar::optional_word_at;
 use stk_expr::{Parse, bases, basic_base, is_named, stopped};
-use stk_grammar::{behind_assign, behind_left_brace, behind_right_brace};
+use stk_grammar::{behind_assign, behind_left_brace, behind_right_brace, optional_word_at};
 use stk_tree::{BaseForm, Enumr, Expr, Fixed, Lexeme, Member, levels};
 
 /// The value that may be given to an enumerator, with its `=`.
@@ -38,7 +37,7 @@ fn value<'a>(
 }
 
 /// An enumerator.
-#[tactic(auto, unfolding(stk_decl_grammar::specs::Reading::enumerator_at))]
+#[tactic(auto, unfolding(stk_grammar::specs::DeclarationReading::enumerator_at))]
 fn enumerator<'a>(
     alloc: Global,
     bytes: &[u8],
@@ -56,9 +55,9 @@ fn enumerator<'a>(
     Ok((build::enumerator(name, value), rest))
 }
 
-/// One enumerator or more, whether a comma stands behind the last one, and the `}`. The bound is for the prover: each turn
-/// takes a token, so there are no more turns than tokens.
-#[tactic(auto, unfolding(stk_decl_grammar::specs::Reading::enumerators_at))]
+/// One enumerator or more, whether a comma stands behind the last one, and the `}`. The bound is for the prover: each
+/// turn takes a token, so there are no more turns than tokens.
+#[tactic(auto, unfolding(stk_grammar::specs::DeclarationReading::enumerators_at))]
 fn enumerators<'a>(
     alloc: Global,
     bytes: &[u8],
@@ -121,13 +120,14 @@ fn member<'a>(
     ensures { Gives (λ x. (view_member x.0, x.1.now)) result (member_at (named bytes.now names.now) room (full_base_at (named bytes.now names.now) room) lexemes.now) }
 {
     let (form, rest) = full_base(alloc, bytes, names, room, lexemes)?;
-    let (list, rest) = declarators(alloc, bytes, names, Place::Member, room, rest)?;
+    let (list, rest) = declarators(alloc, bytes, names, DeclaratorScope::Member, room, rest)?;
     Ok((build::member(form, list), rest))
 }
 
-/// One member or more, and the `}`. The bound is for the prover: each turn takes a token, so there are no more turns than tokens.
+/// One member or more, and the `}`. The bound is for the prover: each turn takes a token, so there are no more turns
+/// than tokens.
 #[cycle(base)]
-#[tactic(auto, unfolding(stk_decl_grammar::specs::Reading::members_at))]
+#[tactic(auto, unfolding(stk_grammar::specs::DeclarationReading::members_at))]
 fn members<'a>(
     alloc: Global,
     bytes: &[u8],
@@ -197,8 +197,8 @@ fn reserved_base<'a>(
 
 /// A base that may have braces, of at most the nesting `room`.
 #[cycle(base)]
-#[tactic(auto, unfolding(stk_decl_grammar::specs::Reading::full_base_at))]
-pub fn full_base<'a>(
+#[tactic(auto, unfolding(stk_grammar::specs::DeclarationReading::full_base_at))]
+pub(crate) fn full_base<'a>(
     alloc: Global,
     bytes: &[u8],
     names: &Names,

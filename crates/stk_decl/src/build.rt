@@ -13,21 +13,21 @@ use stk_tree::{
 };
 
 /// `struct [tag] { members }`
-pub fn struct_def(tag: Option<Span>, list: List<Member>) -> BaseForm
+pub(crate) fn struct_def(tag: Option<Span>, list: List<Member>) -> BaseForm
     ensures { view_base_form result ≡ s.struct_def tag (members (map view_member list)) }
 {
     BaseForm::StructDef(tag, list)
 }
 
 /// `enum [tag] { enumerators [,] }`
-pub fn enum_def(tag: Option<Span>, list: List<Enumr>, comma: bool) -> BaseForm
+pub(crate) fn enum_def(tag: Option<Span>, list: List<Enumr>, comma: bool) -> BaseForm
     ensures { view_base_form result ≡ s.enum_def tag (enumerators (map view_enumerator list)) comma }
 {
     BaseForm::EnumDef(tag, list, comma)
 }
 
 /// The members of one base.
-pub fn member(form: BaseForm, list: List<Declr>) -> Member
+pub(crate) fn member(form: BaseForm, list: List<Declr>) -> Member
     ensures { view_member result ≡ s.member (s.base no_node (view_base_form form)) (declarators (map view_declarator list)) }
 {
     Member {
@@ -40,7 +40,7 @@ pub fn member(form: BaseForm, list: List<Declr>) -> Member
 }
 
 /// An enumerator.
-pub fn enumerator(name: Span, value: Option<Expr>) -> Enumr
+pub(crate) fn enumerator(name: Span, value: Option<Expr>) -> Enumr
     ensures { view_enumerator result ≡ s.enumerator name (given_expression value) }
 {
     match value {
@@ -53,7 +53,7 @@ pub fn enumerator(name: Span, value: Option<Expr>) -> Enumr
 }
 
 /// A declarator with an initialiser, or without one.
-pub fn declarator(stars: u32, name: Option<Span>, tail: Tail, init: Option<Init>) -> Declr
+pub(crate) fn declarator(stars: u32, name: Option<Span>, tail: Tail, init: Option<Init>) -> Declr
     ensures { view_declarator result ≡ s.declarator no_node stars name (view_tail tail) (given_initialiser init) }
 {
     match init {
@@ -69,7 +69,7 @@ pub fn declarator(stars: u32, name: Option<Span>, tail: Tail, init: Option<Init>
 }
 
 /// A declarator without an initialiser.
-pub fn uninitialised_declarator(stars: u32, name: Option<Span>, tail: Tail) -> Declr
+pub(crate) fn uninitialised_declarator(stars: u32, name: Option<Span>, tail: Tail) -> Declr
     ensures { view_declarator result ≡ s.declarator no_node stars name (view_tail tail) s.no_initialiser }
 {
     Declr {
@@ -82,35 +82,35 @@ pub fn uninitialised_declarator(stars: u32, name: Option<Span>, tail: Tail) -> D
 }
 
 /// Array parts behind a name.
-pub fn arrays(list: List<Dimension>) -> Tail
+pub(crate) fn arrays(list: List<Dimension>) -> Tail
     ensures { view_tail result ≡ s.arrays (dimensions (map view_dimension list)) }
 {
     Tail::Arrays(list)
 }
 
 /// `()`
-pub fn unspecified() -> Tail
+pub(crate) fn unspecified() -> Tail
     ensures { view_tail result ≡ s.unspecified }
 {
     Tail::Unspecified
 }
 
 /// `(void)`
-pub fn no_parameters() -> Tail
+pub(crate) fn no_parameters() -> Tail
     ensures { view_tail result ≡ s.void_parameters }
 {
     Tail::NoParams
 }
 
 /// `(parameters [, ...])`
-pub fn with_parameters(list: List<Param>, more: bool) -> Tail
+pub(crate) fn with_parameters(list: List<Param>, more: bool) -> Tail
     ensures { view_tail result ≡ s.with_parameters (parameters (map view_parameter list)) more }
 {
     Tail::Params(list, more)
 }
 
 /// A parameter.
-pub fn parameter(form: BaseForm, declr: Declr) -> Param
+pub(crate) fn parameter(form: BaseForm, declr: Declr) -> Param
     ensures { view_parameter result ≡ s.parameter no_node (s.base no_node (view_base_form form)) (view_declarator declr) }
 {
     Param {
@@ -124,42 +124,46 @@ pub fn parameter(form: BaseForm, declr: Declr) -> Param
 }
 
 /// An expression as an initialiser.
-pub fn plain(value: Boxed<Expr>) -> Init
+pub(crate) fn plain(value: Boxed<Expr>) -> Init
     ensures { view_initialiser result ≡ s.plain (view_expression value) }
 {
     Init::Plain(value.into_inner())
 }
 
 /// `{ items [,] }`
-pub fn braces(list: List<Item>, comma: bool) -> Init
+pub(crate) fn braces(list: List<Item>, comma: bool) -> Init
     ensures { view_initialiser result ≡ s.braces (items (map view_item list)) comma }
 {
     Init::Braces(list, comma)
 }
 
 /// An item of an initialiser's braces.
-pub fn item(path: List<Desig>, init: Init) -> Item
+pub(crate) fn item(path: List<Desig>, init: Init) -> Item
     ensures { view_item result ≡ s.item (designators (map view_designator path)) (view_initialiser init) }
 {
     Item { path, init }
 }
 
 /// `.member`
-pub fn dot(member: Span) -> Desig
+pub(crate) fn dot(member: Span) -> Desig
     ensures { view_designator result ≡ s.dot_designator member }
 {
     Desig::Dot(member)
 }
 
 /// `[e]`
-pub fn at(place: Boxed<Expr>) -> Desig
+pub(crate) fn at(place: Boxed<Expr>) -> Desig
     ensures { view_designator result ≡ s.at_designator (view_expression place) }
 {
     Desig::At(place.into_inner())
 }
 
 /// A declaration.
-pub fn declaration(storage: Option<Storage>, form: BaseForm, list: List<Declr>) -> Declaration
+pub(crate) fn declaration(
+    storage: Option<Storage>,
+    form: BaseForm,
+    list: List<Declr>,
+) -> Declaration
     ensures { view_declaration result ≡ s.declaration storage (s.base no_node (view_base_form form)) (declarators (map view_declarator list)) }
 {
     Declaration {

@@ -4,19 +4,18 @@ ghost use Rattle.std.specs.Prelude.{◌≡◌, ◌≤◌, map, true};
 ghost use Rattle.stk_tree.specs.Nesting.{most_nesting};
 ghost use Rattle.stk_tree.specs.Placed.{local_storage};
 ghost use Rattle.stk_tree.specs.View.{declarators, view_declaration, view_declarator};
-ghost use Rattle.stk_decl_grammar.specs.Reading.{declaration_at, declarator_at, file_behind, file_declarators_at, front_at, front_behind, local_behind, local_on, storage_at};
+ghost use Rattle.stk_grammar.specs.DeclarationReading.{declaration_at, declarator_at, file_behind, file_declarators_at, front_at, front_behind, local_behind, local_on, storage_at};
 ghost use Rattle.stk_ctype.specs.Named.{named};
 ghost use Rattle.stk_expr.specs.Gives.{Gives};
 
 use crate::bases::full_base;
 use crate::build;
-use crate::declarators::{Place, declarators, function_declarator};
+use crate::declarators::{DeclaratorScope, declarators, function_declarator};
 use std::alloc::Global;
 use stk_base::List;
 use stk_ctype::Names;
-use stk_decl_grammar::{opens_body, storage_at};
 use stk_expr::{Parse, base};
-use stk_grammar::behind_semicolon;
+use stk_grammar::{behind_semicolon, opens_body, storage_at};
 use stk_tree::{Declaration, Declr, Lexeme, Storage};
 
 /// The declarators of a declaration at file scope, where there may be none, and the `;`.
@@ -33,7 +32,7 @@ fn file_declarators<'a>(
     if let Some(rest) = behind_semicolon(lexemes) {
         return Ok((List::empty(alloc), rest));
     }
-    declarators(alloc, bytes, names, Place::File, room, lexemes)
+    declarators(alloc, bytes, names, DeclaratorScope::File, room, lexemes)
 }
 
 /// A declaration at file scope, of at most the nesting `room`.
@@ -76,13 +75,13 @@ fn local_declaration<'a>(
         return Err(Parse::NoTree);
     }
     let (form, rest) = base(alloc, bytes, names, rest)?;
-    let (list, rest) = declarators(alloc, bytes, names, Place::Local, room, rest)?;
+    let (list, rest) = declarators(alloc, bytes, names, DeclaratorScope::Local, room, rest)?;
     Ok((build::declaration(storage, form, list), rest))
 }
 
 /// A declaration with its `;`, of at most the nesting `room`: at file scope, or else in a block.
-#[tactic(auto, unfolding(stk_decl_grammar::specs::Reading::declaration_at))]
-pub fn declaration<'a>(
+#[tactic(auto, unfolding(stk_grammar::specs::DeclarationReading::declaration_at))]
+pub(crate) fn declaration<'a>(
     alloc: Global,
     bytes: &[u8],
     names: &Names,
@@ -123,8 +122,8 @@ fn front<'a>(
 }
 
 /// What stands before the body of a function, of at most the nesting `room`, where the body's `{` follows.
-#[tactic(auto, unfolding(stk_decl_grammar::specs::Reading::front_at))]
-pub fn function_front<'a>(
+#[tactic(auto, unfolding(stk_grammar::specs::DeclarationReading::front_at))]
+pub(crate) fn function_front<'a>(
     alloc: Global,
     bytes: &[u8],
     names: &Names,

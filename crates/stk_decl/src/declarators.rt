@@ -3,7 +3,7 @@
 ghost use Rattle.std.specs.Prelude.{◌≡◌, ◌+◌, ◌^◌, ◌<◌, ◌≤◌, IfOk, length, map};
 ghost use Rattle.stk_tree.specs.Nesting.{tail_nesting, most_nesting};
 ghost use Rattle.stk_tree.specs.View.{declarators, view_declarator, view_tail};
-ghost use Rattle.stk_decl_grammar.specs.Reading.{declarator_at, declarators_at, declared_tail_at, function_declarator_at};
+ghost use Rattle.stk_grammar.specs.DeclarationReading.{declarator_at, declarators_at, declared_tail_at, function_declarator_at};
 ghost use Rattle.stk_ctype.specs.Named.{named};
 ghost use Rattle.stk_expr.specs.Gives.{Gives};
 ghost use Rattle.stk_decl.specs.Places.{declarator_in};
@@ -24,7 +24,7 @@ use stk_tree::{Declr, Lexeme, Tail};
 
 /// Where declarators stand.
 #[derive(Clone, Copy, Debug, PartialEq, Eq)]
-pub enum Place {
+pub enum DeclaratorScope {
     /// In a member of a `struct`.
     Member,
     /// In a block or a `for`.
@@ -83,7 +83,7 @@ fn low_tail<'a>(
 }
 
 /// A declarator with its initialiser, of at most the nesting `room`.
-#[tactic(auto, unfolding(stk_decl_grammar::specs::Reading::declarator_at))]
+#[tactic(auto, unfolding(stk_grammar::specs::DeclarationReading::declarator_at))]
 fn declarator<'a>(
     alloc: Global,
     bytes: &[u8],
@@ -110,8 +110,8 @@ fn declarator<'a>(
 }
 
 /// The declarator of a function, of at most the nesting `room`: a name with parameters.
-#[tactic(auto, unfolding(stk_decl_grammar::specs::Reading::function_declarator_at))]
-pub fn function_declarator<'a>(
+#[tactic(auto, unfolding(stk_grammar::specs::DeclarationReading::function_declarator_at))]
+pub(crate) fn function_declarator<'a>(
     alloc: Global,
     bytes: &[u8],
     names: &Names,
@@ -145,7 +145,7 @@ fn declarator_in<'a>(
     alloc: Global,
     bytes: &[u8],
     names: &Names,
-    place: Place,
+    place: DeclaratorScope,
     room: usize,
     lexemes: &'a [Lexeme],
 ) -> Result<(Declr, &'a [Lexeme]), Parse>
@@ -153,23 +153,23 @@ fn declarator_in<'a>(
     ensures { Gives (λ x. (view_declarator x.0, x.1.now)) result (declarator_in place (named bytes.now names.now) room lexemes.now) }
 {
     match place {
-        Place::Member => {
+        DeclaratorScope::Member => {
             let found = array_declarator(alloc, bytes, names, room, false, lexemes)?;
             Ok((found.declr, found.rest))
         }
-        Place::Local => declarator(alloc, bytes, names, room, false, lexemes),
-        Place::File => declarator(alloc, bytes, names, room, true, lexemes),
+        DeclaratorScope::Local => declarator(alloc, bytes, names, room, false, lexemes),
+        DeclaratorScope::File => declarator(alloc, bytes, names, room, true, lexemes),
     }
 }
 
-/// One declarator or more, and the `;`. The bound is for the prover: each turn takes a token, so there are no more turns than
-/// tokens.
-#[tactic(auto, unfolding(stk_decl_grammar::specs::Reading::declarators_at))]
-pub fn declarators<'a>(
+/// One declarator or more, and the `;`. The bound is for the prover: each turn takes a token, so there are no more
+/// turns than tokens.
+#[tactic(auto, unfolding(stk_grammar::specs::DeclarationReading::declarators_at))]
+pub(crate) fn declarators<'a>(
     alloc: Global,
     bytes: &[u8],
     names: &Names,
-    place: Place,
+    place: DeclaratorScope,
     room: usize,
     lexemes: &'a [Lexeme],
 ) -> Result<(List<Declr>, &'a [Lexeme]), Parse>

@@ -1,18 +1,17 @@
 //! Names at the front of some tokens.
 
 ghost use Rattle.std.specs.Prelude.{◌≡◌, option_map};
-ghost use Rattle.stk_decl_grammar.specs.Reading.{declared_name_at, name_at, optional_name_at};
+ghost use Rattle.stk_grammar.specs.DeclarationReading.{declared_name_at, name_at, optional_name_at};
 ghost use Rattle.stk_ctype.specs.Named.{named};
 
 use stk_base::Span;
 use stk_ctype::Names;
-use stk_decl_grammar::optional_word_at;
 use stk_expr::is_named;
-use stk_grammar::word_at;
+use stk_grammar::{optional_word_at, word_at};
 use stk_tree::Lexeme;
 
 /// A name: a word that is no typedef name in force.
-pub fn name_at<'a>(
+pub(crate) fn name_at<'a>(
     bytes: &[u8],
     names: &Names,
     lexemes: &'a [Lexeme],
@@ -48,7 +47,7 @@ fn optional_name_at<'a>(
 }
 
 /// A name, which may be missing where `nameless` says so.
-pub fn declared_name_at<'a>(
+pub(crate) fn declared_name_at<'a>(
     bytes: &[u8],
     names: &Names,
     nameless: bool,

@@ -3,7 +3,7 @@
 ghost use Rattle.std.specs.Prelude.{◌≡◌, ◌+◌, ◌≤◌, ◌<◌, suc, IfOk, length, map, option_map};
 ghost use Rattle.stk_tree.specs.Nesting.{designator_nesting, designators_nesting, maybe_initialiser_nesting, most_nesting};
 ghost use Rattle.stk_tree.specs.View.{designators, items, view_designator, view_initialiser, view_item};
-ghost use Rattle.stk_decl_grammar.specs.Reading.{behind_path, designator_at, designators_at, initial_at, initialiser_at, item_at, items_at, path_at};
+ghost use Rattle.stk_grammar.specs.DeclarationReading.{behind_path, designator_at, designators_at, initial_at, initialiser_at, item_at, items_at, path_at};
 ghost use Rattle.stk_ctype.specs.Named.{named};
 ghost use Rattle.stk_expr.specs.Gives.{Gives};
 ghost use Rattle.stk_decl.specs.Given.{given_initialiser};
@@ -13,11 +13,10 @@ use crate::turns::{Turn, brace_turn};
 use std::alloc::Global;
 use stk_base::List;
 use stk_ctype::Names;
-use stk_decl_grammar::begins_designator;
 use stk_expr::{Parse, higher, stopped};
 use stk_grammar::{
-    behind_assign, behind_dot, behind_left_brace, behind_left_bracket, behind_right_brace,
-    behind_right_bracket, word_at,
+    begins_designator, behind_assign, behind_dot, behind_left_brace, behind_left_bracket,
+    behind_right_brace, behind_right_bracket, word_at,
 };
 use stk_tree::{Desig, Init, Item, Lexeme, levels};
 
@@ -38,7 +37,7 @@ struct FoundDesignators<'a> {
 }
 
 /// A designator.
-#[tactic(auto, unfolding(stk_decl_grammar::specs::Reading::designator_at))]
+#[tactic(auto, unfolding(stk_grammar::specs::DeclarationReading::designator_at))]
 fn designator<'a>(
     alloc: Global,
     bytes: &[u8],
@@ -116,7 +115,7 @@ fn behind_path<'a>(path: &List<Desig>, lexemes: &'a [Lexeme]) -> Option<&'a [Lex
 }
 
 /// The designators of an item, with their `=`, of at most the nesting `room`.
-#[tactic(auto, unfolding(stk_decl_grammar::specs::Reading::path_at))]
+#[tactic(auto, unfolding(stk_grammar::specs::DeclarationReading::path_at))]
 fn path<'a>(
     alloc: Global,
     bytes: &[u8],
@@ -154,10 +153,10 @@ fn item<'a>(
     Ok((build::item(path, init), rest))
 }
 
-/// Items, whether a comma stands behind the last one, and the `}`. The bound is for the prover: each turn takes a token, so
-/// there are no more turns than tokens.
+/// Items, whether a comma stands behind the last one, and the `}`. The bound is for the prover: each turn takes a
+/// token, so there are no more turns than tokens.
 #[cycle(initialiser)]
-#[tactic(auto, unfolding(stk_decl_grammar::specs::Reading::items_at))]
+#[tactic(auto, unfolding(stk_grammar::specs::DeclarationReading::items_at))]
 fn items<'a>(
     alloc: Global,
     bytes: &[u8],
@@ -190,8 +189,8 @@ fn items<'a>(
 
 /// An initialiser, of at most the nesting `room`.
 #[cycle(initialiser)]
-#[tactic(auto, unfolding(stk_decl_grammar::specs::Reading::initialiser_at))]
-pub fn initialiser<'a>(
+#[tactic(auto, unfolding(stk_grammar::specs::DeclarationReading::initialiser_at))]
+pub(crate) fn initialiser<'a>(
     alloc: Global,
     bytes: &[u8],
     names: &Names,
@@ -213,7 +212,7 @@ pub fn initialiser<'a>(
 }
 
 /// The initialiser that may follow a declarator, with its `=`.
-pub fn initial<'a>(
+pub(crate) fn initial<'a>(
     alloc: Global,
     bytes: &[u8],
     names: &Names,

@@ -4,7 +4,7 @@ ghost use Rattle.std.specs.Prelude.{◌≡◌, ◌≤◌, IfOk, map};
 ghost use Rattle.stk_tree.specs.Nesting.{parameter_nesting, parameters_nesting, tail_nesting, most_nesting};
 ghost use Rattle.stk_tree.specs.Syntax as s;
 ghost use Rattle.stk_tree.specs.View.{parameters, view_parameter, view_tail};
-ghost use Rattle.stk_decl_grammar.specs.Reading.{more_parameters_at, parameter_at, parameter_tail_at};
+ghost use Rattle.stk_grammar.specs.DeclarationReading.{more_parameters_at, parameter_at, parameter_tail_at};
 ghost use Rattle.stk_ctype.specs.Named.{named};
 ghost use Rattle.stk_expr.specs.Gives.{Gives};
 ghost use Rattle.stk_decl.specs.Rows.{first_of, paired};
@@ -15,9 +15,8 @@ use crate::turns::{Turn, parameter_turn};
 use std::alloc::Global;
 use stk_base::List;
 use stk_ctype::Names;
-use stk_decl_grammar::behind_void;
 use stk_expr::{Parse, base, higher};
-use stk_grammar::behind_right_paren;
+use stk_grammar::{behind_right_paren, behind_void};
 use stk_tree::{Lexeme, Param, Tail};
 
 /// A parameter that was read, its nesting, and the tokens behind it.
@@ -46,7 +45,7 @@ pub struct FoundTail<'a> {
 }
 
 /// A parameter, of at most the nesting `room`.
-#[tactic(auto, unfolding(stk_decl_grammar::specs::Reading::parameter_at))]
+#[tactic(auto, unfolding(stk_grammar::specs::DeclarationReading::parameter_at))]
 fn parameter<'a>(
     alloc: Global,
     bytes: &[u8],
@@ -70,8 +69,8 @@ fn parameter<'a>(
     })
 }
 
-/// One parameter or more, whether `, ...` follows, and the `)`. The bound is for the prover: each turn takes a token, so there
-/// are no more turns than tokens.
+/// One parameter or more, whether `, ...` follows, and the `)`. The bound is for the prover: each turn takes a token,
+/// so there are no more turns than tokens.
 fn parameters<'a>(
     alloc: Global,
     bytes: &[u8],
@@ -109,8 +108,8 @@ fn parameters<'a>(
 }
 
 /// What stands behind the `(` that follows a declarator's name.
-#[tactic(auto, unfolding(stk_decl_grammar::specs::Reading::parameter_tail_at))]
-pub fn parameter_tail<'a>(
+#[tactic(auto, unfolding(stk_grammar::specs::DeclarationReading::parameter_tail_at))]
+pub(crate) fn parameter_tail<'a>(
     alloc: Global,
     bytes: &[u8],
     names: &Names,

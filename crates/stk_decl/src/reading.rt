@@ -6,19 +6,19 @@ ghost use Rattle.stk_tree.specs.declared.fixed.Lexeme.{Lexeme};
 ghost use Rattle.stk_tree.specs.Layout.{laid_declaration, unnumbered_at};
 ghost use Rattle.stk_tree.specs.Syntax.{DeclarationTree};
 ghost use Rattle.stk_tree.specs.View.{view_declaration};
-ghost use Rattle.stk_lexeme.specs.Lexemes.{lexemes_of, spans_of};
+ghost use Rattle.stk_grammar.specs.Lexemes.{lexemes_of, spans_of};
 ghost use Rattle.stk_tree.specs.Unlaid.{unlaid_declaration};
-ghost use Rattle.stk_decl_grammar.specs.Declarations.{DeclarationLeads, FrontLeads, IsDeclaration, IsFront};
+ghost use Rattle.stk_grammar.specs.Declarations.{DeclarationLeads, FrontLeads, IsDeclaration, IsFront};
 ghost use Rattle.stk_ctype.specs.Named.{named};
 
 use crate::declarations::{declaration, function_front};
 use std::alloc::Global;
 use stk_ctype::Names;
 use stk_expr::Parse;
+use stk_grammar::{lexemes_of, spans_of};
 use stk_lex::Token;
-use stk_lexeme::{lexemes_of, spans_of};
+use stk_nodes::span_declaration;
 use stk_tree::{Declaration, Lexeme, MOST_NESTING};
-use stk_tree_layout::span_declaration;
 
 /// A declaration at the front of some tokens, and the tokens behind it.
 #[derive(Drop)]
@@ -27,8 +27,9 @@ pub struct LeadingDeclaration<'a> {
     pub rest: &'a [Lexeme],
 }
 
-/// Reads the declaration that these tokens begin with, through its `;` (C11 6.7): one at file scope where `file` says so, and
-/// else one in a block or a `for`. This is the call for readers of what holds declarations; `room` is the nesting that is left.
+/// Reads the declaration that these tokens begin with, through its `;` (C11 6.7): one at file scope where `file` says
+/// so, and else one in a block or a `for`. This is the call for readers of what holds declarations; `room` is the
+/// nesting that is left.
 ///
 /// The tree is well placed, fits the names and is at most `room` high, as with `decl`. `NoTree` comes exactly where the
 /// tokens begin with no such declaration. The records of its nodes aren't set.
@@ -50,12 +51,12 @@ pub fn declaration_within<'a>(
     Ok(LeadingDeclaration { tree, rest })
 }
 
-/// Reads what these tokens begin with before the body of a function, where the body's `{` follows (C11 6.9.1): storage word,
-/// base and declarator, as a declaration with this one declarator. This is the call for readers of functions; `room` is the
-/// nesting that is left.
+/// Reads what these tokens begin with before the body of a function, where the body's `{` follows (C11 6.9.1): storage
+/// word, base and declarator, as a declaration with this one declarator. This is the call for readers of functions;
+/// `room` is the nesting that is left.
 ///
-/// The tree is well placed, fits the names and is at most `room` high, as with `front`. `NoTree` comes exactly where the
-/// tokens begin with nothing of that kind. The records of its nodes aren't set.
+/// The tree is well placed, fits the names and is at most `room` high, as with `front`. `NoTree` comes exactly where
+/// the tokens begin with nothing of that kind. The records of its nodes aren't set.
 pub fn front_within<'a>(
     alloc: Global,
     bytes: &[u8],
@@ -73,8 +74,8 @@ pub fn front_within<'a>(
     Ok(LeadingDeclaration { tree, rest })
 }
 
-/// Reads the declaration that begins at the place `at` among lexemes, and says at which place it ends. The records of its nodes
-/// aren't set.
+/// Reads the declaration that begins at the place `at` among lexemes, and says at which place it ends. The records of
+/// its nodes aren't set.
 fn declaration_at(
     alloc: Global,
     bytes: &[u8],
@@ -94,8 +95,8 @@ fn declaration_at(
     Ok((tree, lexemes.len() - rest.len()))
 }
 
-/// Reads what stands from the place `at` on among lexemes before the body of a function, and says at which place the body's `{`
-/// stands. The records of its nodes aren't set.
+/// Reads what stands from the place `at` on among lexemes before the body of a function, and says at which place the
+/// body's `{` stands. The records of its nodes aren't set.
 fn front_at(
     alloc: Global,
     bytes: &[u8],
@@ -114,13 +115,13 @@ fn front_at(
     Ok((tree, lexemes.len() - rest.len()))
 }
 
-/// Reads the declaration that begins at the place `at` among the tokens of a text, and says at which place it ends (C11 6.7): one
-/// at file scope where `file` says so, and else one in a block or a `for`.
+/// Reads the declaration that begins at the place `at` among the tokens of a text, and says at which place it ends (C11
+/// 6.7): one at file scope where `file` says so, and else one in a block or a `for`.
 ///
-/// `tokens` are those of `bytes`, at most 16,777,216, and the words that `names` has as typedef names stand for types. The answered
-/// tree may stand there, fits the names, nests at most 400 deep and prints exactly the tokens from `at` up to the answered place, its
-/// `;` included. `NoTree` comes exactly where no tree and no place are so. Each node has the number 0 and the span of the tokens that it
-/// prints. It takes time and memory for all of the tokens.
+/// `tokens` are those of `bytes`, at most 16,777,216, and the words that `names` has as typedef names stand for types.
+/// The answered tree may stand there, fits the names, nests at most 400 deep and prints exactly the tokens from `at` up
+/// to the answered place, its `;` included. `NoTree` comes exactly where no tree and no place are so. Each node has the
+/// number 0 and the span of the tokens that it prints. It takes time and memory for all of the tokens.
 pub fn decl(
     alloc: Global,
     bytes: &[u8],
@@ -143,12 +144,12 @@ pub fn decl(
     Ok((tree, end))
 }
 
-/// Reads what stands from the place `at` on among the tokens of a text before the body of a function, and says at which place the
-/// body's `{` stands (C11 6.9.1).
+/// Reads what stands from the place `at` on among the tokens of a text before the body of a function, and says at which
+/// place the body's `{` stands (C11 6.9.1).
 ///
-/// The answered tree is the storage word, the base and the declarator, as a declaration with this one declarator. It fits the
-/// names, nests at most 400 deep and prints exactly the tokens from `at` up to the answered place, without a `;`. `NoTree` comes
-/// exactly where no tree and no place are so. Nodes, time and memory are as with `decl`.
+/// The answered tree is the storage word, the base and the declarator, as a declaration with this one declarator. It
+/// fits the names, nests at most 400 deep and prints exactly the tokens from `at` up to the answered place, without a
+/// `;`. `NoTree` comes exactly where no tree and no place are so. Nodes, time and memory are as with `decl`.
 pub fn front(
     alloc: Global,
     bytes: &[u8],

@@ -3,8 +3,9 @@
 ghost use Rattle.std.specs.Prelude.{◌≡◌, option_map};
 ghost use Rattle.stk_decl.specs.Turns.{brace_turn, declarator_turn, parameter_turn};
 
-use stk_decl_grammar::behind_more;
-use stk_grammar::{behind_comma, behind_right_brace, behind_right_paren, behind_semicolon};
+use stk_grammar::{
+    behind_comma, behind_more, behind_right_brace, behind_right_paren, behind_semicolon,
+};
 use stk_tree::Lexeme;
 
 /// How a row goes on at some tokens.
@@ -17,7 +18,7 @@ pub enum Turn {
 }
 
 /// Behind an enumerator, or an item of an initialiser's braces.
-pub fn brace_turn(lexemes: &[Lexeme]) -> Option<(Turn, &[Lexeme])>
+pub(crate) fn brace_turn(lexemes: &[Lexeme]) -> Option<(Turn, &[Lexeme])>
     ensures { option_map (λ x. (x.0, x.1.now)) result ≡ brace_turn lexemes.now }
 {
     let Some(next) = behind_comma(lexemes) else {
@@ -31,7 +32,7 @@ pub fn brace_turn(lexemes: &[Lexeme]) -> Option<(Turn, &[Lexeme])>
 }
 
 /// Behind a parameter.
-pub fn parameter_turn(lexemes: &[Lexeme]) -> Option<(Turn, &[Lexeme])>
+pub(crate) fn parameter_turn(lexemes: &[Lexeme]) -> Option<(Turn, &[Lexeme])>
     ensures { option_map (λ x. (x.0, x.1.now)) result ≡ parameter_turn lexemes.now }
 {
     let Some(next) = behind_comma(lexemes) else {
@@ -45,7 +46,7 @@ pub fn parameter_turn(lexemes: &[Lexeme]) -> Option<(Turn, &[Lexeme])>
 }
 
 /// Behind a declarator in a list.
-pub fn declarator_turn(lexemes: &[Lexeme]) -> Option<(Turn, &[Lexeme])>
+pub(crate) fn declarator_turn(lexemes: &[Lexeme]) -> Option<(Turn, &[Lexeme])>
     ensures { option_map (λ x. (x.0, x.1.now)) result ≡ declarator_turn lexemes.now }
 {
     let Some(next) = behind_comma(lexemes) else {

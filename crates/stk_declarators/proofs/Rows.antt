@@ -2,7 +2,7 @@
 use Rattle.std.proofs.Common.{◌≡◌, ◌++◌, ◌||◌, ◌+◌, ℕ, suc, length, arith, Bool, true, false, List, [], ◌∷◌, map, refl, sym, ap, ◌∙◌, subst, append_assoc, append-nil, Result, Ok, Err}
 use Rattle.std.proofs.lemmas.List.{map-append}
 use Rattle.std.specs.Prelude.{OnOk}
-use Rattle.stk_scope.specs.declared.locals.LocalName.{LocalName}
+use Rattle.stk_typing.specs.declared.locals.LocalName.{LocalName}
 use Rattle.stk_ctype.specs.declared.ctype.CType.{CType}
 use Rattle.stk_ctype.specs.Types.{TypeTree, function_type, signature, type_of, row_of}
 use Rattle.stk_ctype.specs.Structs.{Structs}
@@ -13,14 +13,14 @@ use Rattle.stk_tree.specs.declared.declaration.Param.{Param, out-Param, fold_out
 use Rattle.stk_tree.specs.Syntax.{BaseFormTree, DesigTree, DimensionTree, InitTree, TailTree, ExprFormTree, BaseTree, DeclrTree, EnumrTree, ItemTree, MaybeInitTree, MemberTree, ParamTree, ParamTrees, TypeNameTree, ExprTree}
 use Rattle.stk_tree.specs.Syntax as s
 use Rattle.stk_tree.specs.View.{base_form_step, designator_step, dimension_step, initialiser_step, tail_step, expression_form_step, base_step, declarator_step, enumerator_step, item_step, member_step, parameter_step, type_name_step, expression_step, items, view_item, view_base, view_declarator, view_parameter, view_tail}
-use Rattle.stk_facts.specs.declared.untyped.Untyped.{Untyped}
-use Rattle.stk_facts.specs.Facts.{Fact, fact_at, plain}
-use Rattle.stk_facts.specs.Outcome.{Outcome, Good, and_then, finish, IsAt, Gives}
-use Rattle.stk_facts.proofs.Steps.{goes}
+use Rattle.stk_type_rules.specs.declared.untyped.Untyped.{Untyped}
+use Rattle.stk_type_rules.specs.Facts.{Fact, fact_at, plain}
+use Rattle.stk_type_rules.specs.Outcome.{Outcome, Good, and_then, finish, IsAt, Gives}
+use Rattle.stk_type_rules.proofs.Steps.{goes}
 use Rattle.stk_typing.proofs.Turns.{mapped}
-use Rattle.stk_scope.specs.Locals.{Local, AreSoundLocals, local_of}
-use Rattle.stk_scope.specs.Scope.{Scope, unevaluated}
-use Rattle.stk_scope.specs.Arrays.{starred}
+use Rattle.stk_typing.specs.Locals.{Local, AreSoundLocals, local_of}
+use Rattle.stk_typing.specs.Scope.{Scope, unevaluated}
+use Rattle.stk_typing.specs.Arrays.{starred}
 use Rattle.stk_typing.specs.Forms.{structs_in}
 use Rattle.stk_typing.specs.Typing.{base_typed, dimensions_typed}
 use Rattle.stk_declarators.specs.declared.prototypes.Params.{Params}

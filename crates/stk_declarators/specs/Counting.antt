@@ -1,10 +1,12 @@
--- How many elements an initialiser gives an array of unknown size (C11 6.7.9p22), where this profile counts them: string literals; braces without designators whose items are all in braces, or none of them, and then the elements are scalars. Items aren't flattened.
+-- How many elements an initialiser gives an array of unknown size (C11 6.7.9p22), where this profile counts them:
+-- string literals; braces without designators whose items are all in braces, or none of them, and then the elements are
+-- scalars. Items aren't flattened.
 use Rattle.std.specs.Prelude.{ℕ, ◌+◌, Bool, true, false, not, ◌&&◌, ◌||◌, if◌then◌else◌, List, length, map, Option, Some, None}
 use Rattle.std.specs.Option.{option_map}
 use Rattle.stk_base.specs.Text.{text_of}
 use Rattle.stk_tree.specs.Syntax.{ExprTree, ExprFormTree, InitTree, MaybeInitTree, ItemTree, ItemTrees, DesigTrees}
 use Rattle.stk_tree.specs.Syntax as s
-use Rattle.stk_constants.specs.Strings.{string_bytes}
+use Rattle.stk_numbers.specs.Strings.{string_bytes}
 
 -- string literals: their bytes and a zero
 abbrev pub form_count : List ℕ → ExprFormTree → Option ℕ

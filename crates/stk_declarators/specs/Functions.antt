@@ -2,8 +2,8 @@
 use Rattle.std.specs.Prelude.{ℕ, Bool, true, false, not, ◌&&◌, ◌||◌, if◌then◌else◌, List, [], ◌∷◌, Option, Some, None}
 use Rattle.stk_ctype.specs.Types.{TypeTree, void_type, integer_type, pointer_type, array_type, struct_type, function_type, signature, row_of}
 use Rattle.stk_ctype.specs.Structs.{Structs}
-use Rattle.stk_facts.specs.Facts.{Ruled, Breaks, Fits, declares}
-use Rattle.stk_rules.specs.Types.{is_complete}
+use Rattle.stk_type_rules.specs.Facts.{Ruled, Breaks, Fits, declares}
+use Rattle.stk_type_rules.specs.Types.{is_complete}
 use Rattle.stk_declarators.specs.Parameters.{Parameter, types_of, have_unnamed}
 
 -- a function may return `void`, a scalar or a struct, which is complete in a definition

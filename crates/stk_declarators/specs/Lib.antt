@@ -3,3 +3,4 @@ pub mod Parameters
 pub mod Functions
 pub mod Tails
 pub mod Rows
+pub mod Uses

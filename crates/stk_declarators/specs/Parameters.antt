@@ -7,13 +7,13 @@ use Rattle.stk_ctype.specs.Types.{TypeTree, void_type, integer_type, pointer_typ
 use Rattle.stk_ctype.specs.Structs.{Structs}
 use Rattle.stk_tree.specs.Syntax.{DimensionTrees, TailTree, DeclrTree, ParamTree, ParamTrees}
 use Rattle.stk_tree.specs.Syntax as s
-use Rattle.stk_facts.specs.Facts.{Fact, Ruled, Breaks, Fits, plain, declares}
-use Rattle.stk_facts.specs.Outcome.{Outcome, Good, and_then, finish}
-use Rattle.stk_rules.specs.Types.{is_complete}
-use Rattle.stk_scope.specs.declared.arrays.Size.{Size}
-use Rattle.stk_scope.specs.Locals.{Local, find_local}
-use Rattle.stk_scope.specs.Scope.{Scope, unevaluated}
-use Rattle.stk_scope.specs.Arrays.{starred, declared_type}
+use Rattle.stk_type_rules.specs.Facts.{Fact, Ruled, Breaks, Fits, plain, declares}
+use Rattle.stk_type_rules.specs.Outcome.{Outcome, Good, and_then, finish}
+use Rattle.stk_type_rules.specs.Types.{is_complete}
+use Rattle.stk_typing.specs.declared.arrays.Size.{Size}
+use Rattle.stk_typing.specs.Locals.{Local, find_local}
+use Rattle.stk_typing.specs.Scope.{Scope, unevaluated}
+use Rattle.stk_typing.specs.Arrays.{starred, declared_type}
 use Rattle.stk_typing.specs.Forms.{structs_in}
 use Rattle.stk_typing.specs.Typing.{base_typed, dimensions_typed}
 
@@ -27,7 +27,8 @@ pub record Parameter : Type 0 where
 abbrev pub struct_parameter : Structs → Bool → TypeTree → Ruled
 struct_parameter structs defines t = if defines && not (is_complete structs t) then Breaks 4 else Fits (declares t)
 
--- the type of a parameter: an array is passed as a pointer to its element; `void` and functions are no types of parameters
+-- the type of a parameter: an array is passed as a pointer to its element; `void` and functions are no types of
+-- parameters
 abbrev pub adjusted : Structs → Bool → TypeTree → Ruled
 adjusted structs defines void_type = Breaks 4
 adjusted structs defines (integer_type k) = Fits (declares (integer_type k))

@@ -5,9 +5,9 @@ use Rattle.stk_ctype.specs.Types.{TypeTree, type_of}
 use Rattle.stk_ctype.specs.declared.symbol.NameEntry.{NameEntry}
 use Rattle.stk_ctype.specs.Structs.{Structs}
 use Rattle.stk_ctype.specs.Sound.{IsSound}
-use Rattle.stk_scope.specs.declared.locals.LocalName.{LocalName}
-use Rattle.stk_scope.specs.Locals.{Local, local_of}
-use Rattle.stk_scope.specs.Scope.{Scope}
+use Rattle.stk_typing.specs.declared.locals.LocalName.{LocalName}
+use Rattle.stk_typing.specs.Locals.{Local, local_of}
+use Rattle.stk_typing.specs.Scope.{Scope}
 use Rattle.stk_declarators.specs.declared.prototypes.File.{File}
 use Rattle.stk_declarators.specs.declared.prototypes.Params.{Params}
 use Rattle.stk_declarators.specs.declared.tails.Tailed.{Tailed}
@@ -27,7 +27,8 @@ abbrev pub AreSoundTypes : Structs → List CType → Type 0
 AreSoundTypes structs [] = Unit {0}
 AreSoundTypes structs (t ∷ ts) = IsSound structs (type_of t) × AreSoundTypes structs ts
 
--- the types are those of the parameters, so is whether one has no name, and the locals are those before with their names
+-- the types are those of the parameters, so is whether one has no name, and the locals are those before with their
+-- names
 pub record AreParams (before now : List Local) (ps : List Parameter) (r : Params) : Type 0 where
   pub types : map type_of r.types.items ≡ types_of ps
   pub unnamed : r.unnamed ≡ have_unnamed ps

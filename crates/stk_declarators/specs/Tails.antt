@@ -4,14 +4,14 @@ use Rattle.stk_ctype.specs.Types.{TypeTree}
 use Rattle.stk_ctype.specs.Structs.{Structs}
 use Rattle.stk_tree.specs.Syntax.{TailTree, DimensionTrees, ParamTrees}
 use Rattle.stk_tree.specs.Syntax as s
-use Rattle.stk_facts.specs.declared.facts.Constancy.TheVariants.{Number}
-use Rattle.stk_facts.specs.Facts.{Ruled}
-use Rattle.stk_facts.specs.Outcome.{Outcome, Good, and_then}
-use Rattle.stk_rules.specs.Types.{is_scalar}
-use Rattle.stk_scope.specs.declared.arrays.Size.{Size}
-use Rattle.stk_scope.specs.declared.arrays.Size.TheVariants.{Open, Sized}
-use Rattle.stk_scope.specs.Scope.{Scope, unevaluated}
-use Rattle.stk_scope.specs.Arrays.{declared_type}
+use Rattle.stk_type_rules.specs.declared.facts.Constancy.TheVariants.{Number}
+use Rattle.stk_type_rules.specs.Facts.{Ruled}
+use Rattle.stk_type_rules.specs.Outcome.{Outcome, Good, and_then}
+use Rattle.stk_type_rules.specs.Types.{is_scalar}
+use Rattle.stk_typing.specs.declared.arrays.Size.{Size}
+use Rattle.stk_typing.specs.declared.arrays.Size.TheVariants.{Open, Sized}
+use Rattle.stk_typing.specs.Scope.{Scope, unevaluated}
+use Rattle.stk_typing.specs.Arrays.{declared_type}
 use Rattle.stk_typing.specs.Typing.{dimensions_typed}
 use Rattle.stk_declarators.specs.Parameters.{Parameter, parameters_typed}
 use Rattle.stk_declarators.specs.Functions.{function_rule}

@@ -7,7 +7,7 @@ ghost use Rattle.stk_declarators.specs.Counting.{form_count, expression_count, i
 
 use std::alloc::Global;
 use stk_base::NoMemory;
-use stk_constants::string_bytes;
+use stk_numbers::string_bytes;
 use stk_tree::{Desig, Expr, ExprForm, Init, Item};
 
 // The bytes of string literals and a zero.
@@ -97,11 +97,11 @@ fn items_count(scalar: bool, list: &[Item]) -> Option<u64>
     }
 }
 
-/// How many elements an initialiser gives an array of unknown size, whose elements are scalars or not (C11 6.7.9p22): string
-/// literals as many as they have bytes, and one; braces without designators as many as they have items, where all of these stand
-/// in braces, or none of them does and the elements are scalars. `None` for any other initialiser, which doesn't count in this
-/// profile. The text is the input, in which string literals have their spans.
-pub fn initial_count(
+/// How many elements an initialiser gives an array of unknown size, whose elements are scalars or not (C11 6.7.9p22):
+/// string literals as many as they have bytes, and one; braces without designators as many as they have items, where
+/// all of these stand in braces, or none of them does and the elements are scalars. `None` for any other initialiser,
+/// which doesn't count in this profile. The text is the input, in which string literals have their spans.
+pub(crate) fn initial_count(
     alloc: Global,
     bytes: &[u8],
     scalar: bool,

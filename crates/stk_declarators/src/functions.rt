@@ -4,7 +4,7 @@ ghost use Rattle.std.specs.Prelude.{◌≡◌, IfOk, map};
 ghost use Rattle.stk_ctype.specs.Types.{type_of};
 ghost use Rattle.stk_ctype.specs.Structs.{structs_of};
 ghost use Rattle.stk_ctype.specs.Sound.{IsSound};
-ghost use Rattle.stk_facts.specs.Outcome.{MakesFact};
+ghost use Rattle.stk_type_rules.specs.Outcome.{MakesFact};
 ghost use Rattle.stk_declarators.specs.Parameters.{Parameter, types_of, have_unnamed};
 ghost use Rattle.stk_declarators.specs.Functions.{may_return, function_rule};
 ghost use Rattle.stk_declarators.specs.Rows.{AreSoundTypes};
@@ -13,8 +13,7 @@ use crate::Params;
 use std::alloc::Global;
 use stk_base::List;
 use stk_ctype::{CType, Names, OwnedSignature, Signature};
-use stk_facts::{Broken, NodeFact};
-use stk_rules::is_complete;
+use stk_type_rules::{Broken, NodeFact, is_complete};
 
 // Whether a function, of a definition or not, may return this type.
 fn may_return(names: &Names, defines: bool, ty: &CType) -> bool
@@ -28,9 +27,9 @@ fn may_return(names: &Names, defines: bool, ty: &CType) -> bool
     }
 }
 
-/// What the rules make of a function's declarator, with its result and its parameters (C11 6.7.6.3, 6.9.1). Rule 4 refuses a
-/// result that is an array, a function, or in a definition an incomplete struct; rule 15 a definition with a parameter without a
-/// name.
+/// What the rules make of a function's declarator, with its result and its parameters (C11 6.7.6.3, 6.9.1). Rule 4
+/// refuses a result that is an array, a function, or in a definition an incomplete struct; rule 15 a definition with a
+/// parameter without a name.
 pub(crate) fn function_rule(
     alloc: Global,
     names: &Names,

@@ -6,11 +6,11 @@ ghost use Rattle.stk_ctype.specs.Types.{pointer_type, type_of};
 ghost use Rattle.stk_ctype.specs.Structs.{Structs, structs_of};
 ghost use Rattle.stk_ctype.specs.Sound.{IsSound};
 ghost use Rattle.stk_tree.specs.View.{view_tail, view_parameter, view_dimension, dimensions, parameters};
-ghost use Rattle.stk_facts.specs.Facts.{AreSoundFacts, Ruled, Fits, declares, fact_of, fact_at};
-ghost use Rattle.stk_facts.specs.Outcome.{Gives, IsAt, MakesFact, finish};
-ghost use Rattle.stk_scope.specs.Locals.{AreSoundLocals, local_of};
-ghost use Rattle.stk_scope.specs.Scope.{IsSoundScope, scope_of};
-ghost use Rattle.stk_scope.specs.Arrays.{starred};
+ghost use Rattle.stk_type_rules.specs.Facts.{AreSoundFacts, Ruled, Fits, declares, fact_of, fact_at};
+ghost use Rattle.stk_type_rules.specs.Outcome.{Gives, IsAt, MakesFact, finish};
+ghost use Rattle.stk_typing.specs.Locals.{AreSoundLocals, local_of};
+ghost use Rattle.stk_typing.specs.Scope.{IsSoundScope, scope_of};
+ghost use Rattle.stk_typing.specs.Arrays.{starred};
 ghost use Rattle.stk_typing.specs.Forms.{structs_in};
 ghost use Rattle.stk_declarators.specs.Parameters.{struct_parameter, adjusted, adjusted_from, parameter_rule, is_taken, name_text, array_parts, parameter_type, parameter_typed, parameters_typed, local_from};
 ghost use Rattle.stk_declarators.specs.Rows.{AreParams, AreSoundTypes, scope_with, file_scope};
@@ -18,11 +18,11 @@ ghost use Rattle.stk_declarators.specs.Rows.{AreParams, AreSoundTypes, scope_wit
 use std::alloc::Global;
 use stk_base::{List, NoMemory, Span};
 use stk_ctype::{CType, Names, SharedType};
-use stk_facts::{Broken, NodeFact, Untyped, fact, own};
-use stk_rules::is_complete;
-use stk_scope::{LocalName, Locals, Scoped, Size, declared_type, starred};
 use stk_tree::{Declr, Dimension, Param, Tail};
-use stk_typing::{base, dimensions, unevaluated};
+use stk_type_rules::{Broken, NodeFact, Untyped, fact, is_complete, own};
+use stk_typing::{
+    LocalName, Locals, Scoped, Size, base, declared_type, dimensions, starred, unevaluated,
+};
 
 /// Where declarators stand: the input, and the names of file scope in force.
 #[derive(Clone, Copy)]
@@ -259,9 +259,9 @@ fn add_type(f: &File, all: &mut Params, name: Option<Span>, ty: &CType) -> Resul
     Ok(())
 }
 
-/// Types the parameters of a function, of a definition or not (C11 6.7.6.3): a fact for each of their nodes is put behind the
-/// others, and their names come into force behind the locals. The answer is their types and whether one has no name; or the first
-/// node that a rule refuses, by the lowest rule that does.
+/// Types the parameters of a function, of a definition or not (C11 6.7.6.3): a fact for each of their nodes is put
+/// behind the others, and their names come into force behind the locals. The answer is their types and whether one has
+/// no name; or the first node that a rule refuses, by the lowest rule that does.
 pub fn parameters(
     f: &File,
     locals: &mut Locals,

@@ -5,9 +5,9 @@ ghost use Rattle.stk_ctype.specs.Types.{type_of};
 ghost use Rattle.stk_ctype.specs.Structs.{structs_of};
 ghost use Rattle.stk_ctype.specs.Sound.{IsSound};
 ghost use Rattle.stk_tree.specs.View.{view_tail, view_dimension, view_parameter, dimensions, parameters};
-ghost use Rattle.stk_facts.specs.Facts.{AreSoundFacts, fact_of};
-ghost use Rattle.stk_facts.specs.Outcome.{Gives, MakesFact};
-ghost use Rattle.stk_scope.specs.Locals.{AreSoundLocals, local_of};
+ghost use Rattle.stk_type_rules.specs.Facts.{AreSoundFacts, fact_of};
+ghost use Rattle.stk_type_rules.specs.Outcome.{Gives, MakesFact};
+ghost use Rattle.stk_typing.specs.Locals.{AreSoundLocals, local_of};
 ghost use Rattle.stk_declarators.specs.Tails.{TailShape, arrays_typed, function_typed, tail_typed, counted_sizes, are_scalars, tail_type};
 ghost use Rattle.stk_declarators.specs.Rows.{IsTail, IsShape, IsSoundTail, file_scope};
 
@@ -15,13 +15,12 @@ use crate::functions::function_rule;
 use crate::{File, Params, parameters, scope};
 use std::alloc::Global;
 use stk_ctype::{CType, Names};
-use stk_facts::{Broken, Constancy, NodeFact, Untyped};
-use stk_rules::is_scalar;
-use stk_scope::{Locals, Size, declared_type};
 use stk_tree::{Dimension, Param, Tail};
-use stk_typing::{dimensions, unevaluated};
+use stk_type_rules::{Broken, Constancy, NodeFact, Untyped, is_scalar};
+use stk_typing::{Locals, Size, declared_type, dimensions, unevaluated};
 
-/// What follows the name: the sizes of array parts; or the parameters of a function, and whether it may take more arguments.
+/// What follows the name: the sizes of array parts; or the parameters of a function, and whether it may take more
+/// arguments.
 #[derive(Drop)]
 pub enum Tailed {
     Arrays(Vec<Size>),
@@ -66,9 +65,9 @@ fn function_tail(
     Ok(Tailed::Function(params, more))
 }
 
-/// Types what follows the name in a declarator, of a function definition or not (C11 6.7.6): a fact for each of its nodes is put
-/// behind the others, and the names of parameters come into force behind the locals. The answer says what it is; or it is the
-/// first node that a rule refuses, by the lowest rule that does.
+/// Types what follows the name in a declarator, of a function definition or not (C11 6.7.6): a fact for each of its
+/// nodes is put behind the others, and the names of parameters come into force behind the locals. The answer says what
+/// it is; or it is the first node that a rule refuses, by the lowest rule that does.
 pub fn tail(
     f: &File,
     locals: &mut Locals,
@@ -93,7 +92,8 @@ pub fn tail(
     }
 }
 
-/// Whether the elements of an array of unknown size with these parts are scalars: there is no other part, and this type is one.
+/// Whether the elements of an array of unknown size with these parts are scalars: there is no other part, and this type
+/// is one.
 pub fn are_scalars(sizes: &[Size], ty: &CType) -> bool
     ensures { result ≡ are_scalars sizes.now (type_of ty.now) }
 {
@@ -118,11 +118,11 @@ fn counted_sizes(count: Option<u64>, sizes: Vec<Size>) -> Vec<Size>
     all
 }
 
-/// What the rules make of a declarator, of a function definition or not: the type that it declares, with the type that its base
-/// and stars name, what follows its name, and the number of elements that its initialiser counts (C11 6.7.6). Rule 4 refuses an
-/// incomplete element, an inner array part without a size, and a result that no function returns; rule 5 a size that isn't a
-/// constant of at least 1 and a type that is too large; rule 15 a parameter of a definition without a name. An outermost array
-/// part without a size stays one where nothing is counted.
+/// What the rules make of a declarator, of a function definition or not: the type that it declares, with the type that
+/// its base and stars name, what follows its name, and the number of elements that its initialiser counts (C11 6.7.6).
+/// Rule 4 refuses an incomplete element, an inner array part without a size, and a result that no function returns;
+/// rule 5 a size that isn't a constant of at least 1 and a type that is too large; rule 15 a parameter of a definition
+/// without a name. An outermost array part without a size stays one where nothing is counted.
 pub fn tail_type(
     alloc: Global,
     names: &Names,

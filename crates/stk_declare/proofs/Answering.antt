@@ -1,9 +1,9 @@
 -- How the answers of parts make the answer of the whole.
 use Rattle.std.proofs.Common.{List, Result, Ok, Err}
-use Rattle.stk_facts.specs.declared.untyped.Untyped.{Untyped}
-use Rattle.stk_facts.specs.declared.untyped.Untyped.TheVariants.{Rule, NoMemory}
-use Rattle.stk_facts.specs.Facts.{Fact}
-use Rattle.stk_facts.specs.Outcome.{Outcome, Good, Refused, after, and_then, Gives}
+use Rattle.stk_type_rules.specs.declared.untyped.Untyped.{Untyped}
+use Rattle.stk_type_rules.specs.declared.untyped.Untyped.TheVariants.{Rule, NoMemory}
+use Rattle.stk_type_rules.specs.Facts.{Fact}
+use Rattle.stk_type_rules.specs.Outcome.{Outcome, Good, Refused, after, and_then, Gives}
 use Rattle.stk_declare.specs.Answers.{Answers}
 
 -- want of memory is always an answer

@@ -12,10 +12,10 @@ use Rattle.stk_ctype.specs.Structs.{Structs, StructLayout, structs_of, struct_at
 use Rattle.stk_ctype.specs.Sound.{IsSound, IsWithinLimit, IsMember, IsLastMember, IsOpenArray, AreMembers, RestsOn}
 use Rattle.stk_ctype.specs.Names.{struct_count}
 use Rattle.stk_ctype.proofs.Noting.{structs_behind-append, length-structs_behind}
-use Rattle.stk_facts.specs.declared.facts.NodeFact.{NodeFact}
-use Rattle.stk_facts.specs.Facts.{Ruled, Breaks, Fits, fact_of, names_type}
-use Rattle.stk_facts.specs.Outcome.{Good, and_then, finish}
-use Rattle.stk_rules.specs.Types.{is_complete}
+use Rattle.stk_type_rules.specs.declared.facts.NodeFact.{NodeFact}
+use Rattle.stk_type_rules.specs.Facts.{Ruled, Breaks, Fits, fact_of, names_type}
+use Rattle.stk_type_rules.specs.Outcome.{Good, and_then, finish}
+use Rattle.stk_type_rules.specs.Types.{is_complete}
 use Rattle.stk_declare.specs.Answers.{Answers}
 use Rattle.stk_declare.specs.Members.{AreComplete, AreMembersSoFar}
 use Rattle.stk_declare.specs.Shown.{based}

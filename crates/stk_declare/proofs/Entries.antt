@@ -12,20 +12,20 @@ use Rattle.stk_tree.specs.declared.node.Node.{Node}
 use Rattle.stk_tree.specs.declared.declaration.Storage.{Storage}
 use Rattle.stk_tree.specs.Syntax.{BaseTree, DeclrTree, EnumrTrees, MemberTrees, MaybeInitTree, TailTree, ExprTree}
 use Rattle.stk_tree.specs.Syntax as s
-use Rattle.stk_facts.specs.declared.facts.Constancy.{Constancy}
-use Rattle.stk_facts.specs.declared.facts.Constancy.TheVariants as constancy
-use Rattle.stk_facts.specs.declared.facts.NodeFact.{NodeFact}
-use Rattle.stk_facts.specs.declared.untyped.Untyped.{Untyped}
-use Rattle.stk_facts.specs.Facts.{Fact, Ruled, fact_of, plain}
-use Rattle.stk_facts.specs.Outcome.{Outcome, Good, and_then, finish, Gives}
-use Rattle.stk_scope.specs.declared.arrays.Size.{Size}
-use Rattle.stk_scope.specs.Arrays.{starred, declared_type}
-use Rattle.stk_scope.specs.Locals.{Local}
-use Rattle.stk_tags.specs.Uses.{expression_uses, dimensions_uses}
+use Rattle.stk_type_rules.specs.declared.facts.Constancy.{Constancy}
+use Rattle.stk_type_rules.specs.declared.facts.Constancy.TheVariants as constancy
+use Rattle.stk_type_rules.specs.declared.facts.NodeFact.{NodeFact}
+use Rattle.stk_type_rules.specs.declared.untyped.Untyped.{Untyped}
+use Rattle.stk_type_rules.specs.Facts.{Fact, Ruled, fact_of, plain}
+use Rattle.stk_type_rules.specs.Outcome.{Outcome, Good, and_then, finish, Gives}
+use Rattle.stk_typing.specs.declared.arrays.Size.{Size}
+use Rattle.stk_typing.specs.Arrays.{starred, declared_type}
+use Rattle.stk_typing.specs.Locals.{Local}
+use Rattle.stk_declarators.specs.Uses.{expression_uses, dimensions_uses}
 use Rattle.stk_typing.specs.Typing.{base_typed, dimensions_typed, expression_typed}
 use Rattle.stk_declarators.specs.Parameters.{array_parts}
-use Rattle.stk_agree.specs.Making.{made}
-use Rattle.stk_agree.proofs.Made.{made_type}
+use Rattle.stk_compatible.specs.Making.{made}
+use Rattle.stk_compatible.proofs.Made.{made_type}
 use Rattle.stk_declarators.specs.declared.tails.Tailed.{Tailed}
 use Rattle.stk_declarators.specs.Rows.{IsShape, IsTail}
 use Rattle.stk_declarators.specs.Tails.{TailShape, tail_typed}

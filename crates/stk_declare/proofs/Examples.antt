@@ -13,11 +13,11 @@ use Rattle.stk_tree.specs.declared.declaration.Storage.{Storage}
 use Rattle.stk_tree.specs.declared.declaration.Storage.TheVariants as storage
 use Rattle.stk_tree.specs.Syntax.{BaseTree, DeclrTree, DeclrTrees, ExprTree, InitTree, ItemTrees, MaybeInitTree, ParamTree, StmtTree, TailTree, UnitTree}
 use Rattle.stk_tree.specs.Syntax as s
-use Rattle.stk_facts.specs.Facts.{Breaks, Fits, declares}
-use Rattle.stk_facts.specs.Outcome.{Outcome, Good, Refused}
-use Rattle.stk_agree.specs.Making.{made, made_signature}
-use Rattle.stk_agree.specs.Agreeing.{agree}
-use Rattle.stk_declare.specs.declared.symbols.Sort.TheVariants.{Object}
+use Rattle.stk_type_rules.specs.Facts.{Breaks, Fits, declares}
+use Rattle.stk_type_rules.specs.Outcome.{Outcome, Good, Refused}
+use Rattle.stk_compatible.specs.Making.{made, made_signature}
+use Rattle.stk_compatible.specs.Agreeing.{agree}
+use Rattle.stk_declare.specs.declared.symbols.SymbolSort.TheVariants.{Object}
 use Rattle.stk_declare.specs.Symbols.{agreed_rule}
 use Rattle.stk_declare.specs.Declaring.{unit_declared}
 

@@ -5,8 +5,8 @@ use Rattle.stk_ctype.specs.declared.ctype.Signature.{Signature}
 use Rattle.stk_ctype.specs.Structs.{Structs}
 use Rattle.stk_ctype.specs.Sound.{IsSoundSignature}
 use Rattle.stk_ctype.specs.Types.{SignatureTree, signature, TypeTrees, no_types, then_type, row_of, type_of, signature_of}
-use Rattle.stk_agree.specs.Making.{made, made_signature, made_row}
-use Rattle.stk_agree.proofs.Made.{made_type, shown}
+use Rattle.stk_compatible.specs.Making.{made, made_signature, made_row}
+use Rattle.stk_compatible.proofs.Made.{made_type, shown}
 use Rattle.stk_declare.specs.Symbols.{marked}
 
 rows_made : (ts : List CType) → made_row (row_of (map type_of ts)) ≡ ts

@@ -12,9 +12,9 @@ use Rattle.stk_tree.specs.declared.declaration.Storage.{Storage}
 use Rattle.stk_tree.specs.Syntax.{DeclrTree, DeclrTrees, EnumrTree, EnumrTrees, MemberTree, MemberTrees}
 use Rattle.stk_tree.specs.Syntax as s
 use Rattle.stk_tree.specs.View.{declarators, members, view_declarator, view_member}
-use Rattle.stk_facts.specs.declared.untyped.Untyped.{Untyped}
+use Rattle.stk_type_rules.specs.declared.untyped.Untyped.{Untyped}
 use Rattle.std.proofs.Common.{Option}
-use Rattle.stk_tags.specs.Uses.{declarator_uses}
+use Rattle.stk_declarators.specs.Uses.{declarator_uses}
 use Rattle.stk_declare.specs.declared.enumerations.Counter.{Counter}
 use Rattle.stk_declare.specs.Answers.{Answers}
 use Rattle.stk_declare.specs.Declaring.{declarator_declared, declarators_declared}
@@ -26,7 +26,8 @@ use Rattle.stk_declare.specs.Tags.{behind_uses}
 use Rattle.stk_declare.proofs.Answering.{goes, stops}
 use Rattle.stk_declare.proofs.Closing.{so_far}
 
--- ---- the members before what is left to declare, of a row with which the members end or don't: as long as others follow, each is complete
+-- ---- the members before what is left to declare, of a row with which the members end or don't: as long as others
+-- follow, each is complete
 abbrev pub AreSoFar : {A : Type 0} → Bool → Structs → List MemberInfo → List A → Type 0
 AreSoFar last structs ms [] = AreMembersSoFar last structs ms
 AreSoFar last structs ms (x ∷ xs) = AreComplete structs ms

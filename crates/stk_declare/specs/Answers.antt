@@ -3,11 +3,12 @@ use Rattle.std.specs.Prelude.{◌≡◌, List, [], ◌∷◌, ◌++◌, Option, 
 use Rattle.stk_ctype.specs.declared.symbol.NameEntry.{NameEntry}
 use Rattle.stk_ctype.specs.Structs.{structs_of}
 use Rattle.stk_ctype.specs.Sound.{Keeps}
-use Rattle.stk_facts.specs.declared.untyped.Untyped.{Untyped}
-use Rattle.stk_facts.specs.declared.untyped.Untyped.TheVariants.{Rule, NoMemory}
-use Rattle.stk_facts.specs.Outcome.{Outcome, Good, Refused}
+use Rattle.stk_type_rules.specs.declared.untyped.Untyped.{Untyped}
+use Rattle.stk_type_rules.specs.declared.untyped.Untyped.TheVariants.{Rule, NoMemory}
+use Rattle.stk_type_rules.specs.Outcome.{Outcome, Good, Refused}
 
--- The code's answer is the outcome's: its value, or the node that is refused and the rule. Want of memory is a free answer. The facts of the nodes aren't looked at.
+-- The code's answer is the outcome's: its value, or the node that is refused and the rule. Want of memory is a free
+-- answer. The facts of the nodes aren't looked at.
 abbrev pub Answers : {A V : Type 0} → (A → V → Type 0) → Outcome A → Result V Untyped → Type 0
 Answers P (Good x t) (Ok v) = P x v
 Answers P (Good x t) (Err (Rule n r)) = ⊥

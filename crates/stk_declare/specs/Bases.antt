@@ -4,9 +4,9 @@ use Rattle.stk_ctype.specs.declared.symbol.NameEntry.{NameEntry}
 use Rattle.stk_ctype.specs.Types.{TypeTree}
 use Rattle.stk_tree.specs.Syntax.{BaseTree, BaseFormTree}
 use Rattle.stk_tree.specs.Syntax as s
-use Rattle.stk_facts.specs.Outcome.{Outcome, Good, and_then, finish}
-use Rattle.stk_scope.specs.Bases.{base_rule}
-use Rattle.stk_tags.specs.Uses.{form_uses}
+use Rattle.stk_type_rules.specs.Outcome.{Outcome, Good, and_then, finish}
+use Rattle.stk_typing.specs.Bases.{base_rule}
+use Rattle.stk_declarators.specs.Uses.{form_uses}
 use Rattle.stk_declare.specs.Tags.{behind_uses}
 
 -- the entries in force behind a base, and the type that it names

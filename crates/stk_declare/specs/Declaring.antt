@@ -10,11 +10,11 @@ use Rattle.stk_tree.specs.declared.declaration.Storage.{Storage}
 use Rattle.stk_tree.specs.declared.declaration.Storage.TheVariants as storage
 use Rattle.stk_tree.specs.Syntax.{BaseTree, DeclrTree, DeclrTrees, DeclarationTree, FunctionTree, UnitTree, MaybeInitTree}
 use Rattle.stk_tree.specs.Syntax as s
-use Rattle.stk_facts.specs.Facts.{Ruled, Breaks, Fits, plain}
-use Rattle.stk_facts.specs.Outcome.{Outcome, Good, and_then, finish}
-use Rattle.stk_scope.specs.Arrays.{starred}
+use Rattle.stk_type_rules.specs.Facts.{Ruled, Breaks, Fits, plain}
+use Rattle.stk_type_rules.specs.Outcome.{Outcome, Good, and_then, finish}
+use Rattle.stk_typing.specs.Arrays.{starred}
 use Rattle.stk_typing.specs.Typing.{base_typed}
-use Rattle.stk_tags.specs.Uses.{base_uses, declarator_uses}
+use Rattle.stk_declarators.specs.Uses.{base_uses, declarator_uses}
 use Rattle.stk_declarators.specs.Counting.{given_count}
 use Rattle.stk_declarators.specs.Tails.{TailShape, of_arrays, of_function, tail_typed, tail_type, are_scalars}
 use Rattle.stk_declare.specs.Tags.{at_file, behind_uses}
@@ -35,7 +35,8 @@ count_for bytes (of_function ps more) t i = None
 abbrev pub made_for : List ℕ → List NameEntry → Bool → Option Storage → TypeTree → MaybeInitTree → TailShape → Ruled
 made_for bytes es defines word whole init shape = size_first (lacks_size word shape (count_for bytes shape whole init)) (tail_type (structs_of es) defines (count_for bytes shape whole init) whole shape)
 
--- a declarator, of a function definition or not, in a unit that is marked as not returning or isn't, under a base with a storage word that names a type. Its initialiser isn't typed.
+-- a declarator, of a function definition or not, in a unit that is marked as not returning or isn't, under a base with
+-- a storage word that names a type. Its initialiser isn't typed.
 abbrev pub declarator_declared : List ℕ → Bool → Bool → Option Storage → List NameEntry → TypeTree → DeclrTree → Outcome (List NameEntry)
 declarator_declared bytes mark defines word es t (s.declarator k count at tail init) =
     let name = declared_name bytes at in

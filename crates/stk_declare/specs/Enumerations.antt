@@ -1,4 +1,5 @@
--- Enumerations (C11 6.7.2.2): enumerators are constants of type `int`, each one more than the one before it where no value is given.
+-- Enumerations (C11 6.7.2.2): enumerators are constants of type `int`, each one more than the one before it where no
+-- value is given.
 use Rattle.std.specs.Prelude.{ℕ, Bool, true, false, not, ◌&&◌, ◌||◌, if◌then◌else◌, List, [], ◌∷◌, ◌++◌, Option, Some, None, ℤ, pos, ◌+ℤ◌}
 use Rattle.std.specs.Option.{is_some}
 use Rattle.std.specs.Ordering.{int_eq}
@@ -14,16 +15,17 @@ use Rattle.stk_ctype.specs.Names.{find, tag_of}
 use Rattle.stk_tree.specs.Syntax.{EnumrTree, EnumrTrees}
 use Rattle.stk_tree.specs.Syntax as s
 use Rattle.stk_numbers.specs.Kinds.{wrap}
-use Rattle.stk_facts.specs.declared.facts.Constancy.{Constancy}
-use Rattle.stk_facts.specs.declared.facts.Constancy.TheVariants.{Varies, Violates, Number}
-use Rattle.stk_facts.specs.Facts.{Ruled, Breaks, Fits, names_type}
-use Rattle.stk_facts.specs.Outcome.{Outcome, Good, and_then, finish}
+use Rattle.stk_type_rules.specs.declared.facts.Constancy.{Constancy}
+use Rattle.stk_type_rules.specs.declared.facts.Constancy.TheVariants.{Varies, Violates, Number}
+use Rattle.stk_type_rules.specs.Facts.{Ruled, Breaks, Fits, names_type}
+use Rattle.stk_type_rules.specs.Outcome.{Outcome, Good, and_then, finish}
 use Rattle.stk_typing.specs.Typing.{expression_typed}
-use Rattle.stk_tags.specs.Uses.{expression_uses}
+use Rattle.stk_declarators.specs.Uses.{expression_uses}
 use Rattle.stk_declare.specs.Tags.{at_file, behind_uses}
 use Rattle.stk_declare.specs.Bases.{Based}
 
--- what is known behind some enumerators: the entries in force, the number that the next one has, whether a name stood for something before, and whether a value wasn't an `int` constant
+-- what is known behind some enumerators: the entries in force, the number that the next one has, whether a name stood
+-- for something before, and whether a value wasn't an `int` constant
 pub record Enumerated : Type 0 where
   pub entries : List NameEntry
   pub next : ℤ

@@ -13,15 +13,15 @@ use Rattle.stk_ctype.specs.Structs.{Structs, structs_of, struct_at, layout_of}
 use Rattle.stk_ctype.specs.Names.{tag_of, struct_count}
 use Rattle.stk_tree.specs.Syntax.{BaseTree, BaseFormTree, MemberTree, MemberTrees, DeclrTree, DeclrTrees}
 use Rattle.stk_tree.specs.Syntax as s
-use Rattle.stk_facts.specs.Facts.{Fact, Ruled, Breaks, Fits, names_type}
-use Rattle.stk_facts.specs.Outcome.{Outcome, Good, and_then, finish}
-use Rattle.stk_rules.specs.Types.{is_complete}
-use Rattle.stk_scope.specs.declared.arrays.Size.{Size}
-use Rattle.stk_scope.specs.Arrays.{starred, declared_type}
+use Rattle.stk_type_rules.specs.Facts.{Fact, Ruled, Breaks, Fits, names_type}
+use Rattle.stk_type_rules.specs.Outcome.{Outcome, Good, and_then, finish}
+use Rattle.stk_type_rules.specs.Types.{is_complete}
+use Rattle.stk_typing.specs.declared.arrays.Size.{Size}
+use Rattle.stk_typing.specs.Arrays.{starred, declared_type}
 use Rattle.stk_typing.specs.Typing.{dimensions_typed}
-use Rattle.stk_tags.specs.Uses.{dimensions_uses}
+use Rattle.stk_declarators.specs.Uses.{dimensions_uses}
 use Rattle.stk_declarators.specs.Parameters.{array_parts}
-use Rattle.stk_agree.specs.Making.{made}
+use Rattle.stk_compatible.specs.Making.{made}
 use Rattle.stk_declare.specs.Tags.{at_file, behind_uses}
 use Rattle.stk_declare.specs.Symbols.{is_open_array, is_unsized, size_first}
 use Rattle.stk_declare.specs.Bases.{Based, plain_declared}
@@ -32,7 +32,8 @@ pub record Membered : Type 0 where
   pub entries : List NameEntry
   pub members : List MemberInfo
 
--- the struct that a definition gives members: the entries with it, its number, and whether its tag is that of an enumeration
+-- the struct that a definition gives members: the entries with it, its number, and whether its tag is that of an
+-- enumeration
 pub record Opening : Type 0 where
   pub entries : List NameEntry
   pub id : ℕ

@@ -1,4 +1,5 @@
--- What a declarator of file scope declares, and how it agrees with earlier declarations of its name (C11 6.7, 6.2.7, 6.9).
+-- What a declarator of file scope declares, and how it agrees with earlier declarations of its name (C11 6.7, 6.2.7,
+-- 6.9).
 use Rattle.std.specs.Prelude.{ℕ, Bool, true, false, not, ◌&&◌, ◌||◌, if◌then◌else◌, List, [], ◌∷◌, Option, Some, None}
 use Rattle.stk_ctype.specs.declared.symbol.Symbol.{Symbol}
 use Rattle.stk_ctype.specs.declared.symbol.Symbol.TheVariants as symbol
@@ -10,21 +11,21 @@ use Rattle.stk_tree.specs.declared.declaration.Storage.{Storage}
 use Rattle.stk_tree.specs.declared.declaration.Storage.TheVariants as storage
 use Rattle.stk_tree.specs.Syntax.{MaybeInitTree}
 use Rattle.stk_tree.specs.Syntax as s
-use Rattle.stk_facts.specs.Facts.{Ruled, Breaks, Fits, declares}
-use Rattle.stk_rules.specs.Types.{is_complete, is_void}
-use Rattle.stk_scope.specs.declared.arrays.Size.{Size}
-use Rattle.stk_scope.specs.Arrays.{is_open}
-use Rattle.stk_initialisers.specs.Fitting.{fits}
+use Rattle.stk_type_rules.specs.Facts.{Ruled, Breaks, Fits, declares}
+use Rattle.stk_type_rules.specs.Types.{is_complete, is_void}
+use Rattle.stk_typing.specs.declared.arrays.Size.{Size}
+use Rattle.stk_typing.specs.Arrays.{is_open}
+use Rattle.stk_typing.specs.Fitting.{fits}
 use Rattle.stk_declarators.specs.Tails.{TailShape, of_arrays, of_function}
-use Rattle.stk_declare.specs.declared.symbols.Sort.{Sort}
-use Rattle.stk_declare.specs.declared.symbols.Sort.TheVariants as sort
-use Rattle.stk_agree.specs.declared.agreement.Agreement.{Agreement}
-use Rattle.stk_agree.specs.declared.agreement.Agreement.TheVariants.{Differ, Old, New}
-use Rattle.stk_agree.specs.Agreeing.{agree}
-use Rattle.stk_agree.specs.Making.{made, made_signature}
+use Rattle.stk_declare.specs.declared.symbols.SymbolSort.{SymbolSort}
+use Rattle.stk_declare.specs.declared.symbols.SymbolSort.TheVariants as sort
+use Rattle.stk_compatible.specs.declared.agreement.Agreement.{Agreement}
+use Rattle.stk_compatible.specs.declared.agreement.Agreement.TheVariants.{Differ, Old, New}
+use Rattle.stk_compatible.specs.Agreeing.{agree}
+use Rattle.stk_compatible.specs.Making.{made, made_signature}
 
 -- an object, or a function where a typedef names the type of one
-abbrev pub sort_by_type : TypeTree → Sort
+abbrev pub sort_by_type : TypeTree → SymbolSort
 sort_by_type void_type = sort.Object
 sort_by_type (integer_type k) = sort.Object
 sort_by_type (pointer_type t) = sort.Object
@@ -33,19 +34,19 @@ sort_by_type (struct_type id) = sort.Object
 sort_by_type (function_type f) = sort.Function
 
 -- what follows the name decides, or the type alone where nothing does
-abbrev pub sort_by_tail : TailShape → TypeTree → Sort
+abbrev pub sort_by_tail : TailShape → TypeTree → SymbolSort
 sort_by_tail (of_function ps more) t = sort.Function
 sort_by_tail (of_arrays (size ∷ sizes)) t = sort.Object
 sort_by_tail (of_arrays []) t = sort_by_type t
 
-abbrev pub sort_of : Option Storage → TailShape → TypeTree → Sort
+abbrev pub sort_of : Option Storage → TailShape → TypeTree → SymbolSort
 sort_of None tail t = sort_by_tail tail t
 sort_of (Some storage.Typedef) tail t = sort.TypeName
 sort_of (Some storage.Extern) tail t = sort_by_tail tail t
 sort_of (Some storage.Static) tail t = sort_by_tail tail t
 
 -- whether a name stands for something of another sort, or for what can't be declared twice
-abbrev pub clashes : Option Symbol → Sort → Bool
+abbrev pub clashes : Option Symbol → SymbolSort → Bool
 clashes None what = false
 clashes (Some (symbol.TypeDef t)) what = true
 clashes (Some (symbol.Enumerator v)) what = true
@@ -69,7 +70,8 @@ abbrev pub is_open_array : TypeTree → Bool
 is_open_array (array_type t None) = true
 is_open_array t = false
 
--- an object has a complete type, but for an `extern` one, whose type may be an array of unknown size or an incomplete struct
+-- an object has a complete type, but for an `extern` one, whose type may be an array of unknown size or an incomplete
+-- struct
 abbrev pub may_be_object : Structs → Option Storage → TypeTree → Bool
 may_be_object structs None t = is_complete structs t
 may_be_object structs (Some storage.Typedef) t = is_complete structs t
@@ -77,31 +79,31 @@ may_be_object structs (Some storage.Extern) t = not (is_void t)
 may_be_object structs (Some storage.Static) t = is_complete structs t
 
 -- a typedef name stands for no array of unknown size
-abbrev pub may_be : Structs → Option Storage → Sort → TypeTree → Bool
+abbrev pub may_be : Structs → Option Storage → SymbolSort → TypeTree → Bool
 may_be structs word sort.TypeName t = not (is_open_array t)
 may_be structs word sort.Object t = may_be_object structs word t
 may_be structs word sort.Function t = true
 
 -- an object may have an initialiser that fits its type
-abbrev pub may_begin : Sort → TypeTree → MaybeInitTree → Bool
+abbrev pub may_begin : SymbolSort → TypeTree → MaybeInitTree → Bool
 may_begin what t s.no_initialiser = true
 may_begin sort.TypeName t (s.some_initialiser i) = false
 may_begin sort.Object t (s.some_initialiser i) = fits t i
 may_begin sort.Function t (s.some_initialiser i) = false
 
 -- a declarator that declares this type, by how it agrees with earlier declarations
-abbrev pub agreed_rule : Structs → Option Storage → Sort → MaybeInitTree → TypeTree → Agreement → Ruled
+abbrev pub agreed_rule : Structs → Option Storage → SymbolSort → MaybeInitTree → TypeTree → Agreement → Ruled
 agreed_rule structs word what i t Differ = Breaks 3
 agreed_rule structs word what i t Old = if may_be structs word what t then (if may_begin what t i then Fits (declares t) else Breaks 16) else Breaks 4
 agreed_rule structs word what i t New = if may_be structs word what t then (if may_begin what t i then Fits (declares t) else Breaks 16) else Breaks 4
 
 -- the same of what its parts make
-abbrev pub made_rule : Structs → Option Storage → Sort → Option Symbol → MaybeInitTree → Ruled → Ruled
+abbrev pub made_rule : Structs → Option Storage → SymbolSort → Option Symbol → MaybeInitTree → Ruled → Ruled
 made_rule structs word what earlier i (Breaks r) = Breaks r
 made_rule structs word what earlier i (Fits x) = agreed_rule structs word what i x.ty (agreement earlier x.ty)
 
 -- a declarator, whose name means this before it
-abbrev pub declarator_rule : Structs → Option Storage → Sort → Option Symbol → MaybeInitTree → Ruled → Ruled
+abbrev pub declarator_rule : Structs → Option Storage → SymbolSort → Option Symbol → MaybeInitTree → Ruled → Ruled
 declarator_rule structs word what earlier i made = if clashes earlier what then Breaks 3 else made_rule structs word what earlier i made
 
 -- the outermost array part has no size, and no initialiser counts one
@@ -117,7 +119,8 @@ may_lack_size (Some storage.Typedef) = false
 may_lack_size (Some storage.Extern) = true
 may_lack_size (Some storage.Static) = false
 
--- a declarator behind this storage word lacks a size, by what follows its name and how many elements its initialiser counts
+-- a declarator behind this storage word lacks a size, by what follows its name and how many elements its initialiser
+-- counts
 abbrev pub lacks_size : Option Storage → TailShape → Option ℕ → Bool
 lacks_size word (of_arrays sizes) count = is_unsized count sizes && not (may_lack_size word)
 lacks_size word (of_function ps more) count = false
@@ -155,7 +158,7 @@ function_meaning mark t None = symbol.Object (made t)
 function_meaning mark t (Some f) = symbol.Function (made_signature (marked mark f))
 
 -- the meaning of a name of this sort and type
-abbrev pub meaning : Sort → Bool → TypeTree → Symbol
+abbrev pub meaning : SymbolSort → Bool → TypeTree → Symbol
 meaning sort.TypeName mark t = symbol.TypeDef (made t)
 meaning sort.Object mark t = symbol.Object (made t)
 meaning sort.Function mark t = function_meaning mark t (signature_in t)
@@ -177,7 +180,7 @@ says_more was now New = true
 says_more was now Old = now && not was
 
 -- the entries that a declarator adds: its name with the type that holds, where it says something new
-abbrev pub added : List ℕ → Sort → Bool → Option Symbol → TypeTree → List NameEntry
+abbrev pub added : List ℕ → SymbolSort → Bool → Option Symbol → TypeTree → List NameEntry
 added name what mark earlier t =
     if says_more (was_marked earlier) mark (agreement earlier t)
     then entry.Symbol name (meaning what (mark || was_marked earlier) (holding earlier t (agreement earlier t))) ∷ [] else []

@@ -1,13 +1,14 @@
--- Tags at file scope and in the head of a function (C11 6.7.2.3p8): a struct tag that isn't declared is declared by its use, as an incomplete struct.
+-- Tags at file scope and in the head of a function (C11 6.7.2.3p8): a struct tag that isn't declared is declared by its
+-- use, as an incomplete struct.
 use Rattle.std.specs.Prelude.{ℕ, List, [], ◌∷◌, ◌++◌, Option, Some, None}
 use Rattle.stk_base.specs.Text.{text_of}
 use Rattle.stk_ctype.specs.declared.symbol.NameEntry.{NameEntry}
 use Rattle.stk_ctype.specs.declared.symbol.NameEntry.TheVariants as entry
 use Rattle.stk_ctype.specs.declared.symbol.Tag.{Tag}
 use Rattle.stk_ctype.specs.Names.{tag_of}
-use Rattle.stk_scope.specs.Scope.{Scope}
-use Rattle.stk_tags.specs.declared.uses.TagUse.{TagUse}
-use Rattle.stk_tags.specs.declared.uses.TagUse.TheVariants as used
+use Rattle.stk_typing.specs.Scope.{Scope}
+use Rattle.stk_declarators.specs.declared.uses.TagUse.{TagUse}
+use Rattle.stk_declarators.specs.declared.uses.TagUse.TheVariants as used
 
 -- the names in force at file scope, where there are no locals
 abbrev pub at_file : List ℕ → List NameEntry → Scope

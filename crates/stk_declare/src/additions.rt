@@ -5,16 +5,16 @@ ghost use Rattle.std.specs.Option.{option_copied, option_map};
 ghost use Rattle.stk_ctype.specs.Types.{function_type, signature_of, type_of};
 ghost use Rattle.stk_ctype.specs.Structs.{Structs};
 ghost use Rattle.stk_ctype.specs.Sound.{IsSound, IsSoundSignature, IsSoundSymbol, RestsOn};
-ghost use Rattle.stk_agree.specs.declared.agreement.Agreement.TheVariants.{Old};
-ghost use Rattle.stk_agree.specs.Making.{made_signature};
+ghost use Rattle.stk_compatible.specs.declared.agreement.Agreement.TheVariants.{Old};
+ghost use Rattle.stk_compatible.specs.Making.{made_signature};
 ghost use Rattle.stk_declare.specs.Answers.{listed};
 ghost use Rattle.stk_declare.specs.Symbols.{was_marked, marked, signature_in, meaning, holding, says_more, added};
 
-use crate::Sort;
+use crate::SymbolSort;
 use crate::symbols::agreement;
 use std::alloc::Global;
-use stk_agree::Agreement;
 use stk_base::{List, NoMemory};
+use stk_compatible::Agreement;
 use stk_ctype::{CType, NameEntry, OwnedSignature, Signature, Symbol};
 
 // Whether a function was marked as not returning.
@@ -66,14 +66,14 @@ fn signature_in(ty: &CType) -> Option<&Signature>
 }
 
 // What a name of this sort and type means.
-fn meaning(alloc: Global, what: Sort, mark: bool, ty: &CType) -> Result<Symbol, NoMemory>
+fn meaning(alloc: Global, what: SymbolSort, mark: bool, ty: &CType) -> Result<Symbol, NoMemory>
     ensures is { IfOk result (λ s. s ≡ meaning what mark (type_of ty.now)) }
     ensures sound { (structs : Structs) → IsSound structs (type_of ty.now) → IfOk result (IsSoundSymbol structs) }
 {
     match what {
-        Sort::TypeName => Ok(Symbol::TypeDef(ty.copy(alloc)?)),
-        Sort::Object => Ok(Symbol::Object(ty.copy(alloc)?)),
-        Sort::Function => match signature_in(ty) {
+        SymbolSort::TypeName => Ok(Symbol::TypeDef(ty.copy(alloc)?)),
+        SymbolSort::Object => Ok(Symbol::Object(ty.copy(alloc)?)),
+        SymbolSort::Function => match signature_in(ty) {
             Some(f) => Ok(Symbol::Function(marked(alloc, mark, f)?)),
             None => Ok(Symbol::Object(ty.copy(alloc)?)),
         },
@@ -92,7 +92,7 @@ fn as_type(alloc: Global, f: &Signature) -> Result<CType, NoMemory>
 // What a name of this sort means whose type an earlier declaration gave.
 fn earlier_meaning<'a>(
     alloc: Global,
-    what: Sort,
+    what: SymbolSort,
     mark: bool,
     earlier: Option<&'a Symbol>,
     ty: &CType,
@@ -115,7 +115,7 @@ fn earlier_meaning<'a>(
 // What a name of this sort means, by how its type agrees with an earlier one.
 fn agreed_meaning<'a>(
     alloc: Global,
-    what: Sort,
+    what: SymbolSort,
     mark: bool,
     earlier: Option<&'a Symbol>,
     ty: &CType,
@@ -140,12 +140,12 @@ fn says_more(was: bool, now: bool, agreement: Agreement) -> bool
     }
 }
 
-/// The entry that a declarator adds with this name, sort, mark and type, whose name meant this before; `None` where it says nothing
-/// new.
+/// The entry that a declarator adds with this name, sort, mark and type, whose name meant this before; `None` where it
+/// says nothing new.
 pub(crate) fn addition<'a>(
     alloc: Global,
     name: &[u8],
-    what: Sort,
+    what: SymbolSort,
     mark: bool,
     earlier: Option<&'a Symbol>,
     ty: &'a CType,

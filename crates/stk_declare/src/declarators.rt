@@ -7,9 +7,9 @@ ghost use Rattle.stk_ctype.specs.Structs.{structs_of};
 ghost use Rattle.stk_ctype.specs.Sound.{IsSound, RestsOn};
 ghost use Rattle.stk_ctype.specs.Types.{type_of};
 ghost use Rattle.stk_tree.specs.View.{declarators, maybe_initialiser, view_declarator, view_initialiser};
-ghost use Rattle.stk_facts.specs.Facts.{fact_of};
-ghost use Rattle.stk_facts.specs.Outcome.{finish};
-ghost use Rattle.stk_tags.specs.Uses.{declarator_uses};
+ghost use Rattle.stk_type_rules.specs.Facts.{fact_of};
+ghost use Rattle.stk_type_rules.specs.Outcome.{finish};
+ghost use Rattle.stk_declarators.specs.Uses.{declarator_uses};
 ghost use Rattle.stk_declarators.specs.Rows.{IsShape, IsSoundTail};
 ghost use Rattle.stk_declarators.specs.Tails.{TailShape};
 ghost use Rattle.stk_declare.specs.Answers.{Answers, Extends, listed};
@@ -24,11 +24,10 @@ use crate::tags::{add_entry, behind_uses};
 use std::alloc::Global;
 use stk_base::{NoMemory, Span};
 use stk_ctype::{CType, NameEntry, Names};
-use stk_declarators::{File, Tailed, are_scalars, given_count, tail, tail_type};
-use stk_facts::{NodeFact, Untyped};
-use stk_scope::{Locals, starred};
-use stk_tags::declarator_uses;
+use stk_declarators::{File, Tailed, are_scalars, declarator_uses, given_count, tail, tail_type};
 use stk_tree::{Declr, Init, Storage};
+use stk_type_rules::{NodeFact, Untyped};
+use stk_typing::{Locals, starred};
 
 /// What the declarators of a unit share: the input, whether the unit is marked as not returning, and its storage word.
 #[derive(Clone, Copy)]
@@ -112,8 +111,8 @@ fn declared_entry(
     Ok(entry)
 }
 
-/// Declares what a declarator declares, of a function definition or not, under a base that names this type (C11 6.7.6). Its
-/// initialiser isn't typed.
+/// Declares what a declarator declares, of a function definition or not, under a base that names this type (C11 6.7.6).
+/// Its initialiser isn't typed.
 #[tactic(auto, using(crate::proofs::Extending::extending))]
 pub(crate) fn declarator(
     s: &Shared,

@@ -9,8 +9,8 @@ ghost use Rattle.stk_ctype.specs.Sound.{IsSound};
 ghost use Rattle.stk_ctype.specs.Types.{integer_type, type_of};
 ghost use Rattle.stk_ctype.specs.declared.kind.IntKind.TheVariants.{Int};
 ghost use Rattle.stk_tree.specs.View.{enumerators, view_enumerator, view_expression};
-ghost use Rattle.stk_facts.specs.Outcome.{MakesFact};
-ghost use Rattle.stk_tags.specs.Uses.{expression_uses};
+ghost use Rattle.stk_type_rules.specs.Outcome.{MakesFact};
+ghost use Rattle.stk_declarators.specs.Uses.{expression_uses};
 ghost use Rattle.stk_typing.specs.Typing.{expression_typed};
 ghost use Rattle.stk_declare.specs.Answers.{Answers, Extends};
 ghost use Rattle.stk_declare.specs.Enumerations.{is_int, counted_as, with_number, with_value, enumerator_declared, enumerators_declared, none_enumerated, tag_before, enumeration_rule, with_enumeration, enumeration_declared};
@@ -22,16 +22,14 @@ use crate::tags::{add_entry, behind_uses};
 use std::alloc::Global;
 use stk_base::{List, NoMemory, Span};
 use stk_ctype::{CType, IntKind, NameEntry, Names, Symbol, Tag};
-use stk_declarators::scope;
-use stk_facts::{Broken, Constancy, NodeFact, Untyped, fact};
+use stk_declarators::{expression_uses, scope};
 use stk_numbers::wrap;
-use stk_scope::Locals;
-use stk_tags::expression_uses;
 use stk_tree::{Enumr, Expr};
-use stk_typing::expression;
+use stk_type_rules::{Broken, Constancy, NodeFact, Untyped, fact};
+use stk_typing::{Locals, expression};
 
-/// What is known behind some enumerators: the number that the next one has, whether a name stood for something before, and whether
-/// a value wasn't an `int` constant.
+/// What is known behind some enumerators: the number that the next one has, whether a name stood for something before,
+/// and whether a value wasn't an `int` constant.
 #[derive(Clone, Copy)]
 pub(crate) struct Counter {
     pub next: i128,

@@ -1,15 +1,15 @@
 //! What a rule makes of a node.
 
 ghost use Rattle.std.specs.Prelude.{◌≡◌, IfOk, Ok};
-ghost use Rattle.stk_facts.specs.declared.facts.NodeFact.{NodeFact};
+ghost use Rattle.stk_type_rules.specs.declared.facts.NodeFact.{NodeFact};
 ghost use Rattle.stk_ctype.specs.Structs.{Structs};
 ghost use Rattle.stk_ctype.specs.Sound.{IsSound};
 ghost use Rattle.stk_ctype.specs.Types.{type_of};
-ghost use Rattle.stk_facts.specs.Facts.{Ruled, fact_of};
-ghost use Rattle.stk_facts.specs.Outcome.{MakesFact, finish};
+ghost use Rattle.stk_type_rules.specs.Facts.{Ruled, fact_of};
+ghost use Rattle.stk_type_rules.specs.Outcome.{MakesFact, finish};
 ghost use Rattle.stk_declare.specs.Answers.{Answers};
 
-use stk_facts::{Broken, NodeFact, Untyped};
+use stk_type_rules::{Broken, NodeFact, Untyped};
 
 /// The fact that a rule gives a node, or that the rule refuses it.
 pub(crate) fn settled(node: u32, made: Result<NodeFact, Broken>) -> Result<NodeFact, Untyped>

@@ -7,10 +7,10 @@ ghost use Rattle.stk_ctype.specs.Structs.{Structs, structs_of, struct_at};
 ghost use Rattle.stk_ctype.specs.Sound.{IsSound, AreMembers};
 ghost use Rattle.stk_ctype.specs.Types.{struct_type, type_of};
 ghost use Rattle.stk_tree.specs.View.{declarators, dimensions, members, view_base, view_declarator, view_dimension, view_member, view_tail};
-ghost use Rattle.stk_facts.specs.Facts.{Ruled, declares, fact_of};
-ghost use Rattle.stk_facts.specs.Outcome.{MakesFact};
-ghost use Rattle.stk_scope.specs.Arrays.{declared_type, starred};
-ghost use Rattle.stk_tags.specs.Uses.{base_uses, dimensions_uses};
+ghost use Rattle.stk_type_rules.specs.Facts.{Ruled, declares, fact_of};
+ghost use Rattle.stk_type_rules.specs.Outcome.{MakesFact};
+ghost use Rattle.stk_typing.specs.Arrays.{declared_type, starred};
+ghost use Rattle.stk_declarators.specs.Uses.{base_uses, dimensions_uses};
 ghost use Rattle.stk_typing.specs.Typing.{base_typed, dimensions_typed};
 ghost use Rattle.stk_declarators.specs.Parameters.{array_parts};
 ghost use Rattle.stk_declare.specs.Answers.{Answers, Extends};
@@ -28,13 +28,10 @@ use crate::tags::{add_entry, behind_uses};
 use std::alloc::Global;
 use stk_base::{List, NoMemory, Span};
 use stk_ctype::{CType, NameEntry, Names, Tag};
-use stk_declarators::scope;
-use stk_facts::{Broken, NodeFact, Untyped};
-use stk_rules::is_complete;
-use stk_scope::{Locals, Size, base_rule, declared_type, starred};
-use stk_tags::{base_uses, dimensions_uses};
+use stk_declarators::{base_uses, dimensions_uses, scope};
 use stk_tree::{Base, BaseForm, Declr, Dimension, Member, Tail};
-use stk_typing::dimensions;
+use stk_type_rules::{Broken, NodeFact, Untyped, is_complete};
+use stk_typing::{Locals, Size, base_rule, declared_type, dimensions, starred};
 
 /// The struct that a definition gives members: its number, and whether its tag is that of an enumeration.
 #[derive(Clone, Copy)]

@@ -6,81 +6,80 @@ ghost use Rattle.stk_ctype.specs.Types.{function_type, type_of, signature_of};
 ghost use Rattle.stk_ctype.specs.Structs.{Structs, structs_of};
 ghost use Rattle.stk_ctype.specs.Sound.{IsSound};
 ghost use Rattle.stk_tree.specs.View.{view_initialiser, maybe_initialiser};
-ghost use Rattle.stk_facts.specs.Facts.{Ruled};
-ghost use Rattle.stk_facts.specs.Outcome.{MakesFact};
+ghost use Rattle.stk_type_rules.specs.Facts.{Ruled};
+ghost use Rattle.stk_type_rules.specs.Outcome.{MakesFact};
 ghost use Rattle.stk_declarators.specs.Tails.{TailShape};
 ghost use Rattle.stk_declarators.specs.Rows.{IsShape};
-ghost use Rattle.stk_agree.specs.Agreeing.{agree};
+ghost use Rattle.stk_compatible.specs.Agreeing.{agree};
 ghost use Rattle.stk_declare.specs.Symbols.{sort_by_type, sort_by_tail, sort_of, clashes, agreement, is_open_array, may_be_object, may_be, may_begin, agreed_rule, made_rule, declarator_rule, is_unsized, lacks_size, may_lack_size, size_first};
 
 use std::alloc::Global;
-use stk_agree::{Agreement, agree, agree_signature};
 use stk_base::NoMemory;
+use stk_compatible::{Agreement, agree, agree_signature};
 use stk_ctype::{CType, Names, Signature, Symbol};
 use stk_declarators::Tailed;
-use stk_facts::{Broken, NodeFact};
-use stk_initialisers::fits;
-use stk_rules::{is_complete, is_void};
-use stk_scope::Size;
 use stk_tree::{Init, Storage};
+use stk_type_rules::{Broken, NodeFact, is_complete, is_void};
+use stk_typing::{Size, fits};
 
 /// What a declarator declares: a typedef name, an object or a function.
 #[derive(Clone, Copy, Debug, PartialEq, Eq)]
-pub enum Sort {
+pub enum SymbolSort {
     TypeName,
     Object,
     Function,
 }
 
 // An object, or a function where a typedef names the type of one.
-fn sort_by_type(ty: &CType) -> Sort
+fn sort_by_type(ty: &CType) -> SymbolSort
     ensures { result ≡ sort_by_type (type_of ty.now) }
 {
     match ty {
         CType::Void | CType::Int(_) | CType::Pointer(_) | CType::Array(_, _) | CType::Struct(_) => {
-            Sort::Object
+            SymbolSort::Object
         }
-        CType::Function(_) => Sort::Function,
+        CType::Function(_) => SymbolSort::Function,
     }
 }
 
 // What follows the name decides, or the type alone where nothing does.
-fn sort_by_tail(t: &Tailed, ty: &CType) -> Sort
+fn sort_by_tail(t: &Tailed, ty: &CType) -> SymbolSort
     ensures { (s : TailShape) → IsShape s t.now → result ≡ sort_by_tail s (type_of ty.now) }
 {
     match t {
-        Tailed::Function(_, _) => Sort::Function,
+        Tailed::Function(_, _) => SymbolSort::Function,
         Tailed::Arrays(sizes) => match sizes.as_slice() {
             [] => sort_by_type(ty),
-            [_, _rest @ ..] => Sort::Object,
+            [_, _rest @ ..] => SymbolSort::Object,
         },
     }
 }
 
-/// What a declarator declares, behind a storage word, with what follows its name and the type that its base and stars name.
-pub fn sort_of(word: Option<Storage>, t: &Tailed, ty: &CType) -> Sort
+/// What a declarator declares, behind a storage word, with what follows its name and the type that its base and stars
+/// name.
+pub fn sort_of(word: Option<Storage>, t: &Tailed, ty: &CType) -> SymbolSort
     ensures { (s : TailShape) → IsShape s t.now → result ≡ sort_of word s (type_of ty.now) }
 {
     match word {
-        Some(Storage::Typedef) => Sort::TypeName,
+        Some(Storage::Typedef) => SymbolSort::TypeName,
         None | Some(Storage::Extern) | Some(Storage::Static) => sort_by_tail(t, ty),
     }
 }
 
 // Whether a name stands for something of another sort, or for what can't be declared twice.
-fn clashes(earlier: Option<&Symbol>, what: Sort) -> bool
+fn clashes(earlier: Option<&Symbol>, what: SymbolSort) -> bool
     ensures { result ≡ clashes (option_copied earlier.entry) what }
 {
     match earlier {
         None => false,
         Some(Symbol::TypeDef(_)) | Some(Symbol::Enumerator(_)) => true,
         Some(Symbol::Object(_)) => match what {
-            Sort::Object => false,
-            Sort::TypeName | Sort::Function => true,
+            SymbolSort::Object => false,
+            SymbolSort::TypeName | SymbolSort::Function => true,
         },
         Some(Symbol::Function(_)) => match what {
-            Sort::Function => false,
-            Sort::TypeName | Sort::Object => true,
+            SymbolSort::Function => false,
+            SymbolSort::TypeName | SymbolSort::Object => true,
         },
     }
 }
@@ -109,26 +108,26 @@ fn may_be_object(names: &Names, word: Option<Storage>, ty: &CType) -> bool
 }
 
 // Whether what is declared may have this type.
-fn may_be(names: &Names, word: Option<Storage>, what: Sort, ty: &CType) -> bool
+fn may_be(names: &Names, word: Option<Storage>, what: SymbolSort, ty: &CType) -> bool
     requires { IsSound (structs_of names.now) (type_of ty.now) }
     ensures { result ≡ may_be (structs_of names.now) word what (type_of ty.now) }
 {
     match what {
-        Sort::TypeName => !is_open_array(ty),
-        Sort::Object => may_be_object(names, word, ty),
-        Sort::Function => true,
+        SymbolSort::TypeName => !is_open_array(ty),
+        SymbolSort::Object => may_be_object(names, word, ty),
+        SymbolSort::Function => true,
     }
 }
 
 // Whether what is declared with this type may have this initialiser or none.
-fn may_begin(what: Sort, ty: &CType, i: &Option<Init>) -> bool
+fn may_begin(what: SymbolSort, ty: &CType, i: &Option<Init>) -> bool
     ensures { result ≡ may_begin what (type_of ty.now) (maybe_initialiser (option_map view_initialiser i.now)) }
 {
     match i {
         None => true,
         Some(i) => match what {
-            Sort::Object => fits(ty, i),
-            Sort::TypeName | Sort::Function => false,
+            SymbolSort::Object => fits(ty, i),
+            SymbolSort::TypeName | SymbolSort::Function => false,
         },
     }
 }
@@ -169,7 +168,7 @@ pub(crate) fn agreement<'a>(
 fn agreed_rule(
     names: &Names,
     word: Option<Storage>,
-    what: Sort,
+    what: SymbolSort,
     i: &Option<Init>,
     fact: NodeFact,
     agreement: Agreement,
@@ -197,7 +196,7 @@ fn made_rule<'a>(
     alloc: Global,
     names: &Names,
     word: Option<Storage>,
-    what: Sort,
+    what: SymbolSort,
     earlier: Option<&'a Symbol>,
     i: &Option<Init>,
     made: Result<NodeFact, Broken>,
@@ -239,7 +238,8 @@ fn may_lack_size(word: Option<Storage>) -> bool
     }
 }
 
-/// Whether a declarator behind this storage word lacks a size, by what follows its name and how many elements its initialiser counts.
+/// Whether a declarator behind this storage word lacks a size, by what follows its name and how many elements its
+/// initialiser counts.
 pub(crate) fn lacks_size(word: Option<Storage>, t: &Tailed, count: Option<u64>) -> bool
     ensures { (s : TailShape) → IsShape s t.now → result ≡ lacks_size word s count }
 {
@@ -261,15 +261,15 @@ pub(crate) fn size_first(lacking: bool, made: Result<NodeFact, Broken>) -> Resul
     }
 }
 
-/// What the rules make of a declarator of file scope: behind a storage word, of what is declared, what its name meant before, its
-/// initialiser, and what its parts make (C11 6.7, 6.2.7, 6.7.9, 6.9.2). Rule 3 refuses a name that stood for something else or has
-/// another type, 4 a type that is incomplete where it must not be, 16 an initialiser that doesn't fit, of a typedef name or of a
-/// function; else what refused the parts.
-pub fn declarator_rule<'a>(
+/// What the rules make of a declarator of file scope: behind a storage word, of what is declared, what its name meant
+/// before, its initialiser, and what its parts make (C11 6.7, 6.2.7, 6.7.9, 6.9.2). Rule 3 refuses a name that stood
+/// for something else or has another type, 4 a type that is incomplete where it must not be, 16 an initialiser that
+/// doesn't fit, of a typedef name or of a function; else what refused the parts.
+pub(crate) fn declarator_rule<'a>(
     alloc: Global,
     names: &Names,
     word: Option<Storage>,
-    what: Sort,
+    what: SymbolSort,
     earlier: Option<&'a Symbol>,
     i: &Option<Init>,
     made: Result<NodeFact, Broken>,

@@ -1,7 +1,7 @@
 //! Tags that are declared by their use.
 
 ghost use Rattle.std.specs.Prelude.{◌≡◌, ◌∷◌, [], ◌++◌, if◌then◌else◌, IfOk, List, OnOk};
-ghost use Rattle.stk_tags.specs.declared.uses.TagUse.{TagUse};
+ghost use Rattle.stk_declarators.specs.declared.uses.TagUse.{TagUse};
 ghost use Rattle.stk_ctype.specs.Names.{tag_of};
 ghost use Rattle.stk_ctype.specs.Structs.{structs_of};
 ghost use Rattle.stk_ctype.specs.Sound.{RestsOn};
@@ -11,9 +11,10 @@ ghost use Rattle.stk_declare.specs.Tags.{with_struct, behind_uses};
 use std::alloc::Global;
 use stk_base::{List, NoMemory};
 use stk_ctype::{NameEntry, Names};
-use stk_tags::TagUse;
+use stk_declarators::TagUse;
 
-/// Adds an entry. A unit adds at most one for each of its tokens, so there is always room, and none is refused for want of it.
+/// Adds an entry. A unit adds at most one for each of its tokens, so there is always room, and none is refused for want
+/// of it.
 pub(crate) fn add_entry(names: &mut Names, entry: NameEntry) -> Result<(), NoMemory>
     requires { RestsOn (structs_of names.old) entry }
     ensures added { OnOk result (names.new ≡ names.old ++ entry ∷ []) }
@@ -40,7 +41,8 @@ fn with_struct(alloc: Global, names: &mut Names, name: &[u8]) -> Result<(), NoMe
     }
 }
 
-// Declares the struct of a tag that is used, and tells whether to go on: not behind an enumeration's tag that isn't declared.
+// Declares the struct of a tag that is used, and tells whether to go on: not behind an enumeration's tag that isn't
+// declared.
 #[tactic(auto, using(crate::proofs::Extending::extending))]
 fn with_use(alloc: Global, bytes: &[u8], names: &mut Names, tag: TagUse) -> Result<bool, NoMemory>
     ensures is { IfOk result (λ on. (us : List TagUse) → behind_uses bytes.now names.old (tag ∷ us) ≡ (if on then behind_uses bytes.now names.new us else names.new)) }
@@ -55,10 +57,10 @@ fn with_use(alloc: Global, bytes: &[u8], names: &mut Names, tag: TagUse) -> Resu
     }
 }
 
-/// Declares the struct tags that are used, in order, up to the use of an enumeration whose tag isn't declared (C11 6.7.2.3p8). The
-/// text is the input, in which tags have their spans. What was in force stays so.
+/// Declares the struct tags that are used, in order, up to the use of an enumeration whose tag isn't declared (C11
+/// 6.7.2.3p8). The text is the input, in which tags have their spans. What was in force stays so.
 #[tactic(auto, using(crate::proofs::Extending::extending))]
-pub fn behind_uses(
+pub(crate) fn behind_uses(
     alloc: Global,
     bytes: &[u8],
     names: &mut Names,

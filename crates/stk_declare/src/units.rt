@@ -5,9 +5,9 @@ ghost use Rattle.std.specs.Option.{is_some};
 ghost use Rattle.stk_ctype.specs.Structs.{structs_of};
 ghost use Rattle.stk_ctype.specs.Sound.{Keeps};
 ghost use Rattle.stk_tree.specs.View.{view_base, view_declaration, view_declarator, view_function, view_unit};
-ghost use Rattle.stk_facts.specs.Facts.{plain};
-ghost use Rattle.stk_facts.specs.Outcome.{finish};
-ghost use Rattle.stk_tags.specs.Uses.{base_uses, declarator_uses};
+ghost use Rattle.stk_type_rules.specs.Facts.{plain};
+ghost use Rattle.stk_type_rules.specs.Outcome.{finish};
+ghost use Rattle.stk_declarators.specs.Uses.{base_uses, declarator_uses};
 ghost use Rattle.stk_declare.specs.Answers.{Answers, Extends};
 ghost use Rattle.stk_declare.specs.Declaring.{declaration_declared, definition_declared, definition_rule, definition_word, head_declared, unit_declared};
 ghost use Rattle.stk_declare.specs.Tags.{behind_uses};
@@ -18,9 +18,9 @@ use crate::tags::behind_uses;
 use std::alloc::Global;
 use stk_base::NoMemory;
 use stk_ctype::Names;
-use stk_facts::Untyped;
-use stk_tags::{base_uses, declarator_uses};
+use stk_declarators::{base_uses, declarator_uses};
 use stk_tree::{Base, Declaration, Declr, Function, Storage, Unit};
+use stk_type_rules::Untyped;
 
 // Declares what a declaration declares.
 #[tactic(auto, using(crate::proofs::Extending::extending))]
@@ -144,12 +144,13 @@ fn unit_declared(
     }
 }
 
-/// Declares what a unit declares: what a declaration does, or the head of a function definition (C11 6.7, 6.9). The text is the
-/// input, in which the tree has its spans; `no_return` says that the unit is marked as one of functions that don't return.
+/// Declares what a unit declares: what a declaration does, or the head of a function definition (C11 6.7, 6.9). The
+/// text is the input, in which the tree has its spans; `no_return` says that the unit is marked as one of functions
+/// that don't return.
 ///
-/// Ok puts exactly the entries of `unit_declared` behind those in force: structs and their members, enumerations with their
-/// enumerators, typedef names, objects and functions. `Rule` names the first node that a rule refuses, in the order of the numbers,
-/// and the lowest rule that does. After any refusal the names are as before.
+/// Ok puts exactly the entries of `unit_declared` behind those in force: structs and their members, enumerations with
+/// their enumerators, typedef names, objects and functions. `Rule` names the first node that a rule refuses, in the
+/// order of the numbers, and the lowest rule that does. After any refusal the names are as before.
 pub fn declare(
     alloc: Global,
     bytes: &[u8],

@@ -10,10 +10,10 @@ use Rattle.stk_tree.specs.Layout.{laid_expression}
 use Rattle.stk_tree.specs.Nodes.{expression_nodes}
 use Rattle.stk_tree.specs.Placed.{expression_placed}
 use Rattle.stk_tree.specs.Tokens.{expression_tokens}
-use Rattle.stk_tree_layout.proofs.Few.{expression_tokens-few}
-use Rattle.stk_tree_layout.proofs.LaidNestings.{expression_nesting-laid}
-use Rattle.stk_tree_layout.proofs.LaidPlaces.{expression_placed-laid}
-use Rattle.stk_tree_layout.proofs.LaidTokens.{expression_tokens-laid}
+use Rattle.stk_nodes.proofs.Few.{expression_tokens-few}
+use Rattle.stk_nodes.proofs.LaidNestings.{expression_nesting-laid}
+use Rattle.stk_nodes.proofs.LaidPlaces.{expression_placed-laid}
+use Rattle.stk_nodes.proofs.LaidTokens.{expression_tokens-laid}
 use Rattle.stk_tree.specs.Unlaid.{unlaid_expression}
 use Rattle.stk_grammar.specs.Expressions.{IsExpression}
 use Rattle.stk_tree.specs.Fits.{expression_fits}

@@ -49,37 +49,37 @@ fn made(alloc: Global, form: ExprForm) -> Result<Boxed<Expr>, AllocError>
     )
 }
 
-pub fn name(alloc: Global, at: Span) -> Result<Boxed<Expr>, AllocError>
+pub(crate) fn name(alloc: Global, at: Span) -> Result<Boxed<Expr>, AllocError>
     ensures { IfOk result (λ e. view_expression e ≡ made (s.name at)) }
 {
     made(alloc, ExprForm::Name(at))
 }
 
-pub fn number(alloc: Global, at: Span) -> Result<Boxed<Expr>, AllocError>
+pub(crate) fn number(alloc: Global, at: Span) -> Result<Boxed<Expr>, AllocError>
     ensures { IfOk result (λ e. view_expression e ≡ made (s.number at)) }
 {
     made(alloc, ExprForm::Number(at))
 }
 
-pub fn character(alloc: Global, at: Span) -> Result<Boxed<Expr>, AllocError>
+pub(crate) fn character(alloc: Global, at: Span) -> Result<Boxed<Expr>, AllocError>
     ensures { IfOk result (λ e. view_expression e ≡ made (s.character at)) }
 {
     made(alloc, ExprForm::Character(at))
 }
 
-pub fn text(alloc: Global, parts: List<Span>) -> Result<Boxed<Expr>, AllocError>
+pub(crate) fn text(alloc: Global, parts: List<Span>) -> Result<Boxed<Expr>, AllocError>
     ensures { IfOk result (λ e. view_expression e ≡ made (s.text parts)) }
 {
     made(alloc, ExprForm::Text(parts))
 }
 
-pub fn paren(alloc: Global, inner: Boxed<Expr>) -> Result<Boxed<Expr>, AllocError>
+pub(crate) fn paren(alloc: Global, inner: Boxed<Expr>) -> Result<Boxed<Expr>, AllocError>
     ensures { IfOk result (λ e. view_expression e ≡ made (s.paren (view_expression inner))) }
 {
     made(alloc, ExprForm::Paren(inner))
 }
 
-pub fn index(
+pub(crate) fn index(
     alloc: Global,
     left: Boxed<Expr>,
     right: Boxed<Expr>,
@@ -89,32 +89,44 @@ pub fn index(
     made(alloc, ExprForm::Index(left, right))
 }
 
-pub fn call(alloc: Global, callee: Boxed<Expr>, list: List<Expr>) -> Result<Boxed<Expr>, AllocError>
+pub(crate) fn call(
+    alloc: Global,
+    callee: Boxed<Expr>,
+    list: List<Expr>,
+) -> Result<Boxed<Expr>, AllocError>
     ensures { IfOk result (λ e. view_expression e ≡ made (s.call (view_expression callee) (expressions (map view_expression list)))) }
 {
     made(alloc, ExprForm::Call(callee, list))
 }
 
-pub fn dot(alloc: Global, left: Boxed<Expr>, member: Span) -> Result<Boxed<Expr>, AllocError>
+pub(crate) fn dot(alloc: Global, left: Boxed<Expr>, member: Span) -> Result<Boxed<Expr>, AllocError>
     ensures { IfOk result (λ e. view_expression e ≡ made (s.dot (view_expression left) member)) }
 {
     made(alloc, ExprForm::Dot(left, member))
 }
 
-pub fn arrow(alloc: Global, left: Boxed<Expr>, member: Span) -> Result<Boxed<Expr>, AllocError>
+pub(crate) fn arrow(
+    alloc: Global,
+    left: Boxed<Expr>,
+    member: Span,
+) -> Result<Boxed<Expr>, AllocError>
     ensures { IfOk result (λ e. view_expression e ≡ made (s.arrow (view_expression left) member)) }
 {
     made(alloc, ExprForm::Arrow(left, member))
 }
 
 /// `e++` or `e--`, where the operator is one of these.
-pub fn stepped(alloc: Global, op: StepOp, left: Boxed<Expr>) -> Result<Boxed<Expr>, AllocError>
+pub(crate) fn stepped(
+    alloc: Global,
+    op: StepOp,
+    left: Boxed<Expr>,
+) -> Result<Boxed<Expr>, AllocError>
     ensures { IfOk result (λ e. view_expression e ≡ made (s.step op (view_expression left))) }
 {
     made(alloc, ExprForm::Step(op, left))
 }
 
-pub fn prefixed(
+pub(crate) fn prefixed(
     alloc: Global,
     prefix: Prefix,
     operand: Boxed<Expr>,
@@ -129,19 +141,23 @@ pub fn prefixed(
     }
 }
 
-pub fn size_name(alloc: Global, name: TypeName) -> Result<Boxed<Expr>, AllocError>
+pub(crate) fn size_name(alloc: Global, name: TypeName) -> Result<Boxed<Expr>, AllocError>
     ensures { IfOk result (λ e. view_expression e ≡ made (s.size_name (view_type_name name))) }
 {
     made(alloc, ExprForm::SizeName(name))
 }
 
-pub fn cast(alloc: Global, name: TypeName, operand: Boxed<Expr>) -> Result<Boxed<Expr>, AllocError>
+pub(crate) fn cast(
+    alloc: Global,
+    name: TypeName,
+    operand: Boxed<Expr>,
+) -> Result<Boxed<Expr>, AllocError>
     ensures { IfOk result (λ e. view_expression e ≡ made (s.cast (view_type_name name) (view_expression operand))) }
 {
     made(alloc, ExprForm::Cast(name, operand))
 }
 
-pub fn binary(
+pub(crate) fn binary(
     alloc: Global,
     op: BinaryOp,
     left: Boxed<Expr>,
@@ -152,7 +168,7 @@ pub fn binary(
     made(alloc, ExprForm::Binary(op, left, right))
 }
 
-pub fn assign(
+pub(crate) fn assign(
     alloc: Global,
     op: AssignOp,
     left: Boxed<Expr>,
@@ -163,7 +179,7 @@ pub fn assign(
     made(alloc, ExprForm::Assign(op, left, right))
 }
 
-pub fn choice(
+pub(crate) fn choice(
     alloc: Global,
     test: Boxed<Expr>,
     then: Boxed<Expr>,
@@ -175,20 +191,20 @@ pub fn choice(
 }
 
 /// An array part with a size.
-pub fn sized(size: Boxed<Expr>) -> Dimension
+pub(crate) fn sized(size: Boxed<Expr>) -> Dimension
     ensures { view_dimension result ≡ s.sized (view_expression size) }
 {
     Dimension::Sized(size.into_inner())
 }
 
 /// `[]`
-pub fn open() -> Dimension
+pub(crate) fn open() -> Dimension
     ensures { view_dimension result ≡ s.open_dimension }
 {
     Dimension::Open
 }
 
-pub fn type_name(form: BaseForm, stars: u32, arrays: List<Dimension>) -> TypeName
+pub(crate) fn type_name(form: BaseForm, stars: u32, arrays: List<Dimension>) -> TypeName
     ensures { view_type_name result ≡ s.type_name no_node (s.base no_node (view_base_form form)) stars (dimensions (map view_dimension arrays)) }
 {
     TypeName {

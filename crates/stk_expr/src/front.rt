@@ -4,7 +4,7 @@ ghost use Rattle.std.specs.Prelude.{◌≡◌, ◌∷◌, None, IfOk, cond, opti
 ghost use Rattle.stk_tree.specs.Nesting.{base_form_nesting};
 ghost use Rattle.stk_tree.specs.Placed.{is_basic};
 ghost use Rattle.stk_tree.specs.View.{view_base_form};
-ghost use Rattle.stk_grammar.specs.Expressions.{stop_mark, stops};
+ghost use Rattle.stk_grammar.specs.Expressions.{stop_punctuator, stops};
 ghost use Rattle.stk_grammar.specs.Reading.{base_at, begins_type, behind_left_paren, first_opener, opens_type, tag_base, taken, texts_at, words_at, words_base};
 ghost use Rattle.stk_expr.specs.Fronts.{text_at};
 ghost use Rattle.stk_ctype.specs.Named.{named};
@@ -31,7 +31,7 @@ fn text_at(lexemes: &[Lexeme]) -> Option<(Span, &[Lexeme])>
 }
 
 /// What an operand begins with, where one begins here.
-pub fn first_opener(lexemes: &[Lexeme]) -> Option<(Opener, &[Lexeme])>
+pub(crate) fn first_opener(lexemes: &[Lexeme]) -> Option<(Opener, &[Lexeme])>
     ensures { option_map (λ x. (x.0, x.1.now)) result ≡ first_opener lexemes.now }
 {
     let (lexeme, rest) = lexemes.split_first()?;
@@ -40,7 +40,7 @@ pub fn first_opener(lexemes: &[Lexeme]) -> Option<(Opener, &[Lexeme])>
 }
 
 /// The suffix that an operand of this level takes, where an expression of the level `least` is wanted.
-pub fn taken(least: usize, left: usize, lexemes: &[Lexeme]) -> Option<(Suffix, &[Lexeme])>
+pub(crate) fn taken(least: usize, left: usize, lexemes: &[Lexeme]) -> Option<(Suffix, &[Lexeme])>
     ensures { option_map (λ x. (x.0, x.1.now)) result ≡ taken least left lexemes.now }
 {
     let (lexeme, rest) = lexemes.split_first()?;
@@ -52,10 +52,10 @@ pub fn taken(least: usize, left: usize, lexemes: &[Lexeme]) -> Option<(Suffix, &
     }
 }
 
-fn stop_mark(least: usize, mark: Fixed) -> bool
-    ensures { result ≡ stop_mark least mark }
+fn stop_punctuator(least: usize, punctuator: Fixed) -> bool
+    ensures { result ≡ stop_punctuator least punctuator }
 {
-    match mark {
+    match punctuator {
         Fixed::RightParen
         | Fixed::RightBracket
         | Fixed::RightBrace
@@ -67,12 +67,12 @@ fn stop_mark(least: usize, mark: Fixed) -> bool
 }
 
 /// Whether an expression of the level `least` may end before these tokens.
-pub fn stops(least: usize, lexemes: &[Lexeme]) -> bool
+pub(crate) fn stops(least: usize, lexemes: &[Lexeme]) -> bool
     ensures { result ≡ stops least lexemes.now }
 {
     match lexemes.first() {
         None => true,
-        Some(Lexeme::Fixed(mark)) => stop_mark(least, *mark),
+        Some(Lexeme::Fixed(punctuator)) => stop_punctuator(least, *punctuator),
         Some(Lexeme::Leaf(_, _)) => false,
     }
 }
@@ -98,7 +98,7 @@ pub fn begins_type(bytes: &[u8], names: &Names, lexemes: &[Lexeme]) -> bool
 }
 
 /// Whether a type name in parentheses begins here.
-pub fn opens_type(bytes: &[u8], names: &Names, lexemes: &[Lexeme]) -> bool
+pub(crate) fn opens_type(bytes: &[u8], names: &Names, lexemes: &[Lexeme]) -> bool
     ensures { result ≡ opens_type (named bytes.now names.now) (behind_left_paren lexemes.now) }
 {
     match behind_left_paren(lexemes) {
@@ -108,7 +108,7 @@ pub fn opens_type(bytes: &[u8], names: &Names, lexemes: &[Lexeme]) -> bool
 }
 
 /// String literals in a row, the first of which is past.
-pub fn texts(
+pub(crate) fn texts(
     alloc: Global,
     first: Span,
     lexemes: &[Lexeme],
@@ -125,8 +125,9 @@ pub fn texts(
     Ok((List::from_vec(parts), rest))
 }
 
-/// Basic words in a row (C11 6.7.2), the first of which is past, and the tokens behind them. `AllocFailed` where memory runs out.
-pub fn words(
+/// Basic words in a row (C11 6.7.2), the first of which is past, and the tokens behind them. `AllocFailed` where memory
+/// runs out.
+pub(crate) fn words(
     alloc: Global,
     first: Fixed,
     lexemes: &[Lexeme],
@@ -143,8 +144,8 @@ pub fn words(
     Ok((List::from_vec(list), rest))
 }
 
-/// A base without braces, as a type name has it (C11 6.7.2): words of the basic types, `struct` or `enum` with a tag, or a
-/// typedef name in force; and the tokens behind it. It nests nothing. `NoTree` where none stands at the front.
+/// A base without braces, as a type name has it (C11 6.7.2): words of the basic types, `struct` or `enum` with a tag,
+/// or a typedef name in force; and the tokens behind it. It nests nothing. `NoTree` where none stands at the front.
 pub fn base<'a>(
     alloc: Global,
     bytes: &[u8],
@@ -177,8 +178,8 @@ pub fn base<'a>(
     }
 }
 
-/// Words of the basic types in a row (C11 6.7.2), the first of which is past, as a base; and the tokens behind them. `NoTree`
-/// where the first isn't one of them.
+/// Words of the basic types in a row (C11 6.7.2), the first of which is past, as a base; and the tokens behind them.
+/// `NoTree` where the first isn't one of them.
 pub fn basic_base(
     alloc: Global,
     word: Fixed,

@@ -29,7 +29,7 @@ pub struct Found<'a> {
 }
 
 /// A name, unless it is a typedef name in force.
-pub fn name<'a>(
+pub(crate) fn name<'a>(
     alloc: Global,
     bytes: &[u8],
     names: &Names,
@@ -51,7 +51,7 @@ pub fn name<'a>(
 }
 
 /// A number.
-pub fn number<'a>(alloc: Global, at: Span, lexemes: &'a [Lexeme]) -> Result<Found<'a>, Parse>
+pub(crate) fn number<'a>(alloc: Global, at: Span, lexemes: &'a [Lexeme]) -> Result<Found<'a>, Parse>
     ensures value { Gives (λ x. (view_expression x.tree, x.rest.now)) result (found (s.number at) lexemes.now) }
     ensures nesting { IfOk result (λ x. IsRead 1 (view_expression x.tree) x.nesting x.level) }
 {
@@ -64,7 +64,11 @@ pub fn number<'a>(alloc: Global, at: Span, lexemes: &'a [Lexeme]) -> Result<Foun
 }
 
 /// A character.
-pub fn character<'a>(alloc: Global, at: Span, lexemes: &'a [Lexeme]) -> Result<Found<'a>, Parse>
+pub(crate) fn character<'a>(
+    alloc: Global,
+    at: Span,
+    lexemes: &'a [Lexeme],
+) -> Result<Found<'a>, Parse>
     ensures value { Gives (λ x. (view_expression x.tree, x.rest.now)) result (found (s.character at) lexemes.now) }
     ensures nesting { IfOk result (λ x. IsRead 1 (view_expression x.tree) x.nesting x.level) }
 {
@@ -77,7 +81,7 @@ pub fn character<'a>(alloc: Global, at: Span, lexemes: &'a [Lexeme]) -> Result<F
 }
 
 /// String literals in a row, behind the first.
-pub fn text<'a>(alloc: Global, at: Span, lexemes: &'a [Lexeme]) -> Result<Found<'a>, Parse>
+pub(crate) fn text<'a>(alloc: Global, at: Span, lexemes: &'a [Lexeme]) -> Result<Found<'a>, Parse>
     ensures value { Gives (λ x. (view_expression x.tree, x.rest.now)) result (found (s.text (at ∷ (texts_at lexemes.now).0)) (texts_at lexemes.now).1) }
     ensures nesting { IfOk result (λ x. IsRead 1 (view_expression x.tree) x.nesting x.level) }
 {
@@ -91,7 +95,7 @@ pub fn text<'a>(alloc: Global, at: Span, lexemes: &'a [Lexeme]) -> Result<Found<
 }
 
 /// An operand with its member, behind the `.`.
-pub fn dot_tail<'a>(
+pub(crate) fn dot_tail<'a>(
     alloc: Global,
     left: Found<'a>,
     lexemes: &'a [Lexeme],
@@ -114,7 +118,7 @@ pub fn dot_tail<'a>(
 }
 
 /// An operand with its member, behind the `->`.
-pub fn arrow_tail<'a>(
+pub(crate) fn arrow_tail<'a>(
     alloc: Global,
     left: Found<'a>,
     lexemes: &'a [Lexeme],
@@ -137,7 +141,7 @@ pub fn arrow_tail<'a>(
 }
 
 /// An operand with the `++` or `--` behind it.
-pub fn stepped_tail<'a>(
+pub(crate) fn stepped_tail<'a>(
     alloc: Global,
     op: StepOp,
     left: Found<'a>,

@@ -6,7 +6,7 @@ ghost use Rattle.stk_tree.specs.Nesting.{expression_nesting, most_nesting};
 ghost use Rattle.stk_tree.specs.Layout.{laid_expression, unnumbered_at};
 ghost use Rattle.stk_tree.specs.Syntax.{ExprTree};
 ghost use Rattle.stk_tree.specs.View.{view_expression};
-ghost use Rattle.stk_lexeme.specs.Lexemes.{lexemes_of, spans_of};
+ghost use Rattle.stk_grammar.specs.Lexemes.{lexemes_of, spans_of};
 ghost use Rattle.stk_tree.specs.Unlaid.{unlaid_expression};
 ghost use Rattle.stk_grammar.specs.Expressions.{IsExpression, Leads};
 ghost use Rattle.stk_grammar.specs.Stopped.{stopped_at};
@@ -19,13 +19,13 @@ use crate::reader;
 use std::alloc::Global;
 use stk_base::Boxed;
 use stk_ctype::Names;
+use stk_grammar::{lexemes_of, spans_of};
 use stk_lex::Token;
-use stk_lexeme::{lexemes_of, spans_of};
+use stk_nodes::span_expression;
 use stk_tree::{Expr, Lexeme, MOST_NESTING};
-use stk_tree_layout::span_expression;
 
-/// Reads the expression of the level `level` or a higher one that begins at the place `at` among lexemes, and says at which
-/// place it ends. The records of its nodes aren't set.
+/// Reads the expression of the level `level` or a higher one that begins at the place `at` among lexemes, and says at
+/// which place it ends. The records of its nodes aren't set.
 fn expression_at(
     alloc: Global,
     bytes: &[u8],
@@ -50,14 +50,14 @@ fn expression_at(
     }
 }
 
-/// Reads the expression of the level `level` or a higher one that begins at the place `at` among the tokens of a text, and says
-/// at which place it ends (C11 6.5). Levels go from 1, the comma's, to 17.
+/// Reads the expression of the level `level` or a higher one that begins at the place `at` among the tokens of a text,
+/// and says at which place it ends (C11 6.5). Levels go from 1, the comma's, to 17.
 ///
-/// `tokens` are those of `bytes`, at most 16,777,216, and the words that `names` has as typedef names stand for types. The answered
-/// tree is well placed, fits the names, nests at most 400 deep and prints exactly the tokens from `at` up to the answered place,
-/// where a stop stands: the end of the tokens, one of `)` `]` `}` `;` `:`, or, from level 2 on, `,`. `NoTree` comes exactly where no
-/// tree and no place are so. Each node has the number 0 and the span of the tokens that it prints. It takes time and memory for all of
-/// the tokens.
+/// `tokens` are those of `bytes`, at most 16,777,216, and the words that `names` has as typedef names stand for types.
+/// The answered tree is well placed, fits the names, nests at most 400 deep and prints exactly the tokens from `at` up
+/// to the answered place, where a stop stands: the end of the tokens, one of `)` `]` `}` `;` `:`, or, from level 2 on,
+/// `,`. `NoTree` comes exactly where no tree and no place are so. Each node has the number 0 and the span of the tokens
+/// that it prints. It takes time and memory for all of the tokens.
 pub fn expr(
     alloc: Global,
     bytes: &[u8],
@@ -89,11 +89,11 @@ pub struct Leading<'a> {
     pub rest: &'a [Lexeme],
 }
 
-/// Reads the expression of the level `level` or a higher one that these tokens begin with, where a stop stands behind it
-/// (C11 6.5). This is the call for readers of what holds expressions; `room` is the nesting that is left.
+/// Reads the expression of the level `level` or a higher one that these tokens begin with, where a stop stands behind
+/// it (C11 6.5). This is the call for readers of what holds expressions; `room` is the nesting that is left.
 ///
-/// The tree is well placed, fits the names, is at most `room` high and is followed by a stop, as with `expr`. `NoTree` comes
-/// exactly where the tokens begin with no such expression. The records of its nodes aren't set.
+/// The tree is well placed, fits the names, is at most `room` high and is followed by a stop, as with `expr`. `NoTree`
+/// comes exactly where the tokens begin with no such expression. The records of its nodes aren't set.
 pub fn expression<'a>(
     alloc: Global,
     bytes: &[u8],
@@ -122,7 +122,8 @@ pub fn expression<'a>(
     }
 }
 
-/// The same as `expression`, said by what reading from left to right gives: the call for readers that are proved against that.
+/// The same as `expression`, said by what reading from left to right gives: the call for readers that are proved
+/// against that.
 pub fn stopped<'a>(
     alloc: Global,
     bytes: &[u8],

@@ -2,18 +2,18 @@
 use Rattle.std.proofs.Common.{◌≡◌, true, List, [], ◌∷◌, ◌++◌, ℤ, sym, subst, append_assoc}
 use Rattle.stk_numbers.specs.declared.conditions.Candidate.{Candidate}
 use Rattle.stk_numbers.specs.declared.conditions.Condition.{Condition}
-use Rattle.stk_findings.specs.declared.finding.Finding.{Finding}
-use Rattle.stk_findings.specs.declared.finding.Finding.TheVariants.{Clear, Unstable}
-use Rattle.stk_findings.specs.declared.finding.Need.{Need}
-use Rattle.stk_findings.specs.Findings.{Subject, members, shown_need, NoAnswer, IsFirstAnswer, IsPrintedOf, IsPrinted, IsUnstable, IsMinimal, no_more, member, no_member, IsLawful, AreLawful}
+use Rattle.stk_meaning.specs.declared.finding.Finding.{Finding}
+use Rattle.stk_meaning.specs.declared.finding.Finding.TheVariants.{Clear, Unstable}
+use Rattle.stk_meaning.specs.declared.finding.Need.{Need}
+use Rattle.stk_meaning.specs.Findings.{Subject, members, shown_need, NoAnswer, IsFirstAnswer, IsPrintedOf, IsPrinted, IsUnstable, IsMinimal, no_more, member, no_member, IsLawful, AreLawful}
 
 -- the first answer of a query, or there is none
 pub data FirstOrNone (q : Subject) (c : Candidate) (set : List Condition) : Type 0 where
   an_answer : (start : List ℤ) → IsFirstAnswer q c set start → FirstOrNone q c set
   no_answer : NoAnswer q c set → FirstOrNone q c set
 
--- What a subject needs for each candidate to have a finding: all maps are tried, each query has a first answer or none, and for a candidate that is
--- unstable a set that suffices in the runs suffices.
+-- What a subject needs for each candidate to have a finding: all maps are tried, each query has a first answer or none,
+-- and for a candidate that is unstable a set that suffices in the runs suffices.
 pub record IsDecided (q : Subject) : Type 0 where
   pub all : q.tries_all ≡ true
   pub asked : (c : Candidate) (set : List Condition) → FirstOrNone q c set

@@ -2,4 +2,6 @@ pub mod Searching
 pub mod Deciding
 pub mod Numbered
 pub mod Paths
-pub mod Sites
+pub mod Visits
+pub mod Order
+pub mod Unique

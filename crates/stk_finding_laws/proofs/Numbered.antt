@@ -4,12 +4,12 @@ use Rattle.std.proofs.lemmas.Bool.{false≢true}
 use Rattle.stk_ctype.specs.declared.kind.IntKind.{IntKind}
 use Rattle.stk_numbers.specs.declared.conditions.Candidate.{Candidate}
 use Rattle.stk_numbers.specs.declared.conditions.Condition.{Condition}
-use Rattle.stk_runs.specs.declared.entry.Entry.{Entry}
-use Rattle.stk_findings.specs.Hits.{HitsFree, is_hit_free}
-use Rattle.stk_findings.specs.Findings.{Subject, Answers}
-use Rattle.stk_findings.proofs.HitLemmas.{found, finds}
-use Rattle.stk_maps.specs.Maps.{bits_in, Covers, Precedes, map_at}
-use Rattle.stk_maps.proofs.Numbering.{by_number}
+use Rattle.stk_meaning.specs.declared.entry.Entry.{Entry}
+use Rattle.stk_meaning.specs.Hits.{HitsFree, is_hit_free}
+use Rattle.stk_meaning.specs.Findings.{Subject, Answers}
+use Rattle.stk_meaning.proofs.HitLemmas.{found, finds}
+use Rattle.stk_judge.specs.InputMaps.{bits_in, Covers, Precedes, map_at}
+use Rattle.stk_judge.proofs.Numbering.{by_number}
 use Rattle.stk_finding_laws.proofs.Searching.{FirstBelow, first_below, none_below, search_below}
 use Rattle.stk_finding_laws.proofs.Deciding.{FirstOrNone, an_answer, no_answer}
 

@@ -5,18 +5,18 @@ use Rattle.stk_tree.specs.Syntax.{FunctionTree}
 use Rattle.stk_numbers.specs.declared.conditions.Candidate.{Candidate}
 use Rattle.stk_numbers.specs.declared.conditions.Condition.{Condition}
 use Rattle.stk_numbers.specs.declared.conditions.Kinds.{Kinds}
-use Rattle.stk_runs.specs.Typings.{Typing}
-use Rattle.stk_runs.specs.Keys.{keys_of, kept_of, input_bits}
-use Rattle.stk_runs.specs.Maps.{IsValid, are_valid, addresses_in}
-use Rattle.stk_runs.specs.Paths.{number_under}
-use Rattle.stk_findings.specs.declared.finding.Finding.{Finding}
-use Rattle.stk_findings.specs.Findings.{NoAnswer, AreLawful}
-use Rattle.stk_findings.specs.PathFindings.{function_subject}
-use Rattle.stk_findings.specs.Sufficient.{IsPathSufficient, IsSufficient}
-use Rattle.stk_maps.specs.Maps.{Covers}
-use Rattle.stk_path_findings.specs.PathSubjects.{path_subject, kinds_of}
-use Rattle.stk_path_findings.proofs.KeyKinds.{covers, in_range, precedes}
-use Rattle.stk_path_findings.proofs.Objects.{no_objects}
+use Rattle.stk_meaning.specs.Typings.{Typing}
+use Rattle.stk_meaning.specs.Keys.{keys_of, kept_of, input_bits}
+use Rattle.stk_meaning.specs.Maps.{IsValid, are_valid, addresses_in}
+use Rattle.stk_meaning.specs.Paths.{number_under}
+use Rattle.stk_meaning.specs.declared.finding.Finding.{Finding}
+use Rattle.stk_meaning.specs.Findings.{NoAnswer, AreLawful}
+use Rattle.stk_meaning.specs.PathFindings.{function_subject}
+use Rattle.stk_meaning.specs.Sufficient.{IsPathSufficient, IsSufficient}
+use Rattle.stk_judge.specs.InputMaps.{Covers}
+use Rattle.stk_judge.specs.PathSubjects.{path_subject, kinds_of}
+use Rattle.stk_judge.proofs.KeyKinds.{covers, in_range, precedes}
+use Rattle.stk_judge.proofs.Objects.{no_objects}
 use Rattle.stk_finding_laws.proofs.Deciding.{IsDecided, findings_of}
 use Rattle.stk_finding_laws.proofs.Numbered.{HasMapsOf, asked}
 

@@ -3,11 +3,11 @@ use Rattle.std.proofs.Common.{ℕ, ◌≡◌, ◌<◌, ◌||◌, ◌==◌, List,
 use Rattle.stk_ctype.specs.Types.{type_of}
 use Rattle.stk_ctype.specs.Structs.{Structs}
 use Rattle.stk_ctype.specs.Sound.{IsSound}
-use Rattle.stk_facts.specs.declared.facts.NodeFact.{NodeFact}
-use Rattle.stk_facts.specs.Facts.{AreSoundFacts, fact_of}
-use Rattle.stk_facts.proofs.FactsAt.{place_sound}
-use Rattle.stk_taken.specs.Sets.{is_listed}
-use Rattle.stk_runs.specs.Typings.{is_among}
+use Rattle.stk_type_rules.specs.declared.facts.NodeFact.{NodeFact}
+use Rattle.stk_type_rules.specs.Facts.{AreSoundFacts, fact_of}
+use Rattle.stk_type_rules.proofs.FactsAt.{place_sound}
+use Rattle.stk_address_taken.specs.Sets.{is_listed}
+use Rattle.stk_meaning.specs.Typings.{is_among}
 
 -- the two words for a number of a list are one
 pub is_listed-is_among : (k : ℕ) (js : List ℕ) → is_listed k js ≡ is_among k js

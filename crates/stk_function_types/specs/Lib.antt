@@ -1,2 +1,9 @@
+pub mod Bodies
+pub mod Locals
+pub mod Sections
+pub mod Statements
+pub mod Functions
 pub mod Units
 pub mod Nodes
+pub mod Visits
+pub mod Gathered

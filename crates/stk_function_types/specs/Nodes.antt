@@ -4,12 +4,12 @@ use Rattle.stk_base.specs.declared.span.Span.{Span}
 use Rattle.stk_ctype.specs.Types.{TypeTree}
 use Rattle.stk_tree.specs.View.{view_unit}
 use Rattle.stk_tree.specs.Unlaid.{no_node}
-use Rattle.stk_tree_nodes.specs.Rows.{unit_row}
-use Rattle.stk_facts.specs.declared.facts.Role.{Role}
-use Rattle.stk_facts.specs.declared.facts.Role.TheVariants.{Plain, Value, Declares, Names}
-use Rattle.stk_facts.specs.Facts.{fact_at}
-use Rattle.stk_rules.specs.Types.{is_scalar}
-use Rattle.stk_runs.specs.Typings.{Typing, typing_of, is_among}
+use Rattle.stk_nodes.specs.Rows.{unit_row}
+use Rattle.stk_type_rules.specs.declared.facts.TypeRole.{TypeRole}
+use Rattle.stk_type_rules.specs.declared.facts.TypeRole.TheVariants.{Plain, Value, Declares, Names}
+use Rattle.stk_type_rules.specs.Facts.{fact_at}
+use Rattle.stk_type_rules.specs.Types.{is_scalar}
+use Rattle.stk_meaning.specs.Typings.{Typing, typing_of, is_among}
 use Rattle.stk_function_types.specs.Units.{TypedUnit, facts_of, unit_taken, unit_statics}
 
 -- what runs ask of the types of a function
@@ -17,7 +17,7 @@ abbrev pub typing_in : TypedUnit → Typing
 typing_in t = typing_of t.bytes t.entries (unit_taken t.bytes (view_unit t.unit)) (facts_of t)
 
 -- a value has a type, and so does what a declarator declares
-abbrev pub type_by : Role → TypeTree → Option TypeTree
+abbrev pub type_by : TypeRole → TypeTree → Option TypeTree
 type_by Plain t = None
 type_by Value t = Some t
 type_by Declares t = Some t
@@ -36,7 +36,7 @@ abbrev pub constant : TypedUnit → ℕ → Option ℤ
 constant t k = (typing_in t).number_at k
 
 -- whether a node declares something
-abbrev pub is_declarator : Role → Bool
+abbrev pub is_declarator : TypeRole → Bool
 is_declarator Plain = false
 is_declarator Value = false
 is_declarator Declares = true

@@ -5,11 +5,11 @@ use Rattle.stk_tree.specs.declared.unit.Unit.{Unit}
 use Rattle.stk_tree.specs.Syntax.{UnitTree}
 use Rattle.stk_tree.specs.Syntax as s
 use Rattle.stk_tree.specs.View.{view_unit}
-use Rattle.stk_facts.specs.Facts.{Fact, plain}
-use Rattle.stk_facts.specs.Outcome.{Outcome, Good, Refused}
-use Rattle.stk_taken.specs.Statements.{function_taken}
-use Rattle.stk_taken.specs.Statics.{function_statics}
-use Rattle.stk_bodies.specs.Functions.{function_typed}
+use Rattle.stk_type_rules.specs.Facts.{Fact, plain}
+use Rattle.stk_type_rules.specs.Outcome.{Outcome, Good, Refused}
+use Rattle.stk_address_taken.specs.Statements.{function_taken}
+use Rattle.stk_address_taken.specs.Statics.{function_statics}
+use Rattle.stk_function_types.specs.Functions.{function_typed}
 
 -- a unit of an input, under names of file scope
 pub record TypedUnit : Type 0 where
@@ -29,7 +29,8 @@ unit_statics (s.empty_unit n) = []
 unit_statics (s.declares n d) = []
 unit_statics (s.defines n f) = function_statics f
 
--- the facts of all nodes of a function definition, or the first node that is refused with its lowest rule; of no other unit is anything known
+-- the facts of all nodes of a function definition, or the first node that is refused with its lowest rule; of no other
+-- unit is anything known
 abbrev pub unit_typed : List ℕ → List NameEntry → UnitTree → Outcome Fact
 unit_typed bytes entries (s.empty_unit n) = Good plain []
 unit_typed bytes entries (s.declares n d) = Good plain []

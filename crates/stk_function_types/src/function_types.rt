@@ -7,22 +7,22 @@ ghost use Rattle.stk_ctype.specs.Types.{type_of, signature_of};
 ghost use Rattle.stk_ctype.specs.Structs.{structs_of};
 ghost use Rattle.stk_ctype.specs.Sound.{IsSound, IsSoundSignature};
 ghost use Rattle.stk_tree.specs.View.{view_unit};
-ghost use Rattle.stk_facts.specs.Facts.{AreSoundFacts, fact_of};
+ghost use Rattle.stk_type_rules.specs.Facts.{AreSoundFacts, fact_of};
 ghost use Rattle.stk_function_types.specs.Units.{facts_in, unit_typed, unit_taken, unit_statics};
 ghost use Rattle.stk_function_types.specs.Nodes.{typing_in, value_type, declared, constant, is_register, node_span};
 
 use std::alloc::Global;
 use std::marker::Model;
+use stk_address_taken::{NodeSet, statics_in, taken_in};
 use stk_base::{NoMemory, Span};
 use stk_ctype::{CType, Names, Signature, Symbol};
-use stk_facts::{NodeFact, Role};
-use stk_rules::is_scalar;
-use stk_taken::{NodeSet, statics_in, taken_in};
+use stk_nodes::unit_nodes;
 use stk_tree::{Node, Unit};
-use stk_tree_nodes::unit_nodes;
+use stk_type_rules::{NodeFact, TypeRole, is_scalar};
 
-/// A function definition that typing accepts: an input, a unit of it, and the names of file scope, with what is known of each
-/// node. Its calls take no memory, and constant time, but for a name that is looked up, which takes logarithmic time.
+/// A function definition that typing accepts: an input, a unit of it, and the names of file scope, with what is known
+/// of each node. Its calls take no memory, and constant time, but for a name that is looked up, which takes logarithmic
+/// time.
 #[derive(Drop)]
 pub struct FunctionTypes<'a> {
     bytes: &'a [u8],
@@ -61,8 +61,8 @@ impl<'a> Model for FunctionTypes<'a> {
     ghost use Rattle.stk_ctype.specs.Structs.{structs_of};
     ghost use Rattle.stk_ctype.specs.Types.{type_of, void_type};
     ghost use Rattle.stk_tree.specs.View.{view_unit};
-    ghost use Rattle.stk_tree_nodes.specs.Rows.{unit_row};
-    ghost use Rattle.stk_facts.specs.Facts.{AreSoundFacts, fact_of};
+    ghost use Rattle.stk_nodes.specs.Rows.{unit_row};
+    ghost use Rattle.stk_type_rules.specs.Facts.{AreSoundFacts, fact_of};
     ghost use Rattle.stk_function_types.specs.Units.{TypedUnit, facts_in, unit_typed, unit_taken, unit_statics};
 
     ghost Value = { TypedUnit };
@@ -101,8 +101,8 @@ fn statics_of(alloc: Global, unit: &Unit) -> Result<NodeSet, NoMemory>
 }
 
 impl<'a> FunctionTypes<'a> {
-    /// What is known of a function definition, given the facts of its nodes in the order of their numbers: they are those that
-    /// typing gives, and their types are sound under the names. The only refusal is want of memory.
+    /// What is known of a function definition, given the facts of its nodes in the order of their numbers: they are
+    /// those that typing gives, and their types are sound under the names.
     pub fn new(
         alloc: Global,
         bytes: &'a [u8],
@@ -150,8 +150,8 @@ impl<'a> FunctionTypes<'a> {
         self.names
     }
 
-    /// The type of a node's value, or the type that a declarator declares; none where typing gives the node no type. It is sound
-    /// under the names.
+    /// The type of a node's value, or the type that a declarator declares; none where typing gives the node no type. It
+    /// is sound under the names.
     pub fn value_type(&self, node: u32) -> Option<&CType>
         ensures is { option_map type_of (option_copied result) ≡ value_type self.now node }
         ensures sound { IfSome (option_copied result) (λ t. IsSound (structs_of self.now.entries) (type_of t)) }
@@ -159,14 +159,14 @@ impl<'a> FunctionTypes<'a> {
         match self.facts.get(node as usize) {
             None => None,
             Some(fact) => match fact.role {
-                Role::Value | Role::Declares => Some(&fact.ty),
-                Role::Plain | Role::Names => None,
+                TypeRole::Value | TypeRole::Declares => Some(&fact.ty),
+                TypeRole::Plain | TypeRole::Names => None,
             },
         }
     }
 
-    /// The type of a node: that of its value, the one that a declarator declares, the one that a type name names; `void` for any
-    /// other node. It is sound under the names.
+    /// The type of a node: that of its value, the one that a declarator declares, the one that a type name names;
+    /// `void` for any other node. It is sound under the names.
     pub fn type_at(&self, node: u32) -> &CType
         ensures is { type_of result.now ≡ (typing_in self.now).type_at node }
         ensures sound { IsSound (structs_of self.now.entries) (type_of result.now) }
@@ -177,8 +177,8 @@ impl<'a> FunctionTypes<'a> {
         }
     }
 
-    /// The declarator of the parameter or local object that a name with a type means, by the number of its node; none for every
-    /// other node.
+    /// The declarator of the parameter or local object that a name with a type means, by the number of its node; none
+    /// for every other node.
     pub fn declared(&self, node: u32) -> Option<u32>
         ensures { result ≡ declared self.now node }
     {
@@ -188,8 +188,8 @@ impl<'a> FunctionTypes<'a> {
         }
     }
 
-    /// The number of a number, a character, a `sizeof` or an enumerator's name that has a type, or of the expression of a case;
-    /// none for every other node.
+    /// The number of a number, a character, a `sizeof` or an enumerator's name that has a type, or of the expression of
+    /// a case; none for every other node.
     pub fn constant(&self, node: u32) -> Option<i128>
         ensures { result ≡ constant self.now node }
     {
@@ -206,15 +206,15 @@ impl<'a> FunctionTypes<'a> {
         self.taken.has(node)
     }
 
-    /// Whether a node is the declarator of a register: of a scalar parameter or a scalar automatic object whose name is no operand
-    /// of `&` (C11 6.5.3.2), parentheses aside.
+    /// Whether a node is the declarator of a register: of a scalar parameter or a scalar automatic object whose name is
+    /// no operand of `&` (C11 6.5.3.2), parentheses aside.
     pub fn is_register(&self, node: u32) -> bool
         ensures { result ≡ is_register self.now node }
     {
         match self.facts.get(node as usize) {
             None => false,
             Some(fact) => {
-                matches!(fact.role, Role::Declares)
+                matches!(fact.role, TypeRole::Declares)
                     && is_scalar(&fact.ty)
                     && !(self.taken.has(node) || self.statics.has(node))
             }
@@ -239,8 +239,8 @@ impl<'a> FunctionTypes<'a> {
         self.names.size_of(ty)
     }
 
-    /// How many bytes before a member its struct begins, for a type and the place of the member's name (C11 6.5.2.3); 0 where the
-    /// type has no such member.
+    /// How many bytes before a member its struct begins, for a type and the place of the member's name (C11 6.5.2.3); 0
+    /// where the type has no such member.
     pub fn offset_of(&self, ty: &CType, name: Span) -> u64
         ensures { result ≡ (typing_in self.now).offset_of (type_of ty.now) name }
     {
@@ -250,7 +250,8 @@ impl<'a> FunctionTypes<'a> {
         }
     }
 
-    /// The signature of the function that a name of file scope means, where it means one (C11 6.5.2.2). It is sound under the names.
+    /// The signature of the function that a name of file scope means, where it means one (C11 6.5.2.2). It is sound
+    /// under the names.
     pub fn signature_at(&self, name: Span) -> Option<&'a Signature>
         ensures is { option_map signature_of (option_copied result) ≡ (typing_in self.now).signature_at name }
         ensures sound { IfSome (option_copied result) (λ f. IsSoundSignature (structs_of self.now.entries) (signature_of f)) }

@@ -10,8 +10,8 @@ edge_value gates e = if e.0 % 2 == 0 then gates (e.0 / 2) else not (gates (e.0 /
 abbrev pub inverse : Edge → Edge
 inverse e = record { 0 = if e.0 % 2 == 0 then e.0 + 1 else e.0 - 1 }
 
--- the edge that an AND of two edges is without a gate of its own: one with false or of an edge and its inverse is false, one with
--- true or of an edge and itself is an edge that is there
+-- the edge that an AND of two edges is without a gate of its own: one with false or of an edge and its inverse is
+-- false, one with true or of an edge and itself is an edge that is there
 abbrev pub folded : Edge → Edge → Option Edge
 folded a b =
     if a.0 == 0 || b.0 == 0 || a.0 == (inverse b).0 then Some (record { 0 = 0 })

@@ -3,8 +3,8 @@ use Rattle.std.specs.Prelude.{◌≡◌, ℕ, ◌+◌, ◌*◌, ◌^◌, ◌<◌
 use Rattle.stk_gates.specs.declared.edge.Edge.{Edge}
 use Rattle.stk_gates.specs.Edges.{edge_value, folded, in_order}
 
--- how many inputs there are, and the two edges of each AND gate, in order. Gate 0 is the constant false, then come the inputs, then
--- the AND gates
+-- how many inputs there are, and the two edges of each AND gate, in order. Gate 0 is the constant false, then come the
+-- inputs, then the AND gates
 pub record Table : Type 0 where
   pub inputs : ℕ
   pub pairs : List (Edge × Edge)
@@ -21,7 +21,8 @@ HasRoom t n = gate_count t + n ≤ 2 ^ 29
 abbrev pub IsEdge : Table → Edge → Type 0
 IsEdge t e = e.0 < 2 * gate_count t
 
--- these values of gates are those of the table: gate 0 is false, and each AND gate is the AND of its two edges. The inputs are free
+-- these values of gates are those of the table: gate 0 is false, and each AND gate is the AND of its two edges. The
+-- inputs are free
 pub record Obeys (t : Table) (gates : ℕ → Bool) : Type 0 where
   pub constant : gates 0 ≡ false
   pub ands : (k : ℕ) (p : Edge × Edge) → slice_get t.pairs k ≡ Some p → gates (1 + t.inputs + k) ≡ edge_value gates p.0 && edge_value gates p.1

@@ -8,7 +8,7 @@ use crate::Edge;
 
 /// The edge that the AND of two edges is without a gate of its own, if it is one.
 #[tactic(auto, using(crate::proofs::Edges::folds))]
-pub fn without_gate(a: Edge, b: Edge) -> Option<Edge>
+pub(crate) fn without_gate(a: Edge, b: Edge) -> Option<Edge>
     ensures is { result ≡ folded a b }
     ensures edge { IfSome result (λ e. (t : Table) → IsEdge t a → IsEdge t b → IsEdge t e) }
     ensures value { IfSome result (λ e. (t : Table) (gates : ℕ → Bool) → Obeys t gates → edge_value gates e ≡ edge_value gates a && edge_value gates b) }

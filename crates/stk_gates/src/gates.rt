@@ -10,8 +10,7 @@ use crate::folding::without_gate;
 use indexmap::IndexSet;
 use std::alloc::Global;
 use std::marker::Model;
-use stk_base::NoMemory;
-use stk_bits::Bits;
+use stk_base::{Bits, NoMemory};
 
 /// A table of AND gates. Gate 0 is the constant false, gates 1 to `inputs` are the inputs in order, and each AND gate
 /// takes the next number. Two ANDs of the same edges are one gate, in either order.
@@ -81,8 +80,8 @@ impl Gates {
         Ok(Edge(2 * (1 + self.inputs + place as u32)))
     }
 
-    /// The AND of two edges. It is an edge that is there where one of the two is constant, or both come from one gate, or there
-    /// is a gate of these edges already; else it is a new gate. `NoMemory` leaves the table as it was.
+    /// The AND of two edges. It is an edge that is there where one of the two is constant, or both come from one gate,
+    /// or there is a gate of these edges already; else it is a new gate. `NoMemory` leaves the table as it was.
     #[tactic(auto, using(crate::proofs::Growth::growth))]
     pub fn and(&mut self, a: Edge, b: Edge) -> Result<Edge, NoMemory>
         requires room { HasRoom self.old 1 }

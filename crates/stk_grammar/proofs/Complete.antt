@@ -17,7 +17,7 @@ use Rattle.stk_tree.specs.Syntax.{BaseTree, BaseFormTree, TypeNameTree, Dimensio
 use Rattle.stk_tree.specs.Syntax as s
 use Rattle.stk_tree.specs.Nesting.{expression_nesting, expressions_nesting, dimensions_nesting, type_name_nesting}
 use Rattle.stk_tree.specs.Placed.{all_basic, binary_level, is_basic, is_filled}
-use Rattle.stk_tree.specs.Tokens.{assign_mark, binary_mark, unary_mark}
+use Rattle.stk_tree.specs.Tokens.{assign_punctuator, binary_punctuator, unary_punctuator}
 use Rattle.stk_tree.specs.Unlaid.{no_node, unlaid_base_form, unlaid_dimensions, unlaid_expression, unlaid_expression_form, unlaid_expressions, unlaid_type_name}
 use Rattle.stk_grammar.specs.declared.tables.Opener.{Opener}
 use Rattle.stk_grammar.specs.declared.tables.Opener.TheVariants as opener
@@ -138,7 +138,7 @@ no_right_bracket [] h = refl
 no_right_bracket (Token fixed.RightBracket ∷ ts) h = let e = h.1 in absurd cc
 no_right_bracket (t ∷ ts) h = refl
 
-unary_no_type : (named : Span → Bool) (o : UnaryOp) (r : List Lexeme) → begins_type named (Token (unary_mark o) ∷ r) ≡ false
+unary_no_type : (named : Span → Bool) (o : UnaryOp) (r : List Lexeme) → begins_type named (Token (unary_punctuator o) ∷ r) ≡ false
 unary_no_type named unary.Address r = refl
 unary_no_type named unary.Deref r = refl
 unary_no_type named unary.Plus r = refl
@@ -180,7 +180,7 @@ mutual
 abbrev NoTypeOpens : (Span → Bool) → List Lexeme → Type 0
 NoTypeOpens named ts = opens_type named (behind_left_paren ts) ≡ false
 
-unary_no_size : (named : Span → Bool) (o : UnaryOp) (r : List Lexeme) → NoTypeOpens named (Token (unary_mark o) ∷ r)
+unary_no_size : (named : Span → Bool) (o : UnaryOp) (r : List Lexeme) → NoTypeOpens named (Token (unary_punctuator o) ∷ r)
 unary_no_size named unary.Address r = refl
 unary_no_size named unary.Deref r = refl
 unary_no_size named unary.Plus r = refl
@@ -475,7 +475,7 @@ mutual
       (head_paren named (expression_at named inner) inner least (unlaid_expression e) _ rest (no_type named e (Token fixed.RightParen ∷ rest) well.1)
       (part named inner 1 (unlaid_expression e) _ _ (λ k h. comes e named k 1 (Token fixed.RightParen ∷ rest) well.1 well.0 h (refl, tt)) (omega arith) (refl, tt)))
   form_comes (s.unary o e) named inner least rest well at low ends =
-      comes_by_head named inner least (made (s.unary o (unlaid_expression e))) (Token (unary_mark o)) (opener.Unary o) (prints e rest) rest (head_of_unary o)
+      comes_by_head named inner least (made (s.unary o (unlaid_expression e))) (Token (unary_punctuator o)) (opener.Unary o) (prints e rest) rest (head_of_unary o)
       (before_some (expression_at named inner) least 14 (s.unary o) (unlaid_expression e) (prints e rest) rest at
       (part named inner 14 (unlaid_expression e) _ _ (λ k h. comes e named k 14 rest well.1 well.0 h (Ends-last 14 e rest ends well.0)) (omega arith) ends))
   form_comes (s.step IncBefore e) named inner least rest well at low ends =
@@ -506,14 +506,14 @@ mutual
       (head_cast named (expression_at named inner) inner least (unlaid_type_name y) (unlaid_expression e) _ (prints e rest) rest (type_begins_type named y _ well.0) (type_comes y named inner (prints e rest) well.0 (omega arith)) at
       (part named inner 14 (unlaid_expression e) _ _ (λ k h. comes e named k 14 rest well.2 well.1 h (Ends-last 14 e rest ends well.1)) (omega arith) ends))
   form_comes (s.binary o a b) named inner least rest well at low ends =
-      comes_by_suffix named inner least a (made (s.binary o (unlaid_expression a) (unlaid_expression b))) _ (Token (binary_mark o)) (prints b rest) (suffix.Binary o) rest
-      (comes a named inner least _ well.1 (omega (arith, well.0)) (omega arith) (Ends-suffix (binary_mark o) (suffix.Binary o) a (prints b rest) (suffix_of_binary o) well.0))
+      comes_by_suffix named inner least a (made (s.binary o (unlaid_expression a) (unlaid_expression b))) _ (Token (binary_punctuator o)) (prints b rest) (suffix.Binary o) rest
+      (comes a named inner least _ well.1 (omega (arith, well.0)) (omega arith) (Ends-suffix (binary_punctuator o) (suffix.Binary o) a (prints b rest) (suffix_of_binary o) well.0))
       (suffix_of_binary o) at well.0 low (omega arith)
       (tail_binary (expression_at named inner) o (unlaid_expression a) (unlaid_expression b) (prints b rest) rest
       (part named inner (binary_level o + 1) (unlaid_expression b) _ _ (λ k h. comes b named k (binary_level o + 1) rest well.3 well.2 h (Ends-last (binary_level o + 1) b rest ends well.2)) (omega arith) ends))
   form_comes (s.assign o a b) named inner least rest well at low ends =
-      comes_by_suffix named inner least a (made (s.assign o (unlaid_expression a) (unlaid_expression b))) _ (Token (assign_mark o)) (prints b rest) (suffix.Assign o) rest
-      (comes a named inner least _ well.1 (omega (arith, well.0)) (omega arith) (Ends-suffix (assign_mark o) (suffix.Assign o) a (prints b rest) (suffix_of_assign o) well.0))
+      comes_by_suffix named inner least a (made (s.assign o (unlaid_expression a) (unlaid_expression b))) _ (Token (assign_punctuator o)) (prints b rest) (suffix.Assign o) rest
+      (comes a named inner least _ well.1 (omega (arith, well.0)) (omega arith) (Ends-suffix (assign_punctuator o) (suffix.Assign o) a (prints b rest) (suffix_of_assign o) well.0))
       (suffix_of_assign o) at well.0 low (omega arith)
       (tail_assign (expression_at named inner) o (unlaid_expression a) (unlaid_expression b) (prints b rest) rest
       (part named inner 2 (unlaid_expression b) _ _ (λ k h. comes b named k 2 rest well.3 well.2 h (Ends-last 2 b rest ends well.2)) (omega arith) ends))

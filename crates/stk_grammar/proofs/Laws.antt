@@ -12,27 +12,27 @@ use Rattle.stk_tree.specs.Syntax.{ExprTree}
 use Rattle.stk_tree.specs.Nesting.{expression_nesting}
 use Rattle.stk_tree.specs.Tokens.{expression_tokens}
 use Rattle.stk_tree.specs.Unlaid.{unlaid_expression}
-use Rattle.stk_grammar.specs.Expressions.{IsExpression, OnePlace, OneText, stop_mark, stops}
-use Rattle.stk_grammar.specs.Reading.{expression_at, level, suffix_mark}
+use Rattle.stk_grammar.specs.Expressions.{IsExpression, OnePlace, OneText, stop_punctuator, stops}
+use Rattle.stk_grammar.specs.Reading.{expression_at, level, suffix_punctuator}
 use Rattle.stk_grammar.proofs.Complete.{expression_reads}
 use Rattle.stk_grammar.proofs.Operators.{Ends, EndsAt, some_is}
 use Rattle.stk_grammar.proofs.Prints.{prints, tokens-append}
 use Rattle.stk_grammar.proofs.Sound.{expression_sound}
 use Rattle.stk_grammar.proofs.Well.{IsWell, nesting-unlaid, passes_of, well_of}
 
-mark_ends : (least : ℕ) (f : Fixed) → stop_mark least f ≡ true → EndsAt least (suffix_mark f)
-mark_ends least fixed.RightParen h = tt
-mark_ends least fixed.RightBracket h = tt
-mark_ends least fixed.RightBrace h = tt
-mark_ends least fixed.Semicolon h = tt
-mark_ends least fixed.Colon h = tt
-mark_ends least fixed.Comma h = omega (arith, leb-true _ _ h)
-mark_ends least other h = absurd cc
+punctuator_ends : (least : ℕ) (f : Fixed) → stop_punctuator least f ≡ true → EndsAt least (suffix_punctuator f)
+punctuator_ends least fixed.RightParen h = tt
+punctuator_ends least fixed.RightBracket h = tt
+punctuator_ends least fixed.RightBrace h = tt
+punctuator_ends least fixed.Semicolon h = tt
+punctuator_ends least fixed.Colon h = tt
+punctuator_ends least fixed.Comma h = omega (arith, leb-true _ _ h)
+punctuator_ends least other h = absurd cc
 
 -- a stop ends an expression
 pub Ends-stops : (least : ℕ) (ts : List Lexeme) → stops least ts ≡ true → Ends least ts
 Ends-stops least [] h = tt
-Ends-stops least (Token f ∷ ts) h = (refl, mark_ends least f h)
+Ends-stops least (Token f ∷ ts) h = (refl, punctuator_ends least f h)
 Ends-stops least (Leaf class at ∷ ts) h = absurd cc
 
 -- two trees of a level that stand at the same place are one

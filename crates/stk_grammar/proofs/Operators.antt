@@ -3,7 +3,7 @@ use Rattle.std.proofs.Common.{◌≡◌, ℕ, ◌+◌, ◌<◌, ◌≤◌, Bool,
 use Rattle.std.proofs.lemmas.Bool.{le-leb, lt-leb, leb-true}
 use Rattle.stk_base.specs.declared.span.Span.{Span}
 use Rattle.stk_base.specs.declared.token.Class.{Class}
-use Rattle.stk_base.specs.declared.token.Class.TheVariants.{Word, Number, Character, Text, Mark, Stray}
+use Rattle.stk_base.specs.declared.token.Class.TheVariants.{Word, Number, Character, Text, Punctuator, Stray}
 use Rattle.stk_tree.specs.declared.fixed.Fixed.{Fixed}
 use Rattle.stk_tree.specs.declared.fixed.Fixed.TheVariants as fixed
 use Rattle.stk_tree.specs.declared.fixed.Lexeme.{Lexeme}
@@ -19,12 +19,12 @@ use Rattle.stk_tree.specs.declared.expression.AssignOp.TheVariants as assign
 use Rattle.stk_tree.specs.Syntax.{BaseTree, BaseFormTree, TypeNameTree, DimensionTree, DimensionTrees, ExprTree, ExprTrees, ExprFormTree}
 use Rattle.stk_tree.specs.Syntax as s
 use Rattle.stk_tree.specs.Placed.{binary_level, form_level, step_level}
-use Rattle.stk_tree.specs.Tokens.{assign_mark, binary_mark, unary_mark}
+use Rattle.stk_tree.specs.Tokens.{assign_punctuator, binary_punctuator, unary_punctuator}
 use Rattle.stk_grammar.specs.declared.tables.Opener.{Opener}
 use Rattle.stk_grammar.specs.declared.tables.Opener.TheVariants as opener
 use Rattle.stk_grammar.specs.declared.tables.Suffix.{Suffix}
 use Rattle.stk_grammar.specs.declared.tables.Suffix.TheVariants as suffix
-use Rattle.stk_grammar.specs.Reading.{◌>>=◌, opener_leaf, opener_mark, opener_of, if_taken, level, suffix_left, suffix_level, suffix_mark, suffix_of, taken}
+use Rattle.stk_grammar.specs.Reading.{◌>>=◌, opener_leaf, opener_punctuator, opener_of, if_taken, level, suffix_left, suffix_level, suffix_punctuator, suffix_of, taken}
 
 -- ---- options
 
@@ -196,7 +196,7 @@ is_text (Leaf Word at) = false
 is_text (Leaf Number at) = false
 is_text (Leaf Character at) = false
 is_text (Leaf Text at) = true
-is_text (Leaf Mark at) = false
+is_text (Leaf Punctuator at) = false
 is_text (Leaf Stray at) = false
 
 abbrev pub Ends : ℕ → List Lexeme → Type 0
@@ -226,7 +226,7 @@ pub Ends-last : (least : ℕ) (t : ExprTree) (ts : List Lexeme) → Ends least t
 Ends-last least t [] h k = tt
 Ends-last least t (u ∷ ts) h k = (h.0, ends_at_last (suffix_of u) least t h.1 k)
 
-pub suffix_of_binary : (o : BinaryOp) → suffix_of (Token (binary_mark o)) ≡ Some (suffix.Binary o)
+pub suffix_of_binary : (o : BinaryOp) → suffix_of (Token (binary_punctuator o)) ≡ Some (suffix.Binary o)
 suffix_of_binary binary.Comma = refl
 suffix_of_binary binary.OrElse = refl
 suffix_of_binary binary.AndAlso = refl
@@ -247,7 +247,7 @@ suffix_of_binary binary.Mul = refl
 suffix_of_binary binary.Div = refl
 suffix_of_binary binary.Rem = refl
 
-pub suffix_of_assign : (o : AssignOp) → suffix_of (Token (assign_mark o)) ≡ Some (suffix.Assign o)
+pub suffix_of_assign : (o : AssignOp) → suffix_of (Token (assign_punctuator o)) ≡ Some (suffix.Assign o)
 suffix_of_assign assign.Plain = refl
 suffix_of_assign assign.Mul = refl
 suffix_of_assign assign.Div = refl
@@ -265,69 +265,69 @@ Ends-suffix u x a ts e h = (refl, subst (EndsAt (last a)) (sym e) (level_below_l
 
 -- ---- which token begins what
 
-abbrev pub suffix_mark_of : Suffix → Fixed
-suffix_mark_of (suffix.Binary o) = binary_mark o
-suffix_mark_of (suffix.Assign o) = assign_mark o
-suffix_mark_of suffix.Choice = fixed.Question
-suffix_mark_of suffix.Index = fixed.LeftBracket
-suffix_mark_of suffix.Call = fixed.LeftParen
-suffix_mark_of suffix.Dot = fixed.Dot
-suffix_mark_of suffix.Arrow = fixed.Arrow
-suffix_mark_of suffix.Increment = fixed.PlusPlus
-suffix_mark_of suffix.Decrement = fixed.MinusMinus
+abbrev pub suffix_punctuator_of : Suffix → Fixed
+suffix_punctuator_of (suffix.Binary o) = binary_punctuator o
+suffix_punctuator_of (suffix.Assign o) = assign_punctuator o
+suffix_punctuator_of suffix.Choice = fixed.Question
+suffix_punctuator_of suffix.Index = fixed.LeftBracket
+suffix_punctuator_of suffix.Call = fixed.LeftParen
+suffix_punctuator_of suffix.Dot = fixed.Dot
+suffix_punctuator_of suffix.Arrow = fixed.Arrow
+suffix_punctuator_of suffix.Increment = fixed.PlusPlus
+suffix_punctuator_of suffix.Decrement = fixed.MinusMinus
 
-mark_is : (f : Fixed) (x : Suffix) → suffix_mark f ≡ Some x → f ≡ suffix_mark_of x
-mark_is fixed.Comma x e = ap suffix_mark_of (some_is _ x e)
-mark_is fixed.OrOr x e = ap suffix_mark_of (some_is _ x e)
-mark_is fixed.AndAnd x e = ap suffix_mark_of (some_is _ x e)
-mark_is fixed.Pipe x e = ap suffix_mark_of (some_is _ x e)
-mark_is fixed.Caret x e = ap suffix_mark_of (some_is _ x e)
-mark_is fixed.Ampersand x e = ap suffix_mark_of (some_is _ x e)
-mark_is fixed.EqualEqual x e = ap suffix_mark_of (some_is _ x e)
-mark_is fixed.NotEqual x e = ap suffix_mark_of (some_is _ x e)
-mark_is fixed.Less x e = ap suffix_mark_of (some_is _ x e)
-mark_is fixed.Greater x e = ap suffix_mark_of (some_is _ x e)
-mark_is fixed.LessEqual x e = ap suffix_mark_of (some_is _ x e)
-mark_is fixed.GreaterEqual x e = ap suffix_mark_of (some_is _ x e)
-mark_is fixed.LeftShift x e = ap suffix_mark_of (some_is _ x e)
-mark_is fixed.RightShift x e = ap suffix_mark_of (some_is _ x e)
-mark_is fixed.Plus x e = ap suffix_mark_of (some_is _ x e)
-mark_is fixed.Minus x e = ap suffix_mark_of (some_is _ x e)
-mark_is fixed.Star x e = ap suffix_mark_of (some_is _ x e)
-mark_is fixed.Slash x e = ap suffix_mark_of (some_is _ x e)
-mark_is fixed.Percent x e = ap suffix_mark_of (some_is _ x e)
-mark_is fixed.Assign x e = ap suffix_mark_of (some_is _ x e)
-mark_is fixed.StarAssign x e = ap suffix_mark_of (some_is _ x e)
-mark_is fixed.SlashAssign x e = ap suffix_mark_of (some_is _ x e)
-mark_is fixed.PercentAssign x e = ap suffix_mark_of (some_is _ x e)
-mark_is fixed.PlusAssign x e = ap suffix_mark_of (some_is _ x e)
-mark_is fixed.MinusAssign x e = ap suffix_mark_of (some_is _ x e)
-mark_is fixed.LeftShiftAssign x e = ap suffix_mark_of (some_is _ x e)
-mark_is fixed.RightShiftAssign x e = ap suffix_mark_of (some_is _ x e)
-mark_is fixed.AmpersandAssign x e = ap suffix_mark_of (some_is _ x e)
-mark_is fixed.CaretAssign x e = ap suffix_mark_of (some_is _ x e)
-mark_is fixed.PipeAssign x e = ap suffix_mark_of (some_is _ x e)
-mark_is fixed.Question x e = ap suffix_mark_of (some_is _ x e)
-mark_is fixed.LeftBracket x e = ap suffix_mark_of (some_is _ x e)
-mark_is fixed.LeftParen x e = ap suffix_mark_of (some_is _ x e)
-mark_is fixed.Dot x e = ap suffix_mark_of (some_is _ x e)
-mark_is fixed.Arrow x e = ap suffix_mark_of (some_is _ x e)
-mark_is fixed.PlusPlus x e = ap suffix_mark_of (some_is _ x e)
-mark_is fixed.MinusMinus x e = ap suffix_mark_of (some_is _ x e)
-mark_is f x e = absurd cc
+punctuator_is : (f : Fixed) (x : Suffix) → suffix_punctuator f ≡ Some x → f ≡ suffix_punctuator_of x
+punctuator_is fixed.Comma x e = ap suffix_punctuator_of (some_is _ x e)
+punctuator_is fixed.OrOr x e = ap suffix_punctuator_of (some_is _ x e)
+punctuator_is fixed.AndAnd x e = ap suffix_punctuator_of (some_is _ x e)
+punctuator_is fixed.Pipe x e = ap suffix_punctuator_of (some_is _ x e)
+punctuator_is fixed.Caret x e = ap suffix_punctuator_of (some_is _ x e)
+punctuator_is fixed.Ampersand x e = ap suffix_punctuator_of (some_is _ x e)
+punctuator_is fixed.EqualEqual x e = ap suffix_punctuator_of (some_is _ x e)
+punctuator_is fixed.NotEqual x e = ap suffix_punctuator_of (some_is _ x e)
+punctuator_is fixed.Less x e = ap suffix_punctuator_of (some_is _ x e)
+punctuator_is fixed.Greater x e = ap suffix_punctuator_of (some_is _ x e)
+punctuator_is fixed.LessEqual x e = ap suffix_punctuator_of (some_is _ x e)
+punctuator_is fixed.GreaterEqual x e = ap suffix_punctuator_of (some_is _ x e)
+punctuator_is fixed.LeftShift x e = ap suffix_punctuator_of (some_is _ x e)
+punctuator_is fixed.RightShift x e = ap suffix_punctuator_of (some_is _ x e)
+punctuator_is fixed.Plus x e = ap suffix_punctuator_of (some_is _ x e)
+punctuator_is fixed.Minus x e = ap suffix_punctuator_of (some_is _ x e)
+punctuator_is fixed.Star x e = ap suffix_punctuator_of (some_is _ x e)
+punctuator_is fixed.Slash x e = ap suffix_punctuator_of (some_is _ x e)
+punctuator_is fixed.Percent x e = ap suffix_punctuator_of (some_is _ x e)
+punctuator_is fixed.Assign x e = ap suffix_punctuator_of (some_is _ x e)
+punctuator_is fixed.StarAssign x e = ap suffix_punctuator_of (some_is _ x e)
+punctuator_is fixed.SlashAssign x e = ap suffix_punctuator_of (some_is _ x e)
+punctuator_is fixed.PercentAssign x e = ap suffix_punctuator_of (some_is _ x e)
+punctuator_is fixed.PlusAssign x e = ap suffix_punctuator_of (some_is _ x e)
+punctuator_is fixed.MinusAssign x e = ap suffix_punctuator_of (some_is _ x e)
+punctuator_is fixed.LeftShiftAssign x e = ap suffix_punctuator_of (some_is _ x e)
+punctuator_is fixed.RightShiftAssign x e = ap suffix_punctuator_of (some_is _ x e)
+punctuator_is fixed.AmpersandAssign x e = ap suffix_punctuator_of (some_is _ x e)
+punctuator_is fixed.CaretAssign x e = ap suffix_punctuator_of (some_is _ x e)
+punctuator_is fixed.PipeAssign x e = ap suffix_punctuator_of (some_is _ x e)
+punctuator_is fixed.Question x e = ap suffix_punctuator_of (some_is _ x e)
+punctuator_is fixed.LeftBracket x e = ap suffix_punctuator_of (some_is _ x e)
+punctuator_is fixed.LeftParen x e = ap suffix_punctuator_of (some_is _ x e)
+punctuator_is fixed.Dot x e = ap suffix_punctuator_of (some_is _ x e)
+punctuator_is fixed.Arrow x e = ap suffix_punctuator_of (some_is _ x e)
+punctuator_is fixed.PlusPlus x e = ap suffix_punctuator_of (some_is _ x e)
+punctuator_is fixed.MinusMinus x e = ap suffix_punctuator_of (some_is _ x e)
+punctuator_is f x e = absurd cc
 
-pub suffix_is : (t : Lexeme) (x : Suffix) → suffix_of t ≡ Some x → t ≡ Token (suffix_mark_of x)
-suffix_is (Token f) x e = ap (λ f. Token f) (mark_is f x e)
+pub suffix_is : (t : Lexeme) (x : Suffix) → suffix_of t ≡ Some x → t ≡ Token (suffix_punctuator_of x)
+suffix_is (Token f) x e = ap (λ f. Token f) (punctuator_is f x e)
 suffix_is (Leaf class at) x e = absurd cc
 
-pub taken_is : (least left : ℕ) (ts : List Lexeme) (x : Suffix × List Lexeme) → taken least left ts ≡ Some x → (ts ≡ Token (suffix_mark_of x.0) ∷ x.1) × (least ≤ suffix_level x.0) × (suffix_left x.0 ≤ left)
+pub taken_is : (least left : ℕ) (ts : List Lexeme) (x : Suffix × List Lexeme) → taken least left ts ≡ Some x → (ts ≡ Token (suffix_punctuator_of x.0) ∷ x.1) × (least ≤ suffix_level x.0) × (suffix_left x.0 ≤ left)
 taken_is least left [] x e = absurd cc
 taken_is least left (t ∷ ts) x e =
     let a = bind_some (suffix_of t) (if_taken least left ts) x e in
     let b = if_some _ _ x a.2 in
     let c = both_true _ _ b.0 in
     let d = some_is (a.0, ts) x b.1 in
-    subst (λ (y : Suffix × List Lexeme). (t ∷ ts ≡ Token (suffix_mark_of y.0) ∷ y.1) × (least ≤ suffix_level y.0) × (suffix_left y.0 ≤ left)) d
+    subst (λ (y : Suffix × List Lexeme). (t ∷ ts ≡ Token (suffix_punctuator_of y.0) ∷ y.1) × (least ≤ suffix_level y.0) × (suffix_left y.0 ≤ left)) d
     (ap (λ u. u ∷ ts) (suffix_is t a.0 a.1), leb-true _ _ c.0, leb-true _ _ c.1)
 
 abbrev pub head_token : Opener → Lexeme
@@ -339,34 +339,34 @@ head_token opener.Paren = Token fixed.LeftParen
 head_token opener.SizeOf = Token fixed.Sizeof
 head_token opener.Increment = Token fixed.PlusPlus
 head_token opener.Decrement = Token fixed.MinusMinus
-head_token (opener.Unary o) = Token (unary_mark o)
+head_token (opener.Unary o) = Token (unary_punctuator o)
 
-mark_head_is : (f : Fixed) (h : Opener) → opener_mark f ≡ Some h → Token f ≡ head_token h
-mark_head_is fixed.LeftParen h e = ap head_token (some_is _ h e)
-mark_head_is fixed.Sizeof h e = ap head_token (some_is _ h e)
-mark_head_is fixed.PlusPlus h e = ap head_token (some_is _ h e)
-mark_head_is fixed.MinusMinus h e = ap head_token (some_is _ h e)
-mark_head_is fixed.Ampersand h e = ap head_token (some_is _ h e)
-mark_head_is fixed.Star h e = ap head_token (some_is _ h e)
-mark_head_is fixed.Plus h e = ap head_token (some_is _ h e)
-mark_head_is fixed.Minus h e = ap head_token (some_is _ h e)
-mark_head_is fixed.Tilde h e = ap head_token (some_is _ h e)
-mark_head_is fixed.Exclamation h e = ap head_token (some_is _ h e)
-mark_head_is f h e = absurd cc
+punctuator_head_is : (f : Fixed) (h : Opener) → opener_punctuator f ≡ Some h → Token f ≡ head_token h
+punctuator_head_is fixed.LeftParen h e = ap head_token (some_is _ h e)
+punctuator_head_is fixed.Sizeof h e = ap head_token (some_is _ h e)
+punctuator_head_is fixed.PlusPlus h e = ap head_token (some_is _ h e)
+punctuator_head_is fixed.MinusMinus h e = ap head_token (some_is _ h e)
+punctuator_head_is fixed.Ampersand h e = ap head_token (some_is _ h e)
+punctuator_head_is fixed.Star h e = ap head_token (some_is _ h e)
+punctuator_head_is fixed.Plus h e = ap head_token (some_is _ h e)
+punctuator_head_is fixed.Minus h e = ap head_token (some_is _ h e)
+punctuator_head_is fixed.Tilde h e = ap head_token (some_is _ h e)
+punctuator_head_is fixed.Exclamation h e = ap head_token (some_is _ h e)
+punctuator_head_is f h e = absurd cc
 
 leaf_head_is : (class : Class) (at : Span) (h : Opener) → opener_leaf class at ≡ Some h → Leaf class at ≡ head_token h
 leaf_head_is Word at h e = ap head_token (some_is _ h e)
 leaf_head_is Number at h e = ap head_token (some_is _ h e)
 leaf_head_is Character at h e = ap head_token (some_is _ h e)
 leaf_head_is Text at h e = ap head_token (some_is _ h e)
-leaf_head_is Mark at h e = absurd cc
+leaf_head_is Punctuator at h e = absurd cc
 leaf_head_is Stray at h e = absurd cc
 
 pub head_is : (t : Lexeme) (h : Opener) → opener_of t ≡ Some h → t ≡ head_token h
-head_is (Token f) h e = mark_head_is f h e
+head_is (Token f) h e = punctuator_head_is f h e
 head_is (Leaf class at) h e = leaf_head_is class at h e
 
-pub head_of_unary : (o : UnaryOp) → opener_of (Token (unary_mark o)) ≡ Some (opener.Unary o)
+pub head_of_unary : (o : UnaryOp) → opener_of (Token (unary_punctuator o)) ≡ Some (opener.Unary o)
 head_of_unary unary.Address = refl
 head_of_unary unary.Deref = refl
 head_of_unary unary.Plus = refl

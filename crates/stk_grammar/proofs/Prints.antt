@@ -10,7 +10,7 @@ use Rattle.stk_tree.specs.declared.expression.StepOp.TheVariants.{IncBefore, Dec
 use Rattle.stk_tree.specs.Syntax.{BaseTree, BaseFormTree, TypeNameTree, DimensionTree, DimensionTrees, ExprTree, ExprTrees, ExprFormTree}
 use Rattle.stk_tree.specs.Syntax as s
 use Rattle.stk_tree.specs.Nesting.{expression_nesting}
-use Rattle.stk_tree.specs.Tokens.{assign_mark, base_form_tokens, binary_mark, dimension_tokens, dimensions_tokens, expression_form_tokens, expression_tokens, expressions_tokens, more_expressions, reserved, stars, texts, type_name_tokens, unary_mark}
+use Rattle.stk_tree.specs.Tokens.{assign_punctuator, base_form_tokens, binary_punctuator, dimension_tokens, dimensions_tokens, expression_form_tokens, expression_tokens, expressions_tokens, more_expressions, reserved, stars, texts, type_name_tokens, unary_punctuator}
 
 abbrev pub prints_texts : List Span → List Lexeme → List Lexeme
 prints_texts [] r = r
@@ -71,13 +71,13 @@ abbrev mutual
   prints_form (s.step DecBefore e) r = Token fixed.MinusMinus ∷ prints e r
   prints_form (s.step IncAfter e) r = prints e (Token fixed.PlusPlus ∷ r)
   prints_form (s.step DecAfter e) r = prints e (Token fixed.MinusMinus ∷ r)
-  prints_form (s.unary op e) r = Token (unary_mark op) ∷ prints e r
+  prints_form (s.unary op e) r = Token (unary_punctuator op) ∷ prints e r
   prints_form (s.size_expression e) r = Token fixed.Sizeof ∷ prints e r
   prints_form (s.size_name y) r = Token fixed.Sizeof ∷ Token fixed.LeftParen ∷ prints_type y (Token fixed.RightParen ∷ r)
   prints_form (s.cast y e) r = Token fixed.LeftParen ∷ prints_type y (Token fixed.RightParen ∷ prints e r)
-  prints_form (s.binary op a b) r = prints a (Token (binary_mark op) ∷ prints b r)
+  prints_form (s.binary op a b) r = prints a (Token (binary_punctuator op) ∷ prints b r)
   prints_form (s.choice a b c) r = prints a (Token fixed.Question ∷ prints b (Token fixed.Colon ∷ prints c r))
-  prints_form (s.assign op a b) r = prints a (Token (assign_mark op) ∷ prints b r)
+  prints_form (s.assign op a b) r = prints a (Token (assign_punctuator op) ∷ prints b r)
 
 texts-append : (ps : List Span) (r : List Lexeme) → texts ps ++ r ≡ prints_texts ps r
 texts-append [] r = refl
@@ -99,7 +99,7 @@ base-append (s.enum_ref tag) r = refl
 base-append (s.enum_def tag es comma) r = refl
 base-append (s.named at) r = refl
 
--- an operand, a mark and what stands behind it
+-- an operand, a punctuator and what stands behind it
 pub infix_append : (a : List Lexeme) (u : Lexeme) (b r w : List Lexeme) → b ++ r ≡ w → (a ++ u ∷ b) ++ r ≡ a ++ u ∷ w
 infix_append a u b r w e = append_assoc a (u ∷ b) r ∙ ap (λ x. a ++ u ∷ x) e
 
@@ -151,17 +151,17 @@ mutual
   form-append (s.step DecBefore e) r = ap (λ x. Token fixed.MinusMinus ∷ x) (tokens-append e r)
   form-append (s.step IncAfter e) r = append_assoc (expression_tokens e) (Token fixed.PlusPlus ∷ []) r ∙ tokens-append e (Token fixed.PlusPlus ∷ r)
   form-append (s.step DecAfter e) r = append_assoc (expression_tokens e) (Token fixed.MinusMinus ∷ []) r ∙ tokens-append e (Token fixed.MinusMinus ∷ r)
-  form-append (s.unary op e) r = ap (λ x. Token (unary_mark op) ∷ x) (tokens-append e r)
+  form-append (s.unary op e) r = ap (λ x. Token (unary_punctuator op) ∷ x) (tokens-append e r)
   form-append (s.size_expression e) r = ap (λ x. Token fixed.Sizeof ∷ x) (tokens-append e r)
   form-append (s.size_name y) r = ap (λ x. Token fixed.Sizeof ∷ Token fixed.LeftParen ∷ x) (append_assoc (type_name_tokens y) (Token fixed.RightParen ∷ []) r ∙ type-append y (Token fixed.RightParen ∷ r))
   form-append (s.cast y e) r = ap (λ x. Token fixed.LeftParen ∷ x) (infix_append (type_name_tokens y) (Token fixed.RightParen) (expression_tokens e) r _ (tokens-append e r) ∙ type-append y (Token fixed.RightParen ∷ prints e r))
-  form-append (s.binary op a b) r = infix_append (expression_tokens a) (Token (binary_mark op)) (expression_tokens b) r _ (tokens-append b r) ∙ tokens-append a (Token (binary_mark op) ∷ prints b r)
+  form-append (s.binary op a b) r = infix_append (expression_tokens a) (Token (binary_punctuator op)) (expression_tokens b) r _ (tokens-append b r) ∙ tokens-append a (Token (binary_punctuator op) ∷ prints b r)
   form-append (s.choice a b c) r =
       append_assoc (expression_tokens a ++ Token fixed.Question ∷ expression_tokens b) (Token fixed.Colon ∷ expression_tokens c) r
       ∙ ap (λ x. (expression_tokens a ++ Token fixed.Question ∷ expression_tokens b) ++ Token fixed.Colon ∷ x) (tokens-append c r)
       ∙ infix_append (expression_tokens a) (Token fixed.Question) (expression_tokens b) (Token fixed.Colon ∷ prints c r) _ (tokens-append b (Token fixed.Colon ∷ prints c r))
       ∙ tokens-append a (Token fixed.Question ∷ prints b (Token fixed.Colon ∷ prints c r))
-  form-append (s.assign op a b) r = infix_append (expression_tokens a) (Token (assign_mark op)) (expression_tokens b) r _ (tokens-append b r) ∙ tokens-append a (Token (assign_mark op) ∷ prints b r)
+  form-append (s.assign op a b) r = infix_append (expression_tokens a) (Token (assign_punctuator op)) (expression_tokens b) r _ (tokens-append b r) ∙ tokens-append a (Token (assign_punctuator op) ∷ prints b r)
 
 pub nesting_above : (t : ExprTree) → 0 < expression_nesting t
 nesting_above (s.expression n f) = omega arith
@@ -227,6 +227,6 @@ mutual
   form_longer (s.size_expression e) r = omega (arith, prints_longer e r)
   form_longer (s.size_name y) r = omega (arith, type_longer y (Token fixed.RightParen ∷ r))
   form_longer (s.cast y e) r = omega (arith, prints_longer e r, type_longer y (Token fixed.RightParen ∷ prints e r))
-  form_longer (s.binary op a b) r = omega (arith, prints_longer b r, prints_longer a (Token (binary_mark op) ∷ prints b r))
+  form_longer (s.binary op a b) r = omega (arith, prints_longer b r, prints_longer a (Token (binary_punctuator op) ∷ prints b r))
   form_longer (s.choice a b c) r = omega (arith, prints_longer c r, prints_longer b (Token fixed.Colon ∷ prints c r), prints_longer a (Token fixed.Question ∷ prints b (Token fixed.Colon ∷ prints c r)))
-  form_longer (s.assign op a b) r = omega (arith, prints_longer b r, prints_longer a (Token (assign_mark op) ∷ prints b r))
+  form_longer (s.assign op a b) r = omega (arith, prints_longer b r, prints_longer a (Token (assign_punctuator op) ∷ prints b r))

@@ -14,7 +14,7 @@ use Rattle.stk_tree.specs.Syntax.{BaseTree, BaseFormTree, TypeNameTree, Dimensio
 use Rattle.stk_tree.specs.Syntax as s
 use Rattle.stk_tree.specs.Nesting.{expression_nesting, expressions_nesting, type_name_nesting}
 use Rattle.stk_tree.specs.Placed.{all_basic, binary_level, is_basic}
-use Rattle.stk_tree.specs.Tokens.{assign_mark, binary_mark, unary_mark}
+use Rattle.stk_tree.specs.Tokens.{assign_punctuator, binary_punctuator, unary_punctuator}
 use Rattle.stk_grammar.specs.declared.tables.Opener.{Opener}
 use Rattle.stk_grammar.specs.declared.tables.Opener.TheVariants as opener
 use Rattle.stk_grammar.specs.declared.tables.Suffix.{Suffix}
@@ -22,7 +22,7 @@ use Rattle.stk_grammar.specs.declared.tables.Suffix.TheVariants as suffix
 use Rattle.stk_grammar.specs.Reading.{Found, Sub, made, level, suffix_level, suffix_left, opener_of, behind_right_paren, behind_left_paren, behind_right_bracket, behind_left_bracket, behind_colon, behind_comma, word_at, texts_at, begins_type, words_on, words_at, tag_base, words_base, base_at, stars_at, dimension_at, dimensions_on, dimensions_at, type_at, paren_at, before_at, opens_type, size_at, operand_at, first_opener, arguments_on, more_arguments, arguments_from, arguments, tail_at, taken, climb_on, climb, expression_at}
 use Rattle.stk_grammar.proofs.Prints.{prints, prints_all, prints_base, prints_dimension, prints_dimensions, prints_more, prints_stars, prints_texts, prints_type, prints_words}
 use Rattle.stk_grammar.proofs.Well.{IsWell, AreWell, IsWellBase, IsWellDimension, AreWellDimensions, IsWellType}
-use Rattle.stk_grammar.proofs.Operators.{bind_some, if_some, unless_some, some_is, true_both, binary_level_low, head_is, head_token, suffix_mark_of, taken_is}
+use Rattle.stk_grammar.proofs.Operators.{bind_some, if_some, unless_some, some_is, true_both, binary_level_low, head_is, head_token, suffix_punctuator_of, taken_is}
 
 -- ---- answers
 
@@ -36,7 +36,7 @@ pub record Answers (named : Span → Bool) (room least : ℕ) (ts : List Lexeme)
 abbrev pub IsSound : (Span → Bool) → ℕ → Sub → Type 0
 IsSound named room sub = (least : ℕ) → least ≤ 17 → (ts : List Lexeme) (x : ExprTree × List Lexeme) → sub least ts ≡ Some x → Answers named room least ts x
 
--- ---- marks and words
+-- ---- punctuators and words
 
 pub right_paren_is : (ts rest : List Lexeme) → behind_right_paren ts ≡ Some rest → ts ≡ Token fixed.RightParen ∷ rest
 right_paren_is [] rest e = absurd cc
@@ -231,7 +231,7 @@ module _ (named : Span → Bool) (inner : ℕ) (sub : Sub) (sound : IsSound name
         low = omega (arith, p.low, is.low c.0.0);
       })
 
-  unary_before : (o : UnaryOp) → IsBefore 14 (s.unary o) (Token (unary_mark o))
+  unary_before : (o : UnaryOp) → IsBefore 14 (s.unary o) (Token (unary_punctuator o))
   unary_before o = record { text = λ e r. refl; well = λ e h w. (h, w); at = λ e. refl; low = λ e. refl }
 
   increment_before : IsBefore 15 (s.step IncBefore) (Token fixed.PlusPlus)
@@ -275,7 +275,7 @@ module _ (named : Span → Bool) (inner : ℕ) (sub : Sub) (sound : IsSound name
       subst (Answers named (suc inner) least (Leaf Text at ∷ ts)) (some_is (made (s.text (at ∷ (texts_at ts).0)), (texts_at ts).1) x e)
       (record { text = ap (λ r. Leaf Text at ∷ r) (texts_is ts); well = refl; at = wide; low = omega arith })
   head_sound least opener.Paren ts x wide e = paren_sound least (begins_type named ts) ts x wide e
-  head_sound least (opener.Unary o) ts x wide e = before_sound least 14 (s.unary o) (Token (unary_mark o)) ts x (omega arith) (unary_before o) e
+  head_sound least (opener.Unary o) ts x wide e = before_sound least 14 (s.unary o) (Token (unary_punctuator o)) ts x (omega arith) (unary_before o) e
   head_sound least opener.Increment ts x wide e = before_sound least 15 (s.step IncBefore) (Token fixed.PlusPlus) ts x (omega arith) increment_before e
   head_sound least opener.Decrement ts x wide e = before_sound least 15 (s.step DecBefore) (Token fixed.MinusMinus) ts x (omega arith) decrement_before e
   head_sound least opener.SizeOf ts x wide e = size_sound least (opens_type named (behind_left_paren ts)) ts x e
@@ -342,14 +342,14 @@ module _ (named : Span → Bool) (inner : ℕ) (sub : Sub) (sound : IsSound name
   arguments_sound ts x e = arguments_from_sound (behind_right_paren ts) ts x refl e
 
   tail_sound : (y : Suffix) (a : ExprTree) (ts : List Lexeme) (x : ExprTree × List Lexeme) → IsWell named a → suffix_left y ≤ level a → expression_nesting a ≤ inner → tail_at sub y a ts ≡ Some x
-      → Answers named (suc inner) (suffix_level y) (prints a (Token (suffix_mark_of y) ∷ ts)) x
+      → Answers named (suc inner) (suffix_level y) (prints a (Token (suffix_punctuator_of y) ∷ ts)) x
   unfolding tail_at
   tail_sound (suffix.Binary o) a ts x well left low e =
       let b = bind_some (sub (binary_level o + 1) ts) _ x e in
       let p = sound (binary_level o + 1) (omega (arith, binary_level_low o)) ts b.0 b.1 in
-      subst (Answers named (suc inner) (binary_level o) (prints a (Token (binary_mark o) ∷ ts))) (some_is (made (s.binary o a b.0.0), b.0.1) x b.2)
+      subst (Answers named (suc inner) (binary_level o) (prints a (Token (binary_punctuator o) ∷ ts))) (some_is (made (s.binary o a b.0.0), b.0.1) x b.2)
       (record {
-        text = ap (λ r. prints a (Token (binary_mark o) ∷ r)) p.text;
+        text = ap (λ r. prints a (Token (binary_punctuator o) ∷ r)) p.text;
         well = (left, well, p.at, p.well);
         at = omega arith;
         low = omega (arith, p.low);
@@ -357,9 +357,9 @@ module _ (named : Span → Bool) (inner : ℕ) (sub : Sub) (sound : IsSound name
   tail_sound (suffix.Assign o) a ts x well left low e =
       let b = bind_some (sub 2 ts) _ x e in
       let p = sound 2 (omega arith) ts b.0 b.1 in
-      subst (Answers named (suc inner) 2 (prints a (Token (assign_mark o) ∷ ts))) (some_is (made (s.assign o a b.0.0), b.0.1) x b.2)
+      subst (Answers named (suc inner) 2 (prints a (Token (assign_punctuator o) ∷ ts))) (some_is (made (s.assign o a b.0.0), b.0.1) x b.2)
       (record {
-        text = ap (λ r. prints a (Token (assign_mark o) ∷ r)) p.text;
+        text = ap (λ r. prints a (Token (assign_punctuator o) ∷ r)) p.text;
         well = (left, well, p.at, p.well);
         at = omega arith;
         low = omega (arith, p.low);

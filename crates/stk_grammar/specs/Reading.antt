@@ -1,8 +1,9 @@
--- Reading from left to right: what the readers compute, over lexemes. Only contracts of tables and of private functions speak of it.
+-- Reading from left to right: what the readers compute, over lexemes. Only contracts of tables and of private functions
+-- speak of it.
 use Rattle.std.specs.Prelude.{ℕ, zero, suc, ◌+◌, Bool, true, false, cond, ◌&&◌, nat_le, List, [], ◌∷◌, length, Option, Some, None}
 use Rattle.stk_base.specs.declared.span.Span.{Span}
 use Rattle.stk_base.specs.declared.token.Class.{Class}
-use Rattle.stk_base.specs.declared.token.Class.TheVariants.{Word, Number, Character, Text, Mark, Stray}
+use Rattle.stk_base.specs.declared.token.Class.TheVariants.{Word, Number, Character, Text, Punctuator, Stray}
 use Rattle.stk_tree.specs.Levels.{comma_level, assignment_level, conditional_level, logical_or_level, cast_level, unary_level, postfix_level}
 use Rattle.stk_tree.specs.declared.fixed.Fixed.{Fixed}
 use Rattle.stk_tree.specs.declared.fixed.Fixed.TheVariants as fixed
@@ -44,49 +45,49 @@ level (s.expression n f) = form_level f
 
 -- ---- tokens
 
--- what may stand behind an operand, by the mark that it begins with
-abbrev pub suffix_mark : Fixed → Option Suffix
-suffix_mark fixed.Comma = Some (suffix.Binary binary.Comma)
-suffix_mark fixed.OrOr = Some (suffix.Binary binary.OrElse)
-suffix_mark fixed.AndAnd = Some (suffix.Binary binary.AndAlso)
-suffix_mark fixed.Pipe = Some (suffix.Binary binary.Or)
-suffix_mark fixed.Caret = Some (suffix.Binary binary.Xor)
-suffix_mark fixed.Ampersand = Some (suffix.Binary binary.And)
-suffix_mark fixed.EqualEqual = Some (suffix.Binary binary.Eq)
-suffix_mark fixed.NotEqual = Some (suffix.Binary binary.Ne)
-suffix_mark fixed.Less = Some (suffix.Binary binary.Lt)
-suffix_mark fixed.Greater = Some (suffix.Binary binary.Gt)
-suffix_mark fixed.LessEqual = Some (suffix.Binary binary.Le)
-suffix_mark fixed.GreaterEqual = Some (suffix.Binary binary.Ge)
-suffix_mark fixed.LeftShift = Some (suffix.Binary binary.Left)
-suffix_mark fixed.RightShift = Some (suffix.Binary binary.Right)
-suffix_mark fixed.Plus = Some (suffix.Binary binary.Add)
-suffix_mark fixed.Minus = Some (suffix.Binary binary.Sub)
-suffix_mark fixed.Star = Some (suffix.Binary binary.Mul)
-suffix_mark fixed.Slash = Some (suffix.Binary binary.Div)
-suffix_mark fixed.Percent = Some (suffix.Binary binary.Rem)
-suffix_mark fixed.Assign = Some (suffix.Assign assign.Plain)
-suffix_mark fixed.StarAssign = Some (suffix.Assign assign.Mul)
-suffix_mark fixed.SlashAssign = Some (suffix.Assign assign.Div)
-suffix_mark fixed.PercentAssign = Some (suffix.Assign assign.Rem)
-suffix_mark fixed.PlusAssign = Some (suffix.Assign assign.Add)
-suffix_mark fixed.MinusAssign = Some (suffix.Assign assign.Sub)
-suffix_mark fixed.LeftShiftAssign = Some (suffix.Assign assign.Left)
-suffix_mark fixed.RightShiftAssign = Some (suffix.Assign assign.Right)
-suffix_mark fixed.AmpersandAssign = Some (suffix.Assign assign.And)
-suffix_mark fixed.CaretAssign = Some (suffix.Assign assign.Xor)
-suffix_mark fixed.PipeAssign = Some (suffix.Assign assign.Or)
-suffix_mark fixed.Question = Some suffix.Choice
-suffix_mark fixed.LeftBracket = Some suffix.Index
-suffix_mark fixed.LeftParen = Some suffix.Call
-suffix_mark fixed.Dot = Some suffix.Dot
-suffix_mark fixed.Arrow = Some suffix.Arrow
-suffix_mark fixed.PlusPlus = Some suffix.Increment
-suffix_mark fixed.MinusMinus = Some suffix.Decrement
-suffix_mark other = None
+-- what may stand behind an operand, by the punctuator that it begins with
+abbrev pub suffix_punctuator : Fixed → Option Suffix
+suffix_punctuator fixed.Comma = Some (suffix.Binary binary.Comma)
+suffix_punctuator fixed.OrOr = Some (suffix.Binary binary.OrElse)
+suffix_punctuator fixed.AndAnd = Some (suffix.Binary binary.AndAlso)
+suffix_punctuator fixed.Pipe = Some (suffix.Binary binary.Or)
+suffix_punctuator fixed.Caret = Some (suffix.Binary binary.Xor)
+suffix_punctuator fixed.Ampersand = Some (suffix.Binary binary.And)
+suffix_punctuator fixed.EqualEqual = Some (suffix.Binary binary.Eq)
+suffix_punctuator fixed.NotEqual = Some (suffix.Binary binary.Ne)
+suffix_punctuator fixed.Less = Some (suffix.Binary binary.Lt)
+suffix_punctuator fixed.Greater = Some (suffix.Binary binary.Gt)
+suffix_punctuator fixed.LessEqual = Some (suffix.Binary binary.Le)
+suffix_punctuator fixed.GreaterEqual = Some (suffix.Binary binary.Ge)
+suffix_punctuator fixed.LeftShift = Some (suffix.Binary binary.Left)
+suffix_punctuator fixed.RightShift = Some (suffix.Binary binary.Right)
+suffix_punctuator fixed.Plus = Some (suffix.Binary binary.Add)
+suffix_punctuator fixed.Minus = Some (suffix.Binary binary.Sub)
+suffix_punctuator fixed.Star = Some (suffix.Binary binary.Mul)
+suffix_punctuator fixed.Slash = Some (suffix.Binary binary.Div)
+suffix_punctuator fixed.Percent = Some (suffix.Binary binary.Rem)
+suffix_punctuator fixed.Assign = Some (suffix.Assign assign.Plain)
+suffix_punctuator fixed.StarAssign = Some (suffix.Assign assign.Mul)
+suffix_punctuator fixed.SlashAssign = Some (suffix.Assign assign.Div)
+suffix_punctuator fixed.PercentAssign = Some (suffix.Assign assign.Rem)
+suffix_punctuator fixed.PlusAssign = Some (suffix.Assign assign.Add)
+suffix_punctuator fixed.MinusAssign = Some (suffix.Assign assign.Sub)
+suffix_punctuator fixed.LeftShiftAssign = Some (suffix.Assign assign.Left)
+suffix_punctuator fixed.RightShiftAssign = Some (suffix.Assign assign.Right)
+suffix_punctuator fixed.AmpersandAssign = Some (suffix.Assign assign.And)
+suffix_punctuator fixed.CaretAssign = Some (suffix.Assign assign.Xor)
+suffix_punctuator fixed.PipeAssign = Some (suffix.Assign assign.Or)
+suffix_punctuator fixed.Question = Some suffix.Choice
+suffix_punctuator fixed.LeftBracket = Some suffix.Index
+suffix_punctuator fixed.LeftParen = Some suffix.Call
+suffix_punctuator fixed.Dot = Some suffix.Dot
+suffix_punctuator fixed.Arrow = Some suffix.Arrow
+suffix_punctuator fixed.PlusPlus = Some suffix.Increment
+suffix_punctuator fixed.MinusMinus = Some suffix.Decrement
+suffix_punctuator other = None
 
 abbrev pub suffix_of : Lexeme → Option Suffix
-suffix_of (Token f) = suffix_mark f
+suffix_of (Token f) = suffix_punctuator f
 suffix_of (Leaf class at) = None
 
 -- the level of the expression that a suffix makes, and the least levels of its first and last operands
@@ -113,32 +114,32 @@ suffix_left suffix.Increment = postfix_level
 suffix_left suffix.Decrement = postfix_level
 
 -- what an operand begins with
-abbrev pub opener_mark : Fixed → Option Opener
-opener_mark fixed.LeftParen = Some opener.Paren
-opener_mark fixed.Sizeof = Some opener.SizeOf
-opener_mark fixed.PlusPlus = Some opener.Increment
-opener_mark fixed.MinusMinus = Some opener.Decrement
-opener_mark fixed.Ampersand = Some (opener.Unary unary.Address)
-opener_mark fixed.Star = Some (opener.Unary unary.Deref)
-opener_mark fixed.Plus = Some (opener.Unary unary.Plus)
-opener_mark fixed.Minus = Some (opener.Unary unary.Minus)
-opener_mark fixed.Tilde = Some (opener.Unary unary.Flip)
-opener_mark fixed.Exclamation = Some (opener.Unary unary.Not)
-opener_mark other = None
+abbrev pub opener_punctuator : Fixed → Option Opener
+opener_punctuator fixed.LeftParen = Some opener.Paren
+opener_punctuator fixed.Sizeof = Some opener.SizeOf
+opener_punctuator fixed.PlusPlus = Some opener.Increment
+opener_punctuator fixed.MinusMinus = Some opener.Decrement
+opener_punctuator fixed.Ampersand = Some (opener.Unary unary.Address)
+opener_punctuator fixed.Star = Some (opener.Unary unary.Deref)
+opener_punctuator fixed.Plus = Some (opener.Unary unary.Plus)
+opener_punctuator fixed.Minus = Some (opener.Unary unary.Minus)
+opener_punctuator fixed.Tilde = Some (opener.Unary unary.Flip)
+opener_punctuator fixed.Exclamation = Some (opener.Unary unary.Not)
+opener_punctuator other = None
 
 abbrev pub opener_leaf : Class → Span → Option Opener
 opener_leaf Word at = Some (opener.Name at)
 opener_leaf Number at = Some (opener.Number at)
 opener_leaf Character at = Some (opener.Character at)
 opener_leaf Text at = Some (opener.Text at)
-opener_leaf Mark at = None
+opener_leaf Punctuator at = None
 opener_leaf Stray at = None
 
 abbrev pub opener_of : Lexeme → Option Opener
-opener_of (Token f) = opener_mark f
+opener_of (Token f) = opener_punctuator f
 opener_of (Leaf class at) = opener_leaf class at
 
--- ---- marks and words
+-- ---- punctuators and words
 
 abbrev pub behind_right_paren : List Lexeme → Option (List Lexeme)
 behind_right_paren (Token fixed.RightParen ∷ ts) = Some ts

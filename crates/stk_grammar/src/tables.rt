@@ -1,7 +1,7 @@
 //! Which token begins what: the tables that the readers of expressions go by.
 
 ghost use Rattle.std.specs.Prelude.{◌≡◌};
-ghost use Rattle.stk_grammar.specs.Reading.{opener_leaf, opener_mark, opener_of, suffix_left, suffix_level, suffix_mark, suffix_of};
+ghost use Rattle.stk_grammar.specs.Reading.{opener_leaf, opener_punctuator, opener_of, suffix_left, suffix_level, suffix_punctuator, suffix_of};
 
 use stk_base::{Class, Span};
 use stk_tree::{AssignOp, BinaryOp, Fixed, Lexeme, UnaryOp, binary_level, levels};
@@ -34,11 +34,11 @@ pub enum Suffix {
     Decrement,
 }
 
-/// What may stand behind an operand and begins with this mark; `None` where nothing does.
-pub fn suffix_mark(mark: Fixed) -> Option<Suffix>
-    ensures { result ≡ suffix_mark mark }
+/// What may stand behind an operand and begins with this punctuator; `None` where nothing does.
+pub(crate) fn suffix_punctuator(punctuator: Fixed) -> Option<Suffix>
+    ensures { result ≡ suffix_punctuator punctuator }
 {
-    match mark {
+    match punctuator {
         Fixed::Comma => Some(Suffix::Binary(BinaryOp::Comma)),
         Fixed::OrOr => Some(Suffix::Binary(BinaryOp::OrElse)),
         Fixed::AndAnd => Some(Suffix::Binary(BinaryOp::AndAlso)),
@@ -85,7 +85,7 @@ pub fn suffix_of(lexeme: Lexeme) -> Option<Suffix>
     ensures { result ≡ suffix_of lexeme }
 {
     match lexeme {
-        Lexeme::Fixed(mark) => suffix_mark(mark),
+        Lexeme::Fixed(punctuator) => suffix_punctuator(punctuator),
         Lexeme::Leaf(_, _) => None,
     }
 }
@@ -124,11 +124,11 @@ pub fn suffix_left(suffix: Suffix) -> usize
     }
 }
 
-/// What an operand that begins with this mark begins with; `None` where none does.
-pub fn opener_mark(mark: Fixed) -> Option<Opener>
-    ensures { result ≡ opener_mark mark }
+/// What an operand that begins with this punctuator begins with; `None` where none does.
+pub(crate) fn opener_punctuator(punctuator: Fixed) -> Option<Opener>
+    ensures { result ≡ opener_punctuator punctuator }
 {
-    match mark {
+    match punctuator {
         Fixed::LeftParen => Some(Opener::Paren),
         Fixed::Sizeof => Some(Opener::SizeOf),
         Fixed::PlusPlus => Some(Opener::Increment),
@@ -144,7 +144,7 @@ pub fn opener_mark(mark: Fixed) -> Option<Opener>
 }
 
 /// What an operand that begins with a leaf of this class begins with; `None` where none does.
-pub fn opener_leaf(class: Class, at: Span) -> Option<Opener>
+pub(crate) fn opener_leaf(class: Class, at: Span) -> Option<Opener>
     ensures { result ≡ opener_leaf class at }
 {
     match class {
@@ -152,7 +152,7 @@ pub fn opener_leaf(class: Class, at: Span) -> Option<Opener>
         Class::Number => Some(Opener::Number(at)),
         Class::Character => Some(Opener::Character(at)),
         Class::Text => Some(Opener::Text(at)),
-        Class::Mark | Class::Stray => None,
+        Class::Punctuator | Class::Stray => None,
     }
 }
 
@@ -161,7 +161,7 @@ pub fn opener_of(lexeme: Lexeme) -> Option<Opener>
     ensures { result ≡ opener_of lexeme }
 {
     match lexeme {
-        Lexeme::Fixed(mark) => opener_mark(mark),
+        Lexeme::Fixed(punctuator) => opener_punctuator(punctuator),
         Lexeme::Leaf(class, at) => opener_leaf(class, at),
     }
 }

@@ -6,7 +6,7 @@ use Rattle.std.specs.Char.{is_ascii_digit}
 use Rattle.std.proofs.lemmas.Bool.{false≢true, eqb-true}
 use Rattle.std.proofs.lemmas.Bool.Decides.{nat_tests}
 use Rattle.stk_lex.specs.Cut.{begins_comment}
-use Rattle.stk_lex.specs.Classes.{begins_word, is_word_byte, is_word, goes_on, is_digits, is_dotted, is_number, closes, is_quoted, is_marked, is_prefix, is_character, is_utf8, is_text, marks_of_one, marks_of_two, marks_of_three, is_mark_of_one, is_mark_of_two, is_mark_of_three, is_mark, digraphs_of_two, is_digraph_of_two, is_digraph_of_four, is_digraph}
+use Rattle.stk_lex.specs.Classes.{begins_word, is_word_byte, is_word, goes_on, is_digits, is_dotted, is_number, closes, is_quoted, is_marked, is_prefix, is_character, is_utf8, is_text, punctuators_of_one, punctuators_of_two, punctuators_of_three, is_punctuator_of_one, is_punctuator_of_two, is_punctuator_of_three, is_punctuator, digraphs_of_two, is_digraph_of_two, is_digraph_of_four, is_digraph}
 
 no : {A : Type 0} (p : Bool) → p ≡ true → p ≡ false → A
 no p e f = absurd (false≢true (sym f ∙ e))
@@ -137,7 +137,7 @@ pub character_no_text : (x : List ℕ) → is_character x ≡ true → is_text x
 unfolding is_character
 character_no_text x h = elim (or_parts (is_quoted 39 x) (is_marked is_prefix 39 x) h) [ inl k ↦ quoted_no_text x k | inr k ↦ marked_no_text x k ]
 
--- ---- marks and digraphs
+-- ---- punctuators and digraphs
 
 -- what begins no word, number, character or text, but for a `.` before a digit
 abbrev other : ℕ → Bool
@@ -215,48 +215,48 @@ bare_two : (a b : ℕ) (bs : List ℕ) → no_number a b ≡ true → IsBare (a 
 bare_two a b bs h = let p = and_parts (other a) (not (a == 46 && is_ascii_digit b)) h in
     bare a (b ∷ bs) p.0 (and_more (a == 46) (is_ascii_digit b) (goes_on b bs) (not_false (a == 46 && is_ascii_digit b) p.1))
 
-one_bare : (x : List ℕ) → is_mark_of_one x ≡ true → IsBare x
+one_bare : (x : List ℕ) → is_punctuator_of_one x ≡ true → IsBare x
 one_bare [] h = absurd (false≢true h)
-one_bare (a ∷ []) h = bare a [] (any_one other marks_of_one a refl h) (and_right (a == 46) false refl)
+one_bare (a ∷ []) h = bare a [] (any_one other punctuators_of_one a refl h) (and_right (a == 46) false refl)
 one_bare (a ∷ b ∷ x) h = absurd (false≢true h)
 
-two_bare : (x : List ℕ) → is_mark_of_two x ≡ true → IsBare x
+two_bare : (x : List ℕ) → is_punctuator_of_two x ≡ true → IsBare x
 two_bare [] h = absurd (false≢true h)
 two_bare (a ∷ []) h = absurd (false≢true h)
-two_bare (a ∷ b ∷ []) h = bare_two a b [] (any_two no_number marks_of_two a b refl h)
+two_bare (a ∷ b ∷ []) h = bare_two a b [] (any_two no_number punctuators_of_two a b refl h)
 two_bare (a ∷ b ∷ c ∷ x) h = absurd (false≢true h)
 
-three_bare : (x : List ℕ) → is_mark_of_three x ≡ true → IsBare x
+three_bare : (x : List ℕ) → is_punctuator_of_three x ≡ true → IsBare x
 three_bare [] h = absurd (false≢true h)
 three_bare (a ∷ []) h = absurd (false≢true h)
 three_bare (a ∷ b ∷ []) h = absurd (false≢true h)
-three_bare (a ∷ b ∷ c ∷ []) h = bare_two a b (c ∷ []) (any_three no_number marks_of_three a b c refl h)
+three_bare (a ∷ b ∷ c ∷ []) h = bare_two a b (c ∷ []) (any_three no_number punctuators_of_three a b c refl h)
 three_bare (a ∷ b ∷ c ∷ d ∷ x) h = absurd (false≢true h)
 
-pub mark_bare : (x : List ℕ) → is_mark x ≡ true → IsBare x
-unfolding is_mark
-mark_bare x h = elim (or_parts (is_mark_of_one x || is_mark_of_two x) (is_mark_of_three x) h) [
-  | inl k ↦ elim (or_parts (is_mark_of_one x) (is_mark_of_two x) k) [ inl l ↦ one_bare x l | inr l ↦ two_bare x l ]
+pub punctuator_bare : (x : List ℕ) → is_punctuator x ≡ true → IsBare x
+unfolding is_punctuator
+punctuator_bare x h = elim (or_parts (is_punctuator_of_one x || is_punctuator_of_two x) (is_punctuator_of_three x) h) [
+  | inl k ↦ elim (or_parts (is_punctuator_of_one x) (is_punctuator_of_two x) k) [ inl l ↦ one_bare x l | inr l ↦ two_bare x l ]
   | inr k ↦ three_bare x k
 ]
 
--- no mark either
+-- no punctuator either
 pub record IsNone (x : List ℕ) : Type 0 where
   pub bare : IsBare x
-  pub mark : is_mark x ≡ false
+  pub punctuator : is_punctuator x ≡ false
 
 digraph_two_none : (x : List ℕ) → is_digraph_of_two x ≡ true → IsNone x
-unfolding is_mark
+unfolding is_punctuator
 digraph_two_none [] h = absurd (false≢true h)
 digraph_two_none (a ∷ []) h = absurd (false≢true h)
 digraph_two_none (a ∷ b ∷ []) h = record {
   bare = bare_two a b [] (any_two no_number digraphs_of_two a b refl h);
-  mark = not_false (is_mark (a ∷ b ∷ [])) (any_two (λ a b. not (is_mark (a ∷ b ∷ []))) digraphs_of_two a b refl h);
+  punctuator = not_false (is_punctuator (a ∷ b ∷ [])) (any_two (λ a b. not (is_punctuator (a ∷ b ∷ []))) digraphs_of_two a b refl h);
 }
 digraph_two_none (a ∷ b ∷ c ∷ x) h = absurd (false≢true h)
 
 digraph_four_none : (x : List ℕ) → is_digraph_of_four x ≡ true → IsNone x
-unfolding is_mark
+unfolding is_punctuator
 digraph_four_none [] h = absurd (false≢true h)
 digraph_four_none (a ∷ []) h = absurd (false≢true h)
 digraph_four_none (a ∷ b ∷ []) h = absurd (false≢true h)
@@ -267,7 +267,7 @@ digraph_four_none (a ∷ b ∷ c ∷ d ∷ []) h =
     let r = and_parts (a == 37) (b == 58) q.0 in
     record {
       bare = subst (λ y. IsBare (y ∷ b ∷ c ∷ d ∷ [])) (sym (eqb-true a 37 r.0)) (bare 37 (b ∷ c ∷ d ∷ []) refl refl);
-      mark = refl;
+      punctuator = refl;
     }
 digraph_four_none (a ∷ b ∷ c ∷ d ∷ e ∷ x) h = absurd (false≢true h)
 
@@ -277,10 +277,10 @@ digraph_none x h = elim (or_parts (is_digraph_of_two x) (is_digraph_of_four x) h
 
 -- an open comment
 slash_none : (x : List ℕ) → IsNone (47 ∷ 42 ∷ x)
-unfolding is_mark
-slash_none [] = record { bare = bare_two 47 42 [] refl; mark = refl }
-slash_none (a ∷ []) = record { bare = bare_two 47 42 (a ∷ []) refl; mark = refl }
-slash_none (a ∷ b ∷ x) = record { bare = bare_two 47 42 (a ∷ b ∷ x) refl; mark = refl }
+unfolding is_punctuator
+slash_none [] = record { bare = bare_two 47 42 [] refl; punctuator = refl }
+slash_none (a ∷ []) = record { bare = bare_two 47 42 (a ∷ []) refl; punctuator = refl }
+slash_none (a ∷ b ∷ x) = record { bare = bare_two 47 42 (a ∷ b ∷ x) refl; punctuator = refl }
 
 pub comment_none : (x : List ℕ) → begins_comment x ≡ true → IsNone x
 comment_none [] h = absurd (false≢true h)

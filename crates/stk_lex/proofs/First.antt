@@ -6,35 +6,35 @@ use Rattle.std.proofs.lemmas.List.{take_all}
 use Rattle.std.proofs.lemmas.Bool.Decides.{nat_tests}
 use Rattle.stk_base.specs.declared.token.Class.{Class}
 use Rattle.stk_base.specs.declared.token.Class.TheVariants as classes
-use Rattle.stk_lex.specs.Classes.{is_word, is_number, is_character, is_text, is_mark, is_digraph, IsLongest}
+use Rattle.stk_lex.specs.Classes.{is_word, is_number, is_character, is_text, is_punctuator, is_digraph, IsLongest}
 use Rattle.stk_lex.specs.Gaps.{line, begins, comment, one_more, gap_at}
 use Rattle.stk_lex.specs.Cut.{NoneBegins, begins_quote, begins_comment, is_form, digraph, open_quote, open_comment, byte, InClass, IsFirst}
-use Rattle.stk_lex.specs.Lengths.{word_length, number_length, character_length, text_length, mark_length, digraph_length, form_length}
-use Rattle.stk_lex.proofs.Longest.{either, word_is_longest, number_is_longest, character_is_longest, text_is_longest, mark_is_longest, digraph_is_longest}
+use Rattle.stk_lex.specs.Lengths.{word_length, number_length, character_length, text_length, punctuator_length, digraph_length, form_length}
+use Rattle.stk_lex.proofs.Longest.{either, word_is_longest, number_is_longest, character_is_longest, text_is_longest, punctuator_is_longest, digraph_is_longest}
 
 -- ---- what begins with a quote is a character, a text or stray
 
 pub record IsOther (bs : List ℕ) : Type 0 where
   pub word : is_word bs ≡ false
   pub number : is_number bs ≡ false
-  pub mark : is_mark bs ≡ false
+  pub punctuator : is_punctuator bs ≡ false
   pub digraph : is_digraph bs ≡ false
 
 single_is_other : (bs : List ℕ) → IsOther (39 ∷ bs)
-unfolding is_number is_mark is_digraph
-single_is_other [] = record { word = refl; number = refl; mark = refl; digraph = refl }
-single_is_other (b ∷ []) = record { word = refl; number = refl; mark = refl; digraph = refl }
-single_is_other (b ∷ c ∷ []) = record { word = refl; number = refl; mark = refl; digraph = refl }
-single_is_other (b ∷ c ∷ d ∷ []) = record { word = refl; number = refl; mark = refl; digraph = refl }
-single_is_other (b ∷ c ∷ d ∷ e ∷ bs) = record { word = refl; number = refl; mark = refl; digraph = refl }
+unfolding is_number is_punctuator is_digraph
+single_is_other [] = record { word = refl; number = refl; punctuator = refl; digraph = refl }
+single_is_other (b ∷ []) = record { word = refl; number = refl; punctuator = refl; digraph = refl }
+single_is_other (b ∷ c ∷ []) = record { word = refl; number = refl; punctuator = refl; digraph = refl }
+single_is_other (b ∷ c ∷ d ∷ []) = record { word = refl; number = refl; punctuator = refl; digraph = refl }
+single_is_other (b ∷ c ∷ d ∷ e ∷ bs) = record { word = refl; number = refl; punctuator = refl; digraph = refl }
 
 double_is_other : (bs : List ℕ) → IsOther (34 ∷ bs)
-unfolding is_number is_mark is_digraph
-double_is_other [] = record { word = refl; number = refl; mark = refl; digraph = refl }
-double_is_other (b ∷ []) = record { word = refl; number = refl; mark = refl; digraph = refl }
-double_is_other (b ∷ c ∷ []) = record { word = refl; number = refl; mark = refl; digraph = refl }
-double_is_other (b ∷ c ∷ d ∷ []) = record { word = refl; number = refl; mark = refl; digraph = refl }
-double_is_other (b ∷ c ∷ d ∷ e ∷ bs) = record { word = refl; number = refl; mark = refl; digraph = refl }
+unfolding is_number is_punctuator is_digraph
+double_is_other [] = record { word = refl; number = refl; punctuator = refl; digraph = refl }
+double_is_other (b ∷ []) = record { word = refl; number = refl; punctuator = refl; digraph = refl }
+double_is_other (b ∷ c ∷ []) = record { word = refl; number = refl; punctuator = refl; digraph = refl }
+double_is_other (b ∷ c ∷ d ∷ []) = record { word = refl; number = refl; punctuator = refl; digraph = refl }
+double_is_other (b ∷ c ∷ d ∷ e ∷ bs) = record { word = refl; number = refl; punctuator = refl; digraph = refl }
 
 quote_of : (b : ℕ) (bs : List ℕ) (p q : Bool) → (b == 39) ≡ p → (b == 34) ≡ q → (p || q) ≡ true → IsOther (b ∷ bs)
 quote_of b bs true q e f h = subst (λ x. IsOther (x ∷ bs)) (sym (eqb-true b 39 e)) (single_is_other bs)
@@ -42,8 +42,8 @@ quote_of b bs false true e f h = subst (λ x. IsOther (x ∷ bs)) (sym (eqb-true
 quote_of b bs false false e f h = absurd (false≢true h)
 
 empty_is_other : IsOther []
-unfolding is_number is_mark is_digraph
-empty_is_other = record { word = refl; number = refl; mark = refl; digraph = refl }
+unfolding is_number is_punctuator is_digraph
+empty_is_other = record { word = refl; number = refl; punctuator = refl; digraph = refl }
 
 pub quote_is_other : (bs : List ℕ) (m : ℕ) → begins_quote bs ≡ true → IsOther (take m bs)
 quote_is_other bs zero h = empty_is_other
@@ -69,14 +69,14 @@ none_passes f bs empty some h (suc m) = within_or (cases_lt (length bs) (suc m))
 
 pub form_is_longest : (bs : List ℕ) → IsLongest is_form bs (form_length bs)
 form_is_longest bs =
-    either (λ x. is_word x || is_number x || is_character x || is_text x || is_mark x) is_digraph bs (max (max (max (max (word_length bs) (number_length bs)) (character_length bs)) (text_length bs)) (mark_length bs)) (digraph_length bs)
-    (either (λ x. is_word x || is_number x || is_character x || is_text x) is_mark bs (max (max (max (word_length bs) (number_length bs)) (character_length bs)) (text_length bs)) (mark_length bs)
+    either (λ x. is_word x || is_number x || is_character x || is_text x || is_punctuator x) is_digraph bs (max (max (max (max (word_length bs) (number_length bs)) (character_length bs)) (text_length bs)) (punctuator_length bs)) (digraph_length bs)
+    (either (λ x. is_word x || is_number x || is_character x || is_text x) is_punctuator bs (max (max (max (word_length bs) (number_length bs)) (character_length bs)) (text_length bs)) (punctuator_length bs)
     (either (λ x. is_word x || is_number x || is_character x) is_text bs (max (max (word_length bs) (number_length bs)) (character_length bs)) (text_length bs)
     (either (λ x. is_word x || is_number x) is_character bs (max (word_length bs) (number_length bs)) (character_length bs)
     (either is_word is_number bs (word_length bs) (number_length bs) (word_is_longest bs) (number_is_longest bs))
     (character_is_longest bs))
     (text_is_longest bs))
-    (mark_is_longest bs))
+    (punctuator_is_longest bs))
     (digraph_is_longest bs)
 
 -- ---- the four ways to find a token
@@ -134,7 +134,7 @@ stray_quote bs fits is_open =
       above nc nt q classes.Number m over within is = not_both (is_number (take m bs)) (quote_is_other bs m q).number is
       above nc nt q classes.Character m over within is = not_both (is_character (take m bs)) (nc m) is
       above nc nt q classes.Text m over within is = not_both (is_text (take m bs)) (nt m) is
-      above nc nt q classes.Mark m over within is = not_both (is_mark (take m bs)) (quote_is_other bs m q).mark is
+      above nc nt q classes.Punctuator m over within is = not_both (is_punctuator (take m bs)) (quote_is_other bs m q).punctuator is
       above nc nt q classes.Stray m over within (digraph is) = not_both (is_digraph (take m bs)) (quote_is_other bs m q).digraph is
       above nc nt q classes.Stray m over within (open_quote a b d e) = omega arith
       above nc nt q classes.Stray m over within (open_comment a b e) = comment_no_quote bs a q
@@ -153,7 +153,7 @@ pub record NoForm (x : List ℕ) : Type 0 where
   pub number : is_number x ≡ false
   pub character : is_character x ≡ false
   pub text : is_text x ≡ false
-  pub mark : is_mark x ≡ false
+  pub punctuator : is_punctuator x ≡ false
   pub digraph : is_digraph x ≡ false
 
 or_left : (p q : Bool) → (p || q) ≡ false → p ≡ false
@@ -174,8 +174,8 @@ six a b c d e f h =
     (or_left a b h2, or_right a b h2, or_right (a || b) c h3, or_right (a || b || c) d h4, or_right (a || b || c || d) e h5, or_right (a || b || c || d || e) f h)
 
 pub no_form : (x : List ℕ) → is_form x ≡ false → NoForm x
-no_form x h = let p = six (is_word x) (is_number x) (is_character x) (is_text x) (is_mark x) (is_digraph x) h in
-    record { word = p.0; number = p.1; character = p.2; text = p.3; mark = p.4; digraph = p.5 }
+no_form x h = let p = six (is_word x) (is_number x) (is_character x) (is_text x) (is_punctuator x) (is_digraph x) h in
+    record { word = p.0; number = p.1; character = p.2; text = p.3; punctuator = p.4; digraph = p.5 }
 
 -- no longer text is in a class, where none is of a form
 above_form : (bs : List ℕ) (n : ℕ) → 0 < n → ((m : ℕ) → n < m → m ≤ length bs → NoForm (take m bs)) → (begins_quote bs ≡ true → NoneBegins is_character bs → NoneBegins is_text bs → ⊥) → begins_comment bs ≡ false
@@ -184,7 +184,7 @@ above_form bs n some none quoted begun classes.Word m over fits is = not_both (i
 above_form bs n some none quoted begun classes.Number m over fits is = not_both (is_number (take m bs)) (none m over fits).number is
 above_form bs n some none quoted begun classes.Character m over fits is = not_both (is_character (take m bs)) (none m over fits).character is
 above_form bs n some none quoted begun classes.Text m over fits is = not_both (is_text (take m bs)) (none m over fits).text is
-above_form bs n some none quoted begun classes.Mark m over fits is = not_both (is_mark (take m bs)) (none m over fits).mark is
+above_form bs n some none quoted begun classes.Punctuator m over fits is = not_both (is_punctuator (take m bs)) (none m over fits).punctuator is
 above_form bs n some none quoted begun classes.Stray m over fits (digraph is) = not_both (is_digraph (take m bs)) (none m over fits).digraph is
 above_form bs n some none quoted begun classes.Stray m over fits (open_quote a b c e) = quoted a b c
 above_form bs n some none quoted begun classes.Stray m over fits (open_comment a b e) = not_both (begins_comment bs) begun a
@@ -210,7 +210,7 @@ not_true true h = absurd (h refl)
 not_true false h = refl
 
 empty_form : is_form [] ≡ false
-unfolding is_number is_character is_text is_mark is_digraph
+unfolding is_number is_character is_text is_punctuator is_digraph
 empty_form = refl
 
 pub stray_byte : (bs : List ℕ) → 0 < length bs → form_length bs ≡ 0 → (begins_quote bs && character_length bs == 0 && text_length bs == 0) ≡ false → begins_comment bs ≡ false → IsFirst bs classes.Stray 1

@@ -12,3 +12,11 @@ pub mod ReadMarkers
 pub mod GapsLongest
 pub mod OnePlace
 pub mod PlaceOf
+pub mod Closings
+pub mod Found
+pub mod Groups
+pub mod Kept
+pub mod Skims
+pub mod Positions
+pub mod UnitCuts
+pub mod InOrder

@@ -50,12 +50,12 @@ before_more (x ∷ xs) (suc a) (suc b) h = more (x == 10) (before_more xs a b (o
 
 -- no marker over two stretches
 pub none_along : (text : List ℕ) (a b c : ℕ) → NoMarker text a b → NoMarker text b c → NoMarker text a c
-none_along text a b c first second = λ at mark is above within.
-    elim (cases_lt b (line_after text at)) [ inl over ↦ second at mark is over within | inr fits ↦ first at mark is above fits ]
+none_along text a b c first second = λ at punctuator is above within.
+    elim (cases_lt b (line_after text at)) [ inl over ↦ second at punctuator is over within | inr fits ↦ first at punctuator is above fits ]
 
 -- nor over a part of a stretch
 pub none_within : (text : List ℕ) (a b c d : ℕ) → NoMarker text a b → a ≤ c → d ≤ b → NoMarker text c d
-none_within text a b c d none later earlier = λ at mark is above within. none at mark is (omega (arith, later, above)) (omega (arith, earlier, within))
+none_within text a b c d none later earlier = λ at punctuator is above within. none at punctuator is (omega (arith, later, above)) (omega (arith, earlier, within))
 
 -- over a stretch with no marker the number grows by the newlines
 line_on : (text : List ℕ) (a b : ℕ) (file : Option Span) (number next : ℕ) → a ≤ b → NoMarker text a b → next + newlines_before text a ≡ number + newlines_before text b

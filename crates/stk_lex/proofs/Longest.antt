@@ -5,9 +5,9 @@ use Rattle.std.specs.List.{list_all}
 use Rattle.std.specs.Char.{is_ascii_digit}
 use Rattle.std.proofs.lemmas.Bool.{false≢true, leb-true}
 use Rattle.std.proofs.lemmas.List.{length-take}
-use Rattle.stk_lex.specs.Classes.{begins_word, is_word_byte, is_word, may_follow, goes_on, is_digits, is_dotted, is_number, closes, is_nil, is_quoted, is_marked, is_prefix, is_character, is_utf8, is_text, is_mark_of_one, is_mark_of_two, is_mark_of_three, is_mark, is_digraph_of_two, is_digraph_of_four, is_digraph, IsLongest}
+use Rattle.stk_lex.specs.Classes.{begins_word, is_word_byte, is_word, may_follow, goes_on, is_digits, is_dotted, is_number, closes, is_nil, is_quoted, is_marked, is_prefix, is_character, is_utf8, is_text, is_punctuator_of_one, is_punctuator_of_two, is_punctuator_of_three, is_punctuator, is_digraph_of_two, is_digraph_of_four, is_digraph, IsLongest}
 use Rattle.stk_lex.specs.Gaps.{one_more}
-use Rattle.stk_lex.specs.Lengths.{word_run, word_length, number_run, digits_length, dotted_length, number_length, closing, quoted_length, marked_length, utf8_length, character_length, text_length, fixed_length, mark_length, digraph_length}
+use Rattle.stk_lex.specs.Lengths.{word_run, word_length, number_run, digits_length, dotted_length, number_length, closing, quoted_length, marked_length, utf8_length, character_length, text_length, fixed_length, punctuator_length, digraph_length}
 
 -- ---- how longest texts are put together
 
@@ -174,7 +174,7 @@ text_is_longest bs =
     (either (is_quoted 34) (is_marked is_prefix 34) bs (quoted_length 34 bs) (marked_length is_prefix 34 bs) (quoted_is 34 bs) (marked_is is_prefix 34 bs))
     (utf8_is 34 bs)
 
--- ---- marks
+-- ---- punctuators
 
 -- texts of n bytes alone
 fixed_is : (f : List ℕ → Bool) (n : ℕ) (bs : List ℕ) (p : Bool) → p ≡ f (take n bs) → ((x : List ℕ) → f x ≡ true → length x ≡ n) → IsLongest f bs (cond p n 0)
@@ -191,18 +191,18 @@ fixed_is f n bs false e sized = record {
       false≢true (e ∙ ap (λ x. f (take x bs)) (sym same) ∙ is));
 }
 
-size_of_one : (x : List ℕ) → is_mark_of_one x ≡ true → length x ≡ 1
+size_of_one : (x : List ℕ) → is_punctuator_of_one x ≡ true → length x ≡ 1
 size_of_one [] is = absurd (false≢true is)
 size_of_one (a ∷ []) is = refl
 size_of_one (a ∷ b ∷ x) is = absurd (false≢true is)
 
-size_of_two : (x : List ℕ) → is_mark_of_two x ≡ true → length x ≡ 2
+size_of_two : (x : List ℕ) → is_punctuator_of_two x ≡ true → length x ≡ 2
 size_of_two [] is = absurd (false≢true is)
 size_of_two (a ∷ []) is = absurd (false≢true is)
 size_of_two (a ∷ b ∷ []) is = refl
 size_of_two (a ∷ b ∷ c ∷ x) is = absurd (false≢true is)
 
-size_of_three : (x : List ℕ) → is_mark_of_three x ≡ true → length x ≡ 3
+size_of_three : (x : List ℕ) → is_punctuator_of_three x ≡ true → length x ≡ 3
 size_of_three [] is = absurd (false≢true is)
 size_of_three (a ∷ []) is = absurd (false≢true is)
 size_of_three (a ∷ b ∷ []) is = absurd (false≢true is)
@@ -223,13 +223,13 @@ size_of_four (a ∷ b ∷ c ∷ []) is = absurd (false≢true is)
 size_of_four (a ∷ b ∷ c ∷ d ∷ []) is = refl
 size_of_four (a ∷ b ∷ c ∷ d ∷ e ∷ x) is = absurd (false≢true is)
 
-pub mark_is_longest : (bs : List ℕ) → IsLongest is_mark bs (mark_length bs)
-unfolding is_mark
-mark_is_longest bs =
-    either (λ x. is_mark_of_one x || is_mark_of_two x) is_mark_of_three bs (max (fixed_length is_mark_of_one 1 bs) (fixed_length is_mark_of_two 2 bs)) (fixed_length is_mark_of_three 3 bs)
-    (either is_mark_of_one is_mark_of_two bs (fixed_length is_mark_of_one 1 bs) (fixed_length is_mark_of_two 2 bs)
-    (fixed_is is_mark_of_one 1 bs (is_mark_of_one (take 1 bs)) refl size_of_one) (fixed_is is_mark_of_two 2 bs (is_mark_of_two (take 2 bs)) refl size_of_two))
-    (fixed_is is_mark_of_three 3 bs (is_mark_of_three (take 3 bs)) refl size_of_three)
+pub punctuator_is_longest : (bs : List ℕ) → IsLongest is_punctuator bs (punctuator_length bs)
+unfolding is_punctuator
+punctuator_is_longest bs =
+    either (λ x. is_punctuator_of_one x || is_punctuator_of_two x) is_punctuator_of_three bs (max (fixed_length is_punctuator_of_one 1 bs) (fixed_length is_punctuator_of_two 2 bs)) (fixed_length is_punctuator_of_three 3 bs)
+    (either is_punctuator_of_one is_punctuator_of_two bs (fixed_length is_punctuator_of_one 1 bs) (fixed_length is_punctuator_of_two 2 bs)
+    (fixed_is is_punctuator_of_one 1 bs (is_punctuator_of_one (take 1 bs)) refl size_of_one) (fixed_is is_punctuator_of_two 2 bs (is_punctuator_of_two (take 2 bs)) refl size_of_two))
+    (fixed_is is_punctuator_of_three 3 bs (is_punctuator_of_three (take 3 bs)) refl size_of_three)
 
 pub digraph_is_longest : (bs : List ℕ) → IsLongest is_digraph bs (digraph_length bs)
 unfolding is_digraph

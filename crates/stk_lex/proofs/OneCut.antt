@@ -6,38 +6,38 @@ use Rattle.std.proofs.lemmas.List.{take_all, length-drop}
 use Rattle.stk_base.specs.declared.token.Class.{Class}
 use Rattle.stk_base.specs.declared.token.Class.TheVariants as classes
 use Rattle.stk_lex.specs.declared.token.Token.{Token}
-use Rattle.stk_lex.specs.Classes.{is_word, is_number, is_character, is_text, is_mark}
+use Rattle.stk_lex.specs.Classes.{is_word, is_number, is_character, is_text, is_punctuator}
 use Rattle.stk_lex.specs.Gaps.{gap, gap_at, only_blanks, AreGaps, no_gap, more_gaps}
 use Rattle.stk_lex.specs.Cut.{IsStray, digraph, open_quote, open_comment, byte, InClass, IsFirst, IsToken, IsCutFrom, IsCut}
 use Rattle.stk_lex.proofs.First.{quote_is_other, no_form}
-use Rattle.stk_lex.proofs.Apart.{number_no_word, character_apart, text_apart, character_no_text, mark_bare, digraph_none, comment_none}
+use Rattle.stk_lex.proofs.Apart.{number_no_word, character_apart, text_apart, character_no_text, punctuator_bare, digraph_none, comment_none}
 
 -- the class of a text
 abbrev class_of : List ℕ → Class
-class_of x = cond (is_word x) classes.Word (cond (is_number x) classes.Number (cond (is_character x) classes.Character (cond (is_text x) classes.Text (cond (is_mark x) classes.Mark classes.Stray))))
+class_of x = cond (is_word x) classes.Word (cond (is_number x) classes.Number (cond (is_character x) classes.Character (cond (is_text x) classes.Text (cond (is_punctuator x) classes.Punctuator classes.Stray))))
 
 no_character : (x : List ℕ) (p : Bool) → is_character x ≡ p → is_text x ≡ true → p ≡ false
 no_character x true e h = absurd (false≢true (sym (character_no_text x e) ∙ h))
 no_character x false e h = refl
 
-none_is : (x : List ℕ) → is_word x ≡ false → is_number x ≡ false → is_character x ≡ false → is_text x ≡ false → is_mark x ≡ false → classes.Stray ≡ class_of x
+none_is : (x : List ℕ) → is_word x ≡ false → is_number x ≡ false → is_character x ≡ false → is_text x ≡ false → is_punctuator x ≡ false → classes.Stray ≡ class_of x
 none_is x a b c d e = rw (a, b, c, d, e) refl
 
 stray_is : (bs : List ℕ) (n : ℕ) → IsStray bs n → classes.Stray ≡ class_of (take n bs)
-stray_is bs n (digraph is) = let k = digraph_none (take n bs) is in none_is (take n bs) k.bare.word k.bare.number k.bare.character k.bare.text k.mark
-stray_is bs n (open_quote q nc nt e) = let k = quote_is_other bs n q in none_is (take n bs) k.word k.number (nc n) (nt n) k.mark
+stray_is bs n (digraph is) = let k = digraph_none (take n bs) is in none_is (take n bs) k.bare.word k.bare.number k.bare.character k.bare.text k.punctuator
+stray_is bs n (open_quote q nc nt e) = let k = quote_is_other bs n q in none_is (take n bs) k.word k.number (nc n) (nt n) k.punctuator
 stray_is bs n (open_comment a b e) =
     let k = comment_none bs a in
     let whole : take n bs ≡ bs = take_all n bs (omega arith) in
-    rw whole (none_is bs k.bare.word k.bare.number k.bare.character k.bare.text k.mark)
-stray_is bs n (byte none q e) = let k = no_form (take n bs) (none n) in none_is (take n bs) k.word k.number k.character k.text k.mark
+    rw whole (none_is bs k.bare.word k.bare.number k.bare.character k.bare.text k.punctuator)
+stray_is bs n (byte none q e) = let k = no_form (take n bs) (none n) in none_is (take n bs) k.word k.number k.character k.text k.punctuator
 
 class_is : (bs : List ℕ) (n : ℕ) (class : Class) → InClass class bs n → class ≡ class_of (take n bs)
 class_is bs n classes.Word is = rw is refl
 class_is bs n classes.Number is = rw (number_no_word (take n bs) is, is) refl
 class_is bs n classes.Character is = let k = character_apart (take n bs) is in rw (k.word, k.number, is) refl
 class_is bs n classes.Text is = let k = text_apart (take n bs) is in rw (k.word, k.number, no_character (take n bs) (is_character (take n bs)) refl is, is) refl
-class_is bs n classes.Mark is = let k = mark_bare (take n bs) is in rw (k.word, k.number, k.character, k.text, is) refl
+class_is bs n classes.Punctuator is = let k = punctuator_bare (take n bs) is in rw (k.word, k.number, k.character, k.text, is) refl
 class_is bs n classes.Stray is = stray_is bs n is
 
 pub one_length : (bs : List ℕ) (c d : Class) (m n : ℕ) → IsFirst bs c m → IsFirst bs d n → m ≡ n

@@ -9,7 +9,7 @@ use Rattle.stk_base.specs.declared.token.Place.{Place}
 use Rattle.stk_lex.specs.declared.markers.Marker.{Marker}
 use Rattle.stk_lex.specs.declared.placing.Line.{Line}
 use Rattle.stk_lex.specs.declared.placing.Stand.{Stand}
-use Rattle.stk_lex.specs.Classes.{is_word, is_number, is_character, is_text, is_mark, is_digraph}
+use Rattle.stk_lex.specs.Classes.{is_word, is_number, is_character, is_text, is_punctuator, is_digraph}
 use Rattle.stk_lex.specs.Gaps.{line, begins, comment, only_blanks, gap}
 use Rattle.stk_lex.specs.Cut.{begins_quote, begins_comment, is_form, digraph, InClass, IsFirst}
 use Rattle.stk_lex.specs.Lengths.{character_length, text_length, form_length}
@@ -44,10 +44,10 @@ or_cases false q e = inr e
 class_of : (bs : List ℕ) (n : ℕ) → is_form (take n bs) ≡ true → (class : Class) × InClass class bs n
 class_of bs n is =
     let x = take n bs in
-    elim (or_cases (is_word x || is_number x || is_character x || is_text x || is_mark x) (is_digraph x) is) [
+    elim (or_cases (is_word x || is_number x || is_character x || is_text x || is_punctuator x) (is_digraph x) is) [
       | inr e ↦ (classes.Stray, digraph e)
-      | inl is ↦ elim (or_cases (is_word x || is_number x || is_character x || is_text x) (is_mark x) is) [
-        | inr e ↦ (classes.Mark, e)
+      | inl is ↦ elim (or_cases (is_word x || is_number x || is_character x || is_text x) (is_punctuator x) is) [
+        | inr e ↦ (classes.Punctuator, e)
         | inl is ↦ elim (or_cases (is_word x || is_number x || is_character x) (is_text x) is) [
           | inr e ↦ (classes.Text, e)
           | inl is ↦ elim (or_cases (is_word x || is_number x) (is_character x) is) [

@@ -15,7 +15,7 @@ use Rattle.stk_lex.specs.Gaps.{begins, one_more, gap}
 use Rattle.stk_lex.specs.Place.{PartBegins, MarkerStands}
 use Rattle.stk_lex.specs.Lengths.{closing}
 use Rattle.stk_lex.specs.Marker.{is_space, IsMarker}
-use Rattle.stk_lex.specs.MarkerReading.{run, are_parts, mark_with, mark_behind_digits, mark_behind_spaces, marker_of}
+use Rattle.stk_lex.specs.MarkerReading.{run, are_parts, punctuator_with, punctuator_behind_digits, punctuator_behind_spaces, marker_of}
 use Rattle.stk_lex.proofs.Digits.{run_passes}
 use Rattle.stk_lex.proofs.Longest.{closing_is}
 
@@ -78,17 +78,17 @@ same_marker : (m : Marker) (number from to : ℕ) → m.number ≡ number → m.
 same_marker m number from to e f g = rw (← e, ← f, ← g) refl
 
 with_parts : (s d k : ℕ) (shown rest : List ℕ) (m : Marker) → are_parts s d k rest ≡ true → m.number ≡ decimal shown → m.from ≡ s + d + k + 2 → m.to ≡ s + d + k + 1 + closing 34 false (drop 1 rest)
-    → mark_with s d k shown rest ≡ Some m
+    → punctuator_with s d k shown rest ≡ Some m
 with_parts s d k shown rest m parts e f g = rw parts (ap Some (same_marker m (decimal shown) (s + d + k + 2) (s + d + k + 1 + closing 34 false (drop 1 rest)) e f g))
 
-behind_digits : (s d : ℕ) (shown back rest : List ℕ) → list_all is_space back ≡ true → mark_behind_digits s d shown (back ++ 34 ∷ rest) ≡ mark_with s d (length back) shown (34 ∷ rest)
+behind_digits : (s d : ℕ) (shown back rest : List ℕ) → list_all is_space back ≡ true → punctuator_behind_digits s d shown (back ++ 34 ∷ rest) ≡ punctuator_with s d (length back) shown (34 ∷ rest)
 behind_digits s d shown back rest all =
     let e = run_stops is_space back 34 rest all refl in
     rw (e, drop-append_seam back (34 ∷ rest)) refl
 
 -- what stands behind the digits begins with a space
 behind_spaces : (s : ℕ) (digits back rest : List ℕ) → 0 < length back → list_all is_ascii_digit digits ≡ true → list_all is_space back ≡ true
-    → mark_behind_spaces s (digits ++ (back ++ rest)) ≡ mark_behind_digits s (length digits) digits (back ++ rest)
+    → punctuator_behind_spaces s (digits ++ (back ++ rest)) ≡ punctuator_behind_digits s (length digits) digits (back ++ rest)
 behind_spaces s digits [] rest some all spaces = absurd (omega arith)
 behind_spaces s digits (b ∷ back) rest some all spaces =
     let e = run_stops is_ascii_digit digits b (back ++ rest) all (space_is_no_digit b (and_parts (is_space b) (list_all is_space back) spaces).0) in
@@ -98,7 +98,7 @@ behind_spaces s digits (b ∷ back) rest some all spaces =
     space_is_no_digit b h = grind (arith, nat_tests)
 
 behind_hash : (front digits rest : List ℕ) → 0 < length digits → list_all is_space front ≡ true → list_all is_ascii_digit digits ≡ true
-    → marker_of (front ++ (digits ++ rest)) ≡ mark_behind_spaces (length front) (digits ++ rest)
+    → marker_of (front ++ (digits ++ rest)) ≡ punctuator_behind_spaces (length front) (digits ++ rest)
 unfolding marker_of
 behind_hash front [] rest some spaces all = absurd (omega arith)
 behind_hash front (d ∷ digits) rest some spaces all =

@@ -87,40 +87,40 @@ is_utf8 quote (b ∷ bs) = b == 117 && is_marked (λ c. c == 56) quote bs
 unfoldable pub is_text : List ℕ → Bool
 is_text bs = is_quoted 34 bs || is_marked is_prefix 34 bs || is_utf8 34 bs
 
--- ---- marks: punctuators without the digraphs (C11 6.4.6)
+-- ---- punctuators: punctuators without the digraphs (C11 6.4.6)
 
 -- `[ ] ( ) { } . & * + - ~ ! / % < > ^ | ? : ; = ,`
-abbrev pub marks_of_one : List ℕ
-marks_of_one = 91 ∷ 93 ∷ 40 ∷ 41 ∷ 123 ∷ 125 ∷ 46 ∷ 38 ∷ 42 ∷ 43 ∷ 45 ∷ 126 ∷ 33 ∷ 47 ∷ 37 ∷ 60 ∷ 62 ∷ 94 ∷ 124 ∷ 63 ∷ 58 ∷ 59 ∷ 61 ∷ 44 ∷ []
+abbrev pub punctuators_of_one : List ℕ
+punctuators_of_one = 91 ∷ 93 ∷ 40 ∷ 41 ∷ 123 ∷ 125 ∷ 46 ∷ 38 ∷ 42 ∷ 43 ∷ 45 ∷ 126 ∷ 33 ∷ 47 ∷ 37 ∷ 60 ∷ 62 ∷ 94 ∷ 124 ∷ 63 ∷ 58 ∷ 59 ∷ 61 ∷ 44 ∷ []
 
 -- `-> ++ -- << >> <= >= == != && || *= /= %= += -= &= ^= |=`
-abbrev pub marks_of_two : List (ℕ × ℕ)
-marks_of_two =
+abbrev pub punctuators_of_two : List (ℕ × ℕ)
+punctuators_of_two =
     (45, 62) ∷ (43, 43) ∷ (45, 45) ∷ (60, 60) ∷ (62, 62) ∷ (60, 61) ∷ (62, 61) ∷ (61, 61) ∷ (33, 61) ∷ (38, 38) ∷ (124, 124)
     ∷ (42, 61) ∷ (47, 61) ∷ (37, 61) ∷ (43, 61) ∷ (45, 61) ∷ (38, 61) ∷ (94, 61) ∷ (124, 61) ∷ []
 
 -- `... <<= >>=`
-abbrev pub marks_of_three : List (ℕ × ℕ × ℕ)
-marks_of_three = (46, 46, 46) ∷ (60, 60, 61) ∷ (62, 62, 61) ∷ []
+abbrev pub punctuators_of_three : List (ℕ × ℕ × ℕ)
+punctuators_of_three = (46, 46, 46) ∷ (60, 60, 61) ∷ (62, 62, 61) ∷ []
 
--- one of the marks of one byte
-abbrev pub is_mark_of_one : List ℕ → Bool
-is_mark_of_one (a ∷ []) = list_any (λ m. m == a) marks_of_one
-is_mark_of_one bs = false
+-- one of the punctuators of one byte
+abbrev pub is_punctuator_of_one : List ℕ → Bool
+is_punctuator_of_one (a ∷ []) = list_any (λ m. m == a) punctuators_of_one
+is_punctuator_of_one bs = false
 
--- one of the marks of two bytes
-abbrev pub is_mark_of_two : List ℕ → Bool
-is_mark_of_two (a ∷ b ∷ []) = list_any (λ m. m.0 == a && m.1 == b) marks_of_two
-is_mark_of_two bs = false
+-- one of the punctuators of two bytes
+abbrev pub is_punctuator_of_two : List ℕ → Bool
+is_punctuator_of_two (a ∷ b ∷ []) = list_any (λ m. m.0 == a && m.1 == b) punctuators_of_two
+is_punctuator_of_two bs = false
 
--- one of the marks of three bytes
-abbrev pub is_mark_of_three : List ℕ → Bool
-is_mark_of_three (a ∷ b ∷ c ∷ []) = list_any (λ m. m.0 == a && m.1 == b && m.2 == c) marks_of_three
-is_mark_of_three bs = false
+-- one of the punctuators of three bytes
+abbrev pub is_punctuator_of_three : List ℕ → Bool
+is_punctuator_of_three (a ∷ b ∷ c ∷ []) = list_any (λ m. m.0 == a && m.1 == b && m.2 == c) punctuators_of_three
+is_punctuator_of_three bs = false
 
--- one of the marks of one, two or three bytes
-unfoldable pub is_mark : List ℕ → Bool
-is_mark bs = is_mark_of_one bs || is_mark_of_two bs || is_mark_of_three bs
+-- one of the punctuators of one, two or three bytes
+unfoldable pub is_punctuator : List ℕ → Bool
+is_punctuator bs = is_punctuator_of_one bs || is_punctuator_of_two bs || is_punctuator_of_three bs
 
 -- ---- digraphs (C11 6.4.6p3)
 

@@ -3,7 +3,7 @@ use Rattle.std.specs.Prelude.{◌≡◌, ℕ, ◌-◌, ◌<◌, ◌≤◌, Bool,
 use Rattle.stk_base.specs.declared.token.Class.{Class}
 use Rattle.stk_base.specs.declared.token.Class.TheVariants as classes
 use Rattle.stk_lex.specs.declared.token.Token.{Token}
-use Rattle.stk_lex.specs.Classes.{is_word, is_number, is_character, is_text, is_mark, is_digraph}
+use Rattle.stk_lex.specs.Classes.{is_word, is_number, is_character, is_text, is_punctuator, is_digraph}
 use Rattle.stk_lex.specs.Gaps.{line, begins, comment, gap, AreGaps}
 
 -- no text at the front passes
@@ -20,7 +20,7 @@ begins_comment bytes = begins 47 bytes && begins 42 (drop 1 bytes)
 
 -- a form that a text has by itself, whatever follows it
 abbrev pub is_form : List ℕ → Bool
-is_form bs = is_word bs || is_number bs || is_character bs || is_text bs || is_mark bs || is_digraph bs
+is_form bs = is_word bs || is_number bs || is_character bs || is_text bs || is_punctuator bs || is_digraph bs
 
 -- The first n bytes are a stray: a digraph; a quote that no character and no text begins with, up to the end of its
 -- line; a `/*` without end, up to the end of the bytes; or one byte that begins no token.
@@ -36,7 +36,7 @@ InClass classes.Word bytes n = is_word (take n bytes) ≡ true
 InClass classes.Number bytes n = is_number (take n bytes) ≡ true
 InClass classes.Character bytes n = is_character (take n bytes) ≡ true
 InClass classes.Text bytes n = is_text (take n bytes) ≡ true
-InClass classes.Mark bytes n = is_mark (take n bytes) ≡ true
+InClass classes.Punctuator bytes n = is_punctuator (take n bytes) ≡ true
 InClass classes.Stray bytes n = IsStray bytes n
 
 -- the first n bytes are in this class, and no longer text at the front is in any class

@@ -1,7 +1,7 @@
 -- How long the longest text of a class is at the front, from left to right; 0 where there is none.
 use Rattle.std.specs.Prelude.{ℕ, suc, Bool, false, cond, ◌&&◌, ◌==◌, not, max, List, [], ◌∷◌, take}
 use Rattle.std.specs.Char.{is_ascii_digit}
-use Rattle.stk_lex.specs.Classes.{begins_word, is_word_byte, may_follow, is_prefix, is_mark_of_one, is_mark_of_two, is_mark_of_three, is_digraph_of_two, is_digraph_of_four}
+use Rattle.stk_lex.specs.Classes.{begins_word, is_word_byte, may_follow, is_prefix, is_punctuator_of_one, is_punctuator_of_two, is_punctuator_of_three, is_digraph_of_two, is_digraph_of_four}
 use Rattle.stk_lex.specs.Gaps.{one_more}
 
 -- how many word bytes stand at the front
@@ -65,9 +65,9 @@ text_length bs = max (max (quoted_length 34 bs) (marked_length is_prefix 34 bs))
 abbrev pub fixed_length : (List ℕ → Bool) → ℕ → List ℕ → ℕ
 fixed_length test n bs = cond (test (take n bs)) n 0
 
--- a mark
-abbrev pub mark_length : List ℕ → ℕ
-mark_length bs = max (max (fixed_length is_mark_of_one 1 bs) (fixed_length is_mark_of_two 2 bs)) (fixed_length is_mark_of_three 3 bs)
+-- a punctuator
+abbrev pub punctuator_length : List ℕ → ℕ
+punctuator_length bs = max (max (fixed_length is_punctuator_of_one 1 bs) (fixed_length is_punctuator_of_two 2 bs)) (fixed_length is_punctuator_of_three 3 bs)
 
 -- a digraph
 abbrev pub digraph_length : List ℕ → ℕ
@@ -75,4 +75,4 @@ digraph_length bs = max (fixed_length is_digraph_of_two 2 bs) (fixed_length is_d
 
 -- any form that a text has by itself
 abbrev pub form_length : List ℕ → ℕ
-form_length bs = max (max (max (max (max (word_length bs) (number_length bs)) (character_length bs)) (text_length bs)) (mark_length bs)) (digraph_length bs)
+form_length bs = max (max (max (max (max (word_length bs) (number_length bs)) (character_length bs)) (text_length bs)) (punctuator_length bs)) (digraph_length bs)

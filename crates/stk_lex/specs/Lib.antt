@@ -8,3 +8,8 @@ pub mod MarkerReading
 pub mod Place
 pub mod Stands
 pub mod Placing
+pub mod Spelled
+pub mod Skimming
+pub mod Ahead
+pub mod Units
+pub mod Begun

@@ -18,8 +18,8 @@ AreSpaces bs = (0 < length bs) × (list_all is_space bs ≡ true)
 abbrev pub AreDigits : List ℕ → Type 0
 AreDigits bs = (0 < length bs) × (length bs ≤ 9) × (list_all is_ascii_digit bs ≡ true)
 
--- A line is this marker: `#`, spaces, digits, spaces, `"`, a name with the quote that closes it, and anything. The number
--- is that of the digits, and the name stands, without its quotes, where the marker says, counted from the `#`.
+-- A line is this marker: `#`, spaces, digits, spaces, `"`, a name with the quote that closes it, and anything. The
+-- number is that of the digits, and the name stands, without its quotes, where the marker says, counted from the `#`.
 pub record IsMarker (line : List ℕ) (marker : Marker) : Type 0 where
   pub front : List ℕ
   pub digits : List ℕ

@@ -18,8 +18,8 @@ are_parts front digits back rest =
     nat_lt 0 front && nat_lt 0 digits && nat_lt digits 10 && nat_lt 0 back && begins 34 rest && nat_lt 0 (closing 34 false (drop 1 rest))
 
 -- the marker with these parts, if they are those of one
-abbrev pub mark_with : ℕ → ℕ → ℕ → List ℕ → List ℕ → Option Marker
-mark_with front digits back shown rest =
+abbrev pub punctuator_with : ℕ → ℕ → ℕ → List ℕ → List ℕ → Option Marker
+punctuator_with front digits back shown rest =
     cond (are_parts front digits back rest)
     (Some (record {
       number = decimal shown;
@@ -29,12 +29,12 @@ mark_with front digits back shown rest =
     None
 
 -- the same, from what stands behind the spaces, and then behind the digits
-abbrev pub mark_behind_digits : ℕ → ℕ → List ℕ → List ℕ → Option Marker
-mark_behind_digits front digits shown rest = mark_with front digits (run is_space rest) shown (drop (run is_space rest) rest)
+abbrev pub punctuator_behind_digits : ℕ → ℕ → List ℕ → List ℕ → Option Marker
+punctuator_behind_digits front digits shown rest = punctuator_with front digits (run is_space rest) shown (drop (run is_space rest) rest)
 
-abbrev pub mark_behind_spaces : ℕ → List ℕ → Option Marker
-mark_behind_spaces front rest = mark_behind_digits front (run is_ascii_digit rest) (take (run is_ascii_digit rest) rest) (drop (run is_ascii_digit rest) rest)
+abbrev pub punctuator_behind_spaces : ℕ → List ℕ → Option Marker
+punctuator_behind_spaces front rest = punctuator_behind_digits front (run is_ascii_digit rest) (take (run is_ascii_digit rest) rest) (drop (run is_ascii_digit rest) rest)
 
 -- the line marker that a directive line is, if it is one, from what stands behind its `#`
 unfoldable pub marker_of : List ℕ → Option Marker
-marker_of bytes = mark_behind_spaces (run is_space bytes) (drop (run is_space bytes) bytes)
+marker_of bytes = punctuator_behind_spaces (run is_space bytes) (drop (run is_space bytes) bytes)

@@ -1,4 +1,5 @@
--- Where a byte of a text stands: the file and the number of its line, by the last line marker before it, and its column.
+-- Where a byte of a text stands: the file and the number of its line, by the last line marker before it, and its
+-- column.
 use Rattle.std.specs.Prelude.{◌≡◌, ℕ, suc, ◌+◌, ◌-◌, ◌<◌, ◌≤◌, ◌⊎◌, true, cond, ◌==◌, List, [], ◌∷◌, length, take, drop, Option, Some, None}
 use Rattle.stk_base.specs.declared.span.Span.{Span}
 use Rattle.stk_base.specs.declared.token.Class.{Class}
@@ -26,7 +27,8 @@ pub data PartBegins (text : List ℕ) : ℕ → Type 0 where
 abbrev pub line_after : List ℕ → ℕ → ℕ
 line_after text at = at + gap text at + 1
 
--- a line marker stands at a place: a gap that is a directive line, that a newline ends, and that has the form of a marker
+-- a line marker stands at a place: a gap that is a directive line, that a newline ends, and that has the form of a
+-- marker
 pub record MarkerStands (text : List ℕ) (at : ℕ) (marker : Marker) : Type 0 where
   pub part : PartBegins text at
   pub directive : (0 < gap text at) × (begins 35 (drop at text) ≡ true)
@@ -59,7 +61,8 @@ pub data IsLineAt (text : List ℕ) (place : ℕ) (file : Option Span) (number :
   marked : {at : ℕ} {marker : Marker} → MarkerStands text at marker → line_after text at ≤ place → NoMarker text (line_after text at) place → file ≡ Some (name_of at marker)
       → number ≡ marker.number + (newlines_before text place - newlines_before text (line_after text at)) → IsLineAt text place file number
 
--- the line at a place begins at the start: at the text's first byte or behind a newline, with no newline from there up to the place
+-- the line at a place begins at the start: at the text's first byte or behind a newline, with no newline from there up
+-- to the place
 pub record IsLineStart (text : List ℕ) (place start : ℕ) : Type 0 where
   pub before : start ≤ place
   pub fresh : (start ≡ 0) ⊎ (begins 10 (drop (start - 1) text) ≡ true)

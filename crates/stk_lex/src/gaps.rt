@@ -3,7 +3,7 @@
 ghost use Rattle.std.specs.Prelude.{◌≡◌, ℕ, ◌≤◌, ◌<◌, ◌^◌, ◌==◌, ◌&&◌, length, true, cond, take, drop};
 ghost use Rattle.stk_lex.specs.Gaps.{is_blank, line, begins, one_more, comment, only_blanks, gap_at, gap};
 
-pub fn is_blank(b: u8) -> bool
+pub(crate) fn is_blank(b: u8) -> bool
     ensures { result ≡ is_blank b }
 {
     b == b' ' || b == b'\t' || b == b'\r' || b == 11 || b == 12
@@ -11,7 +11,7 @@ pub fn is_blank(b: u8) -> bool
 
 /// How many bytes stand before the next newline, or before the end.
 #[tactic(auto, unfolding(crate::specs::Gaps::line))]
-pub fn line(bytes: &[u8]) -> usize
+pub(crate) fn line(bytes: &[u8]) -> usize
     ensures within { result ≤ length bytes.now }
     ensures value { result ≡ line bytes.now }
 {
@@ -27,7 +27,7 @@ pub fn line(bytes: &[u8]) -> usize
     n
 }
 
-pub fn begins(a: u8, bytes: &[u8]) -> bool
+pub(crate) fn begins(a: u8, bytes: &[u8]) -> bool
     ensures { result ≡ begins a bytes.now }
 {
     match bytes.split_first() {
@@ -88,7 +88,7 @@ fn only_blanks(bytes: &[u8], at: usize) -> bool
 }
 
 /// How long the gap is that begins at a place; 0 where none begins there.
-pub fn gap(bytes: &[u8], at: usize) -> usize
+pub(crate) fn gap(bytes: &[u8], at: usize) -> usize
     requires { at ≤ length bytes.now }
     ensures within { result ≤ length (drop at bytes.now) }
     ensures value { result ≡ gap bytes.now at }

@@ -11,7 +11,7 @@ ghost use Rattle.stk_lex.specs.Lengths.{character_length, text_length, form_leng
 
 use crate::gaps::{begins, gap, line};
 use crate::scan::{
-    character_length, digraph_length, mark_length, number_length, text_length, word_length,
+    character_length, digraph_length, number_length, punctuator_length, text_length, word_length,
 };
 use crate::token::Token;
 use std::alloc::Global;
@@ -41,13 +41,13 @@ fn form(bytes: &[u8], character: usize, text: usize) -> (Class, usize)
 {
     let word = word_length(bytes);
     let number = number_length(bytes);
-    let mark = mark_length(bytes);
+    let punctuator = punctuator_length(bytes);
     let digraph = digraph_length(bytes);
     let most = word
         .max(number)
         .max(character)
         .max(text)
-        .max(mark)
+        .max(punctuator)
         .max(digraph);
     let class = if word == most {
         Class::Word
@@ -57,8 +57,8 @@ fn form(bytes: &[u8], character: usize, text: usize) -> (Class, usize)
         Class::Character
     } else if text == most {
         Class::Text
-    } else if mark == most {
-        Class::Mark
+    } else if punctuator == most {
+        Class::Punctuator
     } else {
         Class::Stray
     };
@@ -72,7 +72,7 @@ fn is_open_quote(bytes: &[u8], character: usize, text: usize) -> bool
 }
 
 /// The token at the front, where no gap is.
-pub fn first(bytes: &[u8]) -> (Class, usize)
+pub(crate) fn first(bytes: &[u8]) -> (Class, usize)
     requires some { 0 < length bytes.now }
     requires open { begins_comment bytes.now ≡ true → comment (drop 2 bytes.now) ≡ 0 }
     ensures { IsFirst bytes.now result.0 result.1 }
@@ -111,15 +111,14 @@ fn behind_gaps(bytes: &[u8], from: usize) -> usize
 
 /// The tokens of a text of at most 16,777,216 bytes, in order: its cut (C11 6.4p4). Every text has one.
 ///
-/// Between tokens stand gaps alone: the six white-space bytes (C11 6.4), comments (C11 6.4.9) and directive lines, which
-/// are `#` with only blanks before it on its line, up to the line's end (C11 6.10). At each place where no gap begins,
-/// the token is the longest text that is in a class. The classes are words (C11 6.4.2.1), preprocessing numbers
-/// (C11 6.4.8), character constants (C11 6.4.4.4), string literals (C11 6.4.5) and punctuators other than digraphs
-/// (C11 6.4.6). A stray is a digraph, a quote that begins neither of the two, up to its line's end, a comment without
-/// end, up to the end of the text, or one byte that begins nothing.
+/// Between tokens stand gaps alone: the six white-space bytes (C11 6.4), comments (C11 6.4.9) and directive lines,
+/// which are `#` with only blanks before it on its line, up to the line's end (C11 6.10). At each place where no gap
+/// begins, the token is the longest text that is in a class. The classes are words (C11 6.4.2.1), preprocessing numbers
+/// (C11 6.4.8), character constants (C11 6.4.4.4), string literals (C11 6.4.5) and punctuators other than digraphs (C11
+/// 6.4.6). A stray is a digraph, a quote that begins neither of the two, up to its line's end, a comment without end,
+/// up to the end of the text, or one byte that begins nothing.
 ///
-/// Spans count bytes from the first byte of the text, and those of the tokens go forward. It answers `NoMemory` where
-/// an allocation is refused, and for no other cause.
+/// Spans count bytes from the first byte of the text, and those of the tokens go forward.
 pub fn lex(alloc: Global, bytes: &[u8]) -> Result<Vec<Token>, NoMemory>
     requires { length bytes.now ≤ most_bytes }
     ensures cut { IfOk result (λ tokens. IsCut bytes.now tokens.items) }
@@ -142,8 +141,8 @@ pub fn lex(alloc: Global, bytes: &[u8]) -> Result<Vec<Token>, NoMemory>
     Ok(tokens)
 }
 
-/// The gap at a place is the longest text there that is a gap: white space, a comment, or where only blanks stand before
-/// on its line, a directive line.
+/// The gap at a place is the longest text there that is a gap: white space, a comment, or where only blanks stand
+/// before on its line, a directive line.
 pub fn gap_is_longest()
     ensures { (text : List ℕ) (at : ℕ) →
         IsLongest (is_gap (only_blanks true (take at text))) (drop at text) (gap text at) }

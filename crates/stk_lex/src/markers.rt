@@ -113,7 +113,7 @@ fn marker_of(bytes: &[u8]) -> Option<Marker>
 }
 
 /// The line marker that stands at a place where a part begins, if one does.
-pub fn marker_at(bytes: &[u8], at: usize) -> Option<Marker>
+pub(crate) fn marker_at(bytes: &[u8], at: usize) -> Option<Marker>
     requires short { length bytes.now ≤ most_bytes }
     requires within { at ≤ length bytes.now }
     requires part { PartBegins bytes.now at }

@@ -57,8 +57,7 @@ fn blanks_with(b: u8, blanks: usize) -> usize {
 }
 
 impl<'a> Places<'a> {
-    /// The index of a text of at most 16,777,216 bytes, which is read once. It answers `NoMemory` where an allocation is
-    /// refused, and for no other cause.
+    /// The index of a text of at most 16,777,216 bytes, which is read once.
     pub fn new(alloc: Global, bytes: &'a [u8]) -> Result<Places<'a>, NoMemory>
         requires { length bytes.now ≤ most_bytes }
         ensures { IfOk result (λ places. places ≡ bytes.now) }

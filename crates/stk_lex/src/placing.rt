@@ -94,7 +94,7 @@ fn line_behind(marker: Marker, at: usize, start: usize) -> Line
 }
 
 /// The stand behind the next part, or behind the next part and the newline where that is a marker.
-pub fn step(bytes: &[u8], stand: Stand) -> Stand
+pub(crate) fn step(bytes: &[u8], stand: Stand) -> Stand
     requires short { length bytes.now ≤ most_bytes }
     requires stand { IsStand bytes.now stand }
     requires more { stand.at < length bytes.now }
@@ -136,7 +136,7 @@ fn reach(bytes: &[u8], from: Stand, at: usize) -> Stand
 }
 
 /// The stand at the first byte.
-pub fn first_stand(bytes: &[u8]) -> Stand
+pub(crate) fn first_stand(bytes: &[u8]) -> Stand
     ensures stand { IsStand bytes.now result }
     ensures start { result.at ≡ 0 }
 {
@@ -165,7 +165,7 @@ fn place_behind(bytes: &[u8], from: Stand, at: usize) -> Place
 }
 
 /// The place of a byte, from an earlier stand.
-pub fn place_from(bytes: &[u8], from: Stand, at: usize) -> Place
+pub(crate) fn place_from(bytes: &[u8], from: Stand, at: usize) -> Place
     requires short { length bytes.now ≤ most_bytes }
     requires stand { IsStand bytes.now from }
     requires within { (from.at ≤ at) × (at ≤ length bytes.now) }

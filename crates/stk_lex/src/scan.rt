@@ -1,10 +1,10 @@
 // How long the longest text of a class is at the front of some bytes; 0 where there is none.
 
 ghost use Rattle.std.specs.Prelude.{◌≡◌, ℕ, ◌≤◌, ◌<◌, ◌^◌, ◌==◌, ◌&&◌, length, false, cond};
-ghost use Rattle.stk_lex.specs.Classes.{begins_word, is_word_byte, may_follow, is_prefix, is_mark_of_one, is_mark_of_two, is_mark_of_three, is_digraph_of_two, is_digraph_of_four};
+ghost use Rattle.stk_lex.specs.Classes.{begins_word, is_word_byte, may_follow, is_prefix, is_punctuator_of_one, is_punctuator_of_two, is_punctuator_of_three, is_digraph_of_two, is_digraph_of_four};
 ghost use Rattle.std.specs.List.{list_any};
 ghost use Rattle.stk_lex.specs.Gaps.{one_more};
-ghost use Rattle.stk_lex.specs.Lengths.{word_run, word_length, number_run, digits_length, dotted_length, number_length, closing, quoted_length, marked_length, utf8_length, character_length, text_length, fixed_length, mark_length, digraph_length};
+ghost use Rattle.stk_lex.specs.Lengths.{word_run, word_length, number_run, digits_length, dotted_length, number_length, closing, quoted_length, marked_length, utf8_length, character_length, text_length, fixed_length, punctuator_length, digraph_length};
 
 fn begins_word(b: u8) -> bool
     ensures { result ≡ begins_word b }
@@ -43,7 +43,7 @@ fn word_run(bytes: &[u8]) -> usize
     n
 }
 
-pub fn word_length(bytes: &[u8]) -> usize
+pub(crate) fn word_length(bytes: &[u8]) -> usize
     ensures within { result ≤ length bytes.now }
     ensures value { result ≡ word_length bytes.now }
 {
@@ -103,7 +103,7 @@ fn one_more(n: usize, ok: bool) -> usize
     if ok && n > 0 { n + 1 } else { 0 }
 }
 
-pub fn number_length(bytes: &[u8]) -> usize
+pub(crate) fn number_length(bytes: &[u8]) -> usize
     ensures within { result ≤ length bytes.now }
     ensures value { result ≡ number_length bytes.now }
 {
@@ -116,7 +116,7 @@ pub fn number_length(bytes: &[u8]) -> usize
 
 /// How long a text is up to its closing quote, and with it.
 #[tactic(auto, unfolding(crate::specs::Lengths::closing))]
-pub fn closing(quote: u8, bytes: &[u8]) -> usize
+pub(crate) fn closing(quote: u8, bytes: &[u8]) -> usize
     ensures within { result ≤ length bytes.now }
     ensures value { result ≡ closing quote false bytes.now }
 {
@@ -190,14 +190,14 @@ fn utf8_length(quote: u8, bytes: &[u8]) -> usize
     }
 }
 
-pub fn character_length(bytes: &[u8]) -> usize
+pub(crate) fn character_length(bytes: &[u8]) -> usize
     ensures within { result ≤ length bytes.now }
     ensures value { result ≡ character_length bytes.now }
 {
     quoted_length(b'\'', bytes).max(marked_length(b'\'', bytes))
 }
 
-pub fn text_length(bytes: &[u8]) -> usize
+pub(crate) fn text_length(bytes: &[u8]) -> usize
     ensures within { result ≤ length bytes.now }
     ensures value { result ≡ text_length bytes.now }
 {
@@ -207,9 +207,9 @@ pub fn text_length(bytes: &[u8]) -> usize
         .max(utf8_length(b'"', bytes))
 }
 
-fn mark_of_one(bytes: &[u8]) -> usize
+fn punctuator_of_one(bytes: &[u8]) -> usize
     ensures within { result ≤ length bytes.now }
-    ensures value { result ≡ fixed_length is_mark_of_one 1 bytes.now }
+    ensures value { result ≡ fixed_length is_punctuator_of_one 1 bytes.now }
 {
     match bytes {
         [a, ..] => {
@@ -223,9 +223,9 @@ fn mark_of_one(bytes: &[u8]) -> usize
     }
 }
 
-fn mark_of_two(bytes: &[u8]) -> usize
+fn punctuator_of_two(bytes: &[u8]) -> usize
     ensures within { result ≤ length bytes.now }
-    ensures value { result ≡ fixed_length is_mark_of_two 2 bytes.now }
+    ensures value { result ≡ fixed_length is_punctuator_of_two 2 bytes.now }
 {
     match bytes {
         [a, b, ..] => { if is_pair(&MARKS_OF_TWO, *a, *b) { 2 } else { 0 } }
@@ -281,9 +281,9 @@ fn is_triple(triples: &[(u8, u8, u8)], a: u8, b: u8, c: u8) -> bool
     triples.iter().any(|m| m.0 == a && m.1 == b && m.2 == c)
 }
 
-fn mark_of_three(bytes: &[u8]) -> usize
+fn punctuator_of_three(bytes: &[u8]) -> usize
     ensures within { result ≤ length bytes.now }
-    ensures value { result ≡ fixed_length is_mark_of_three 3 bytes.now }
+    ensures value { result ≡ fixed_length is_punctuator_of_three 3 bytes.now }
 {
     match bytes {
         [a, b, c, ..] => {
@@ -297,13 +297,13 @@ fn mark_of_three(bytes: &[u8]) -> usize
     }
 }
 
-pub fn mark_length(bytes: &[u8]) -> usize
+pub(crate) fn punctuator_length(bytes: &[u8]) -> usize
     ensures within { result ≤ length bytes.now }
-    ensures value { result ≡ mark_length bytes.now }
+    ensures value { result ≡ punctuator_length bytes.now }
 {
-    mark_of_one(bytes)
-        .max(mark_of_two(bytes))
-        .max(mark_of_three(bytes))
+    punctuator_of_one(bytes)
+        .max(punctuator_of_two(bytes))
+        .max(punctuator_of_three(bytes))
 }
 
 fn digraph_of_two(bytes: &[u8]) -> usize
@@ -332,7 +332,7 @@ fn digraph_of_four(bytes: &[u8]) -> usize
     }
 }
 
-pub fn digraph_length(bytes: &[u8]) -> usize
+pub(crate) fn digraph_length(bytes: &[u8]) -> usize
     ensures within { result ≤ length bytes.now }
     ensures value { result ≡ digraph_length bytes.now }
 {

@@ -6,17 +6,17 @@ use Rattle.std.specs.Prelude.{Result, Ok, Err, OnErr}
 use Rattle.stk_base.specs.declared.status.Status.{Status}
 use Rattle.stk_base.specs.Streams.{Appended, AppendedPrefix, IsFlushed}
 use Rattle.stk_lex.specs.declared.token.Token.{Token}
-use Rattle.stk_units.specs.declared.cutting.Piece.{Piece}
-use Rattle.stk_units.specs.Units.{AreJoined}
-use Rattle.stk_options.specs.declared.options.Options.{Options}
-use Rattle.stk_lines.specs.declared.counts.Counts.{Counts}
-use Rattle.stk_lines.specs.Counts.{nothing_counted, counts_sum, AreBelow}
+use Rattle.stk_lex.specs.declared.cutting.Piece.{Piece}
+use Rattle.stk_lex.specs.Units.{AreJoined}
+use Rattle.stk_records.specs.declared.options.Options.{Options}
+use Rattle.stk_records.specs.declared.counts.Counts.{Counts}
+use Rattle.stk_records.specs.Counts.{nothing_counted, counts_sum, AreBelow}
 use Rattle.stk_ctype.specs.declared.symbol.NameEntry.{NameEntry}
 use Rattle.stk_lint.specs.LawfulText.{body_of_piece, status_of, tokens_of_piece, AreUnitTexts, no_unit, then_unit, IsLawfulText}
 use Rattle.stk_lint.specs.Judged.{WroteUnit, WroteUnitPrefix, WroteUnits, WroteUnitsPrefix}
 use Rattle.stk_lint.specs.Lint.{AreUnitsOf, TookText, TookPrefix}
-use Rattle.stk_declare_laws.specs.Orderly.{AreOrderly}
-use Rattle.stk_declare_laws.proofs.Kept.{units_keep_order}
+use Rattle.stk_type_laws.specs.Orderly.{AreOrderly}
+use Rattle.stk_type_laws.proofs.Kept.{units_keep_order}
 use Rattle.stk_unit_lines.proofs.Typed.{stays_orderly}
 use Rattle.stk_unit_lines.proofs.Counted.{AreAtMost, unit_most}
 use Rattle.stk_lint.specs.Form.{written_summary}
@@ -104,7 +104,8 @@ most_sum n m k c d h p q = record {
 
 -- ---- the units so far
 
--- The units before the i-th are written and leave these names in force, and each text of those behind it makes a text of all.
+-- The units before the i-th are written and leave these names in force, and each text of those behind it makes a text
+-- of all.
 pub record AreSoFar (bytes : List ℕ) (o : Options) (tokens : List Token) (pieces : List Piece) (i : ℕ) (before after : Option (List ℕ)) (counts : Counts) (now : List NameEntry) : Type 0 where
   pub at : ℕ
   pub joined : AreJoined at (length tokens) (drop i pieces)

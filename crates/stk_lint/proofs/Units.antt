@@ -3,12 +3,12 @@ use Rattle.std.proofs.Common.{ℕ, ◌-◌, ◌<◌, ◌≤◌, Bool, List, [], 
 use Rattle.std.proofs.lemmas.List.{length-drop, length-take}
 use Rattle.stk_ctype.specs.declared.symbol.NameEntry.{NameEntry}
 use Rattle.stk_lex.specs.declared.token.Token.{Token}
-use Rattle.stk_units.specs.declared.cutting.Piece.{Piece}
-use Rattle.stk_units.specs.Units.{AreJoined}
-use Rattle.stk_options.specs.declared.options.Options.{Options}
-use Rattle.stk_lines.specs.declared.counts.Counts.{Counts}
-use Rattle.stk_lines.specs.Counts.{nothing_counted, counts_sum}
-use Rattle.stk_declare_laws.specs.Orderly.{AreOrderly}
+use Rattle.stk_lex.specs.declared.cutting.Piece.{Piece}
+use Rattle.stk_lex.specs.Units.{AreJoined}
+use Rattle.stk_records.specs.declared.options.Options.{Options}
+use Rattle.stk_records.specs.declared.counts.Counts.{Counts}
+use Rattle.stk_records.specs.Counts.{nothing_counted, counts_sum}
+use Rattle.stk_type_laws.specs.Orderly.{AreOrderly}
 use Rattle.stk_unit_lines.proofs.Exists.{lines_of_unit, left_orderly}
 use Rattle.stk_lint.specs.Form.{written_lines}
 use Rattle.stk_lint.specs.LawfulText.{AreUnitTexts, IsUnitText, body_of_piece, no_unit, then_unit, tokens_of_piece}

@@ -1,11 +1,11 @@
 -- The two forms of records: texts for people, and JSON objects.
 use Rattle.std.specs.Prelude.{ℕ, Bool, if◌then◌else◌, List, [], ◌∷◌, ◌++◌}
 use Rattle.stk_numbers.specs.declared.conditions.Kinds.{Kinds}
-use Rattle.stk_lines.specs.declared.counts.Counts.{Counts}
-use Rattle.stk_lines.specs.declared.line.Line.{Line}
-use Rattle.stk_lines.specs.declared.line.Line.TheVariants.{Summary}
-use Rattle.stk_lines.specs.Text.{line_text}
-use Rattle.stk_json_lines.specs.Json.{json_text}
+use Rattle.stk_records.specs.declared.counts.Counts.{Counts}
+use Rattle.stk_records.specs.declared.line.Line.{Line}
+use Rattle.stk_records.specs.declared.line.Line.TheVariants.{Summary}
+use Rattle.stk_records.specs.Text.{line_text}
+use Rattle.stk_records.specs.Json.{json_text}
 
 -- a line as JSON, or as a text
 abbrev pub written_line : Bool → Line → List ℕ

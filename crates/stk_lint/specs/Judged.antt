@@ -1,11 +1,11 @@
 -- What a sink takes of units.
 use Rattle.std.specs.Prelude.{ℕ, Bool, List, [], Option}
 use Rattle.stk_lex.specs.declared.token.Token.{Token}
-use Rattle.stk_units.specs.declared.cutting.Piece.{Piece}
+use Rattle.stk_lex.specs.declared.cutting.Piece.{Piece}
 use Rattle.stk_base.specs.Streams.{Appended, AppendedPrefix}
 use Rattle.stk_ctype.specs.declared.symbol.NameEntry.{NameEntry}
-use Rattle.stk_options.specs.declared.options.Options.{Options}
-use Rattle.stk_lines.specs.declared.counts.Counts.{Counts}
+use Rattle.stk_records.specs.declared.options.Options.{Options}
+use Rattle.stk_records.specs.declared.counts.Counts.{Counts}
 use Rattle.stk_lint.specs.LawfulText.{IsUnitText, AreUnitTexts}
 
 -- a sink took what is written of a unit, which leaves these names

@@ -1,19 +1,19 @@
--- Which texts and statuses are lawful for the bytes of an input and the options of a run. The input is cut into its units; a tree stands for a unit
--- by printing its tokens, so nothing here speaks of how a unit is read.
+-- Which texts and statuses are lawful for the bytes of an input and the options of a run. The input is cut into its
+-- units; a tree stands for a unit by printing its tokens, so nothing here speaks of how a unit is read.
 use Rattle.std.specs.Prelude.{◌≡◌, ℕ, ◌-◌, Bool, List, [], ◌∷◌, ◌++◌, take, drop, zero, suc, Option}
 use Rattle.std.specs.Option.{option_map}
 use Rattle.stk_base.specs.declared.status.Status.{Status}
 use Rattle.stk_base.specs.declared.status.Status.TheVariants.{Stable, Found, Unsure}
 use Rattle.stk_lex.specs.declared.token.Token.{Token}
 use Rattle.stk_lex.specs.Cut.{IsCut}
-use Rattle.stk_units.specs.declared.cutting.Piece.{Piece}
-use Rattle.stk_units.specs.Skimming.{kept_tokens, notes_of}
-use Rattle.stk_units.specs.Units.{units_of}
+use Rattle.stk_lex.specs.declared.cutting.Piece.{Piece}
+use Rattle.stk_lex.specs.Skimming.{kept_tokens, notes_of}
+use Rattle.stk_lex.specs.Units.{units_of}
 use Rattle.stk_ctype.specs.declared.symbol.NameEntry.{NameEntry}
-use Rattle.stk_options.specs.declared.options.Options.{Options}
-use Rattle.stk_lines.specs.declared.counts.Counts.{Counts}
-use Rattle.stk_lines.specs.declared.line.Line.{Line}
-use Rattle.stk_lines.specs.Counts.{nothing_counted, counts_sum}
+use Rattle.stk_records.specs.declared.options.Options.{Options}
+use Rattle.stk_records.specs.declared.counts.Counts.{Counts}
+use Rattle.stk_records.specs.declared.line.Line.{Line}
+use Rattle.stk_records.specs.Counts.{nothing_counted, counts_sum}
 use Rattle.stk_unit_lines.specs.UnitLines.{IsUnitLines}
 use Rattle.stk_lint.specs.Form.{written_lines, written_summary}
 
@@ -23,7 +23,8 @@ status_of zero zero = Stable
 status_of zero (suc m) = Unsure
 status_of (suc n) m = Found
 
--- what is written of a unit of these tokens, what it counts for, and the names that it leaves in force, where these are in force before it: lawful lines in the form that the options ask for
+-- what is written of a unit of these tokens, what it counts for, and the names that it leaves in force, where these are
+-- in force before it: lawful lines in the form that the options ask for
 pub record IsUnitText (bytes : List ℕ) (o : Options) (mark : Bool) (es : List NameEntry) (body : Option ℕ) (tokens : List Token) (text : List ℕ) (counts : Counts) (now : List NameEntry) : Type 0 where
   pub lines : List Line
   pub are : IsUnitLines bytes o.without mark es body tokens lines counts now
@@ -37,7 +38,8 @@ tokens_of_piece tokens p = take (p.to - p.from) (drop p.from tokens)
 abbrev pub body_of_piece : Piece → Option ℕ
 body_of_piece p = option_map (λ at. at - p.from) p.body
 
--- what is written of units, one after the other, each under the names that those before it leave, and their counts together
+-- what is written of units, one after the other, each under the names that those before it leave, and their counts
+-- together
 pub data AreUnitTexts (bytes : List ℕ) (o : Options) (tokens : List Token) : List NameEntry → List Piece → List ℕ → Counts → Type 0 where
   no_unit : {es : List NameEntry} → AreUnitTexts bytes o tokens es [] [] nothing_counted
   then_unit : {es now : List NameEntry} {p : Piece} {ps : List Piece} {text others : List ℕ} {counts more : Counts} → IsUnitText bytes o p.no_return es (body_of_piece p) (tokens_of_piece tokens p) text counts now
@@ -45,8 +47,8 @@ pub data AreUnitTexts (bytes : List ℕ) (o : Options) (tokens : List Token) : L
 
 -- ---- the text
 
--- A lawful text of these bytes under these options, and the status that goes with it: what is written of each unit of the bytes, in order, with no
--- names in force before the first, and then the summary with their counts.
+-- A lawful text of these bytes under these options, and the status that goes with it: what is written of each unit of
+-- the bytes, in order, with no names in force before the first, and then the summary with their counts.
 pub record IsLawfulText (bytes : List ℕ) (o : Options) (text : List ℕ) (status : Status) : Type 0 where
   pub tokens : List Token
   pub cut : IsCut bytes tokens

@@ -5,12 +5,12 @@ use Rattle.stk_base.specs.declared.status.Status.TheVariants.{Stable, Found, Uns
 use Rattle.stk_base.specs.Streams.{Appended, AppendedPrefix, IsFlushed}
 use Rattle.stk_lex.specs.declared.token.Token.{Token}
 use Rattle.stk_lex.specs.Cut.{IsCut, AreSpans}
-use Rattle.stk_units.specs.declared.skimming.Skimmed.{Skimmed}
-use Rattle.stk_units.specs.declared.cutting.Piece.{Piece}
-use Rattle.stk_units.specs.Skimming.{kept_tokens, notes_of, ArePositions}
-use Rattle.stk_units.specs.Units.{units_of}
-use Rattle.stk_options.specs.declared.options.Options.{Options}
-use Rattle.stk_options.specs.Words.{AreLegal}
+use Rattle.stk_lex.specs.declared.skimming.Skimmed.{Skimmed}
+use Rattle.stk_lex.specs.declared.cutting.Piece.{Piece}
+use Rattle.stk_lex.specs.Skimming.{kept_tokens, notes_of, ArePositions}
+use Rattle.stk_lex.specs.Units.{units_of}
+use Rattle.stk_records.specs.declared.options.Options.{Options}
+use Rattle.stk_records.specs.Words.{AreLegal}
 use Rattle.stk_lint.specs.declared.lint.Stop.{Stop}
 use Rattle.stk_lint.specs.declared.lint.Stop.TheVariants as stops
 use Rattle.stk_lint.specs.LawfulText.{IsLawfulText}
@@ -45,8 +45,8 @@ pub record IsLegal (words : List (List ℕ)) : Type 0 where
   pub options : Options
   pub are : AreLegal words options
 
--- The source was read to its end, and the sink took a text that is lawful for its bytes and the options that the words ask for, with this status, and was
--- flushed. The bytes are those that the source had left, where it tells them.
+-- The source was read to its end, and the sink took a text that is lawful for its bytes and the options that the words
+-- ask for, with this status, and was flushed. The bytes are those that the source had left, where it tells them.
 pub record HasWritten (words : List (List ℕ)) (left_before left_after taken_before taken_after : Option (List ℕ)) (flushed : ℕ) (status : Status) : Type 0 where
   pub options : Options
   pub legal : AreLegal words options

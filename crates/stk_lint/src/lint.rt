@@ -5,8 +5,8 @@ ghost use Rattle.std.specs.String.{string_bytes};
 ghost use Rattle.stk_base.specs.Limits.{most_bytes};
 ghost use Rattle.stk_base.specs.Causes.{Rose, HasCause};
 ghost use Rattle.stk_base.specs.Streams.{Came, Appended, AppendedPrefix, IsFlushed};
-ghost use Rattle.stk_units.specs.Units.{AreJoined};
-ghost use Rattle.stk_declare_laws.specs.Orderly.{AreOrderly};
+ghost use Rattle.stk_lex.specs.Units.{AreJoined};
+ghost use Rattle.stk_type_laws.specs.Orderly.{AreOrderly};
 ghost use Rattle.stk_lint.specs.Form.{written_summary};
 ghost use Rattle.stk_lint.specs.LawfulText.{body_of_piece, status_of, tokens_of_piece};
 ghost use Rattle.stk_lint.specs.Judged.{WroteUnit, WroteUnitPrefix, WroteUnits, WroteUnitsPrefix};
@@ -18,10 +18,8 @@ use stk_base::{
     Failed, List, MOST_BYTES, NoMemory, ReadAll, Sink, Source, Status, read_all, write_all,
 };
 use stk_ctype::Names;
-use stk_lex::{Places, Token, lex};
-use stk_lines::Counts;
-use stk_options::{Options, WordsFault, words as options_of};
-use stk_units::{Piece, Skimmed, cut, skim};
+use stk_lex::{Piece, Places, Skimmed, Token, cut, lex, skim};
+use stk_records::{Counts, Options, WordsFault, words as options_of};
 
 // The status of a refusal to read.
 fn refused(refusal: ReadAll) -> Status
@@ -319,18 +317,18 @@ fn tell<E: Sink>(fault: &mut E, status: Status)
     let _ = write_all(fault, fault_line(status));
 }
 
-/// Reads C from a source, writes the records of what is unstable in it to a sink, and flushes them; tells of a failure on
-/// a third sink. The words ask for options: `--json`, `--budget N` and `--without LIST` (stk_options). The answer says how it ended:
+/// Reads C from a source, writes the records of what is unstable in it to a sink, and flushes them; tells of a failure
+/// on a third sink. The words ask for options: `--json`, `--budget N` and `--without LIST` (stk_records). The answer
+/// says how it ended:
 ///
-/// - `Stable`, `Found` and `Unsure`: the source was read to its end, and the sink took a text that is lawful for its bytes and the
-///   options, and was flushed; `Found` where at least one candidate is unstable, `Unsure` where none is and at least one is undecided.
-///   What is written of a unit is written as soon as the unit has been judged.
+/// - `Stable`, `Found` and `Unsure`: the source was read to its end, and the sink took a text that is lawful for its
+///   bytes and the options, and was flushed; `Found` where at least one candidate is unstable, `Unsure` where none is
+///   and at least one is undecided.
 /// - `BadWords`: exactly where the words aren't legal. The source is unread.
 /// - `ReadFault`: only where the source counted a fault, and after every other answer it counted none.
 /// - `TooLarge`: exactly where more than 16,777,216 bytes came before the end and before any failed call.
 /// - `WriteFault`: only where the sink counted a fault. It took some prefix of a lawful text.
-/// - `NoMemory`: an allocation was refused, which may come anywhere. The sink took nothing, or some prefix of a lawful
-///   text.
+/// - `NoMemory`: no clause says when it comes. The sink took nothing, or some prefix of a lawful text.
 ///
 /// After `BadWords`, `ReadFault` and `TooLarge` the sink took nothing. Where the third sink counted no fault, it took
 /// exactly the line of the failure, and nothing where the records are written; a fault of it changes nothing else.

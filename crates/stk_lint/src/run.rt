@@ -25,10 +25,9 @@ fn words_of<R: Env + AllocGlobal>(rt: &R) -> Result<Vec<String>, Status> {
     Ok(words)
 }
 
-/// Runs the checker on the words of the command line: C comes from `input`, records go to `output` through a buffer, and
-/// what failed is told on `errors`. The answer is that of the top call; it is `BadWords` also where a word isn't
-/// UTF-8, and `NoMemory` also where the words or the buffer find no memory. What was written before memory ran out is
-/// flushed.
+/// Runs the checker on the words of the command line: C comes from `input`, records go to `output` through a buffer,
+/// and what failed is told on `errors`. The answer is that of the top call; it is `BadWords` also where a word isn't
+/// UTF-8, and `NoMemory` may come before anything is read. What was written before `NoMemory` is flushed.
 pub fn run_checker<R: Env + AllocGlobal, I: Read + Drop, O: Write + Drop, E: Write + Drop>(
     rt: &R,
     input: I,

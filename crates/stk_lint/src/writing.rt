@@ -2,17 +2,15 @@
 
 ghost use Rattle.std.specs.Prelude.{◌≡◌, ◌≤◌, ◌<◌, ◌++◌, length, IfOk, OnOk};
 ghost use Rattle.stk_base.specs.Limits.{most_bytes};
-ghost use Rattle.stk_declare_laws.specs.Orderly.{AreOrderly};
+ghost use Rattle.stk_type_laws.specs.Orderly.{AreOrderly};
 ghost use Rattle.stk_lint.specs.Form.{written_line, written_lines, written_summary};
 ghost use Rattle.stk_lint.specs.LawfulText.{IsUnitText};
 
 use std::alloc::Global;
 use stk_base::NoMemory;
 use stk_ctype::Names;
-use stk_json_lines::add_json_line;
 use stk_lex::{Places, Token};
-use stk_lines::{Counts, Line, add_line};
-use stk_options::Options;
+use stk_records::{Counts, Line, Options, add_json_line, add_line};
 use stk_unit_lines::unit_lines;
 
 /// What is written of a unit, and what it counts for.
@@ -44,7 +42,7 @@ fn text_of(alloc: Global, json: bool, lines: &[Line]) -> Result<Vec<u8>, NoMemor
     Ok(text)
 }
 
-/// The text of the summary. The only refusal is want of memory.
+/// The text of the summary.
 pub(crate) fn summary_text(
     alloc: Global,
     options: Options,
@@ -61,9 +59,9 @@ pub(crate) fn summary_text(
     Ok(text)
 }
 
-/// What is written of a unit of these tokens, of which there is at least one: its lines in the form that the options ask for. The names are those that
-/// the unit leaves in force; `body` says how many of its tokens stand before a body, and `mark` that it is marked as one of functions that don't
-/// return. The only refusal is want of memory.
+/// What is written of a unit of these tokens, of which there is at least one: its lines in the form that the options
+/// ask for. The names are those that the unit leaves in force; `body` says how many of its tokens stand before a body,
+/// and `mark` that it is marked as one of functions that don't return.
 pub(crate) fn unit_text(
     alloc: Global,
     input: &Places,

@@ -1,4 +1,5 @@
--- Laws of quotients and remainders: a quotient is truncated towards zero, a remainder fits it, and both are exact where no condition is violated.
+-- Laws of quotients and remainders: a quotient is truncated towards zero, a remainder fits it, and both are exact where
+-- no condition is violated.
 use Rattle.std.proofs.Common.{◌≡◌, ℕ, zero, suc, ◌/◌, ◌%◌, ◌<◌, ◌≤◌, true, false, ◌&&◌, ℤ, pos, negsuc, ◌+ℤ◌, ◌-ℤ◌, ◌*ℤ◌, neg_ℤ, ◌≤ℤ◌, refl, sym, ap, ◌∙◌, arith, if◌then◌else◌}
 use Rattle.std.specs.Prelude.{int_le, int_div, int_rem, unsigned_abs}
 use Rattle.std.specs.Ordering.{int_eq}

@@ -6,3 +6,7 @@ pub mod Dividing
 pub mod Division
 pub mod Ranges
 pub mod Laws
+mod Quotes
+pub mod Enough
+mod Reading
+mod Spelling

@@ -1,4 +1,5 @@
--- The values of remainders, right shifts and absolute values are in the range of their kind; a quotient that overflows is not.
+-- The values of remainders, right shifts and absolute values are in the range of their kind; a quotient that overflows
+-- is not.
 use Rattle.std.proofs.Common.{◌≡◌, ℕ, zero, suc, ◌/◌, ◌%◌, ◌^◌, ◌≤◌, Bool, true, false, ◌&&◌, ℤ, pos, negsuc, ◌-ℤ◌, ◌*ℤ◌, ◌+ℤ◌, neg_ℤ, ◌≤ℤ◌, refl, ap, ◌∙◌, arith, if◌then◌else◌}
 use Rattle.std.specs.Prelude.{int_lt, int_div, int_rem, unsigned_abs}
 use Rattle.std.specs.Int.{int_div_euclid}

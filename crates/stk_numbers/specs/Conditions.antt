@@ -11,7 +11,8 @@ use Rattle.stk_numbers.specs.declared.conditions.UbKind.TheVariants as ub
 use Rattle.stk_numbers.specs.Kinds.{is_signed, least, fits}
 use Rattle.stk_numbers.specs.Values.{exact, exact_move}
 
--- whether a signed result leaves the range (C11 6.5p5): the exact sum, difference or product, or the least number divided by -1
+-- whether a signed result leaves the range (C11 6.5p5): the exact sum, difference or product, or the least number
+-- divided by -1
 abbrev pub overflows : ArithOp → IntKind → ℤ → ℤ → Bool
 overflows Add k x y = not (fits k (exact Add k x y))
 overflows Sub k x y = not (fits k (exact Sub k x y))
@@ -33,7 +34,8 @@ divides And = false
 divides Xor = false
 divides Or = false
 
--- whether an operator in a kind violates a condition: overflow of signed kinds, division by 0 (C11 6.5.5p5, p6); an operator has no other
+-- whether an operator in a kind violates a condition: overflow of signed kinds, division by 0 (C11 6.5.5p5, p6); an
+-- operator has no other
 abbrev pub violates : UbKind → ArithOp → IntKind → ℤ → ℤ → Bool
 violates ub.Overflow op k x y = is_signed k && overflows op k x y
 violates ub.Zero op k x y = divides op && int_eq y (pos 0)

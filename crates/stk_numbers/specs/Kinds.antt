@@ -72,7 +72,8 @@ abbrev pub decoded : Bool → ℕ → ℕ → ℤ
 decoded false w n = pos n
 decoded true w n = if nat_lt n (2 ^ (w - 1)) then pos n else pos n -ℤ pos (2 ^ w)
 
--- a number converted to a kind: for `_Bool` whether it isn't 0 (C11 6.3.1.2), else the number of the kind's range that is congruent modulo 2 to the width (C11 6.3.1.3, and so for signed kinds in this profile)
+-- a number converted to a kind: for `_Bool` whether it isn't 0 (C11 6.3.1.2), else the number of the kind's range that
+-- is congruent modulo 2 to the width (C11 6.3.1.3, and so for signed kinds in this profile)
 abbrev pub wrap : IntKind → ℤ → ℤ
 wrap k z = if is_bool k then (if int_eq z (pos 0) then pos 0 else pos 1) else decoded (is_signed k) (width_of k) (residue (width_of k) z)
 
@@ -110,7 +111,9 @@ unsigned_of kind.ULong = kind.ULong
 unsigned_of kind.LLong = kind.ULLong
 unsigned_of kind.ULLong = kind.ULLong
 
--- the common kind of an unsigned kind and a signed one (C11 6.3.1.8): the unsigned one where its rank is at least that of the other; else the signed one where its range holds the whole range of the other; else the unsigned kind of its rank
+-- the common kind of an unsigned kind and a signed one (C11 6.3.1.8): the unsigned one where its rank is at least that
+-- of the other; else the signed one where its range holds the whole range of the other; else the unsigned kind of its
+-- rank
 abbrev pub mixed : IntKind → IntKind → IntKind
 mixed u s = if nat_le (rank s) (rank u) then u else (if int_le (greatest u) (greatest s) then s else unsigned_of s)
 

@@ -3,3 +3,7 @@ pub mod Taken
 pub mod Values
 pub mod Conditions
 pub mod Suffixes
+pub mod Digits
+pub mod Integers
+pub mod Characters
+pub mod Strings

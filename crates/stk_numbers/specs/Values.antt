@@ -1,4 +1,5 @@
--- The value of each operation of C on whole numbers, also where its behaviour is undefined: the run goes on with the wrapped number.
+-- The value of each operation of C on whole numbers, also where its behaviour is undefined: the run goes on with the
+-- wrapped number.
 use Rattle.std.specs.Prelude.{ℕ, ◌^◌, Bool, true, false, not, ℤ, pos, negsuc, ◌+ℤ◌, ◌-ℤ◌, ◌*ℤ◌, int_lt, if◌then◌else◌, ◌||◌, bit_and, bit_or, bit_xor}
 use Rattle.std.specs.Int.{int_div_euclid}
 use Rattle.std.specs.Int.RustNames.{int_le, int_div, int_rem, unsigned_abs}
@@ -17,7 +18,8 @@ use Rattle.stk_numbers.specs.Kinds.{width_of, residue, wrap}
 abbrev pub bits_of : IntKind → ℤ → ℕ
 bits_of k z = residue (width_of k) z
 
--- the exact result of an operator (C11 6.5.5, 6.5.6, 6.5.10 to 6.5.12): a quotient is truncated towards zero, and a remainder fits it; `x / 0` is 0 and `x % 0` is x
+-- the exact result of an operator (C11 6.5.5, 6.5.6, 6.5.10 to 6.5.12): a quotient is truncated towards zero, and a
+-- remainder fits it; `x / 0` is 0 and `x % 0` is x
 abbrev pub exact : ArithOp → IntKind → ℤ → ℤ → ℤ
 exact Add k x y = x +ℤ y
 exact Sub k x y = x -ℤ y
@@ -36,7 +38,8 @@ arith op k x y = wrap k (exact op k x y)
 abbrev pub is_oversized : IntKind → ℤ → Bool
 is_oversized k count = int_lt count (pos 0) || int_le (pos (width_of k)) count
 
--- the value of a shift by a count that isn't oversized: times 2 to the count, or divided by it and rounded down (C11 6.5.7)
+-- the value of a shift by a count that isn't oversized: times 2 to the count, or divided by it and rounded down (C11
+-- 6.5.7)
 abbrev pub shifted_by : ShiftOp → IntKind → ℤ → ℕ → ℤ
 shifted_by Left k x n = wrap k (x *ℤ pos (2 ^ n))
 shifted_by Right k x n = int_div_euclid x (pos (2 ^ n))

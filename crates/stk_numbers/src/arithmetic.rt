@@ -33,7 +33,8 @@ fn difference(kind: IntKind, left: i128, right: i128) -> i128
     wrap(kind, left - right)
 }
 
-/// The value of a product. The exact product of two numbers of an unsigned kind may be too large for `i128`, and fits `u128`.
+/// The value of a product. The exact product of two numbers of an unsigned kind may be too large for `i128`, and fits
+/// `u128`.
 fn product(kind: IntKind, left: i128, right: i128) -> i128
     requires left { IsTrue (fits kind left) }
     requires right { IsTrue (fits kind right) }
@@ -81,9 +82,9 @@ fn remainder(kind: IntKind, left: i128, right: i128) -> i128
     wrap(kind, left % right)
 }
 
-/// The value of an operator on two numbers of a kind, as C11 6.5 says, and where that is undefined the number of the kind that
-/// is congruent to the exact result: `x / 0` is 0, `x % 0` is x, and the least number divided by -1 is itself. That holds of the
-/// product of two numbers of `unsigned long` too, which may be too large for `i128`.
+/// The value of an operator on two numbers of a kind, as C11 6.5 says, and where that is undefined the number of the
+/// kind that is congruent to the exact result: `x / 0` is 0, `x % 0` is x, and the least number divided by -1 is
+/// itself. That holds of the product of two numbers of `unsigned long` too, which may be too large for `i128`.
 pub fn arith(op: ArithOp, kind: IntKind, left: i128, right: i128) -> i128
     requires left { IsTrue (fits kind left) }
     requires right { IsTrue (fits kind right) }

@@ -4,8 +4,8 @@ ghost use Rattle.stk_numbers.specs.Taken.{is_taken, number_of};
 
 use stk_base::List;
 
-/// A kind of undefined behaviour, in the order of their numbers from 1 to 8: signed overflow, division by zero, oversized
-/// shift, null dereference, pointer overflow, index out of bounds, absolute value overflow, overlapping copy.
+/// A kind of undefined behaviour, in the order of their numbers from 1 to 8: signed overflow, division by zero,
+/// oversized shift, null dereference, pointer overflow, index out of bounds, absolute value overflow, overlapping copy.
 #[derive(Clone, Copy, Debug, PartialEq, Eq)]
 pub enum UbKind {
     Overflow,
@@ -25,8 +25,8 @@ pub struct Condition {
     pub kind: UbKind,
 }
 
-/// What a candidate fragment may be found to be: code that is never entered, a test that is always true or always false, a
-/// comparison that is the same as its replacement.
+/// What a candidate fragment may be found to be: code that is never entered, a test that is always true or always
+/// false, a comparison that is the same as its replacement.
 #[derive(Clone, Copy, Debug, PartialEq, Eq)]
 pub enum CandKind {
     Arm,

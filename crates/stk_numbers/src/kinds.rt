@@ -114,8 +114,8 @@ fn is_bool(kind: IntKind) -> bool
     }
 }
 
-/// A number converted to a kind: the number of its range that is congruent modulo 2 to the width, and for `_Bool` 0 for 0 and
-/// else 1 (C11 6.3.1.2, 6.3.1.3).
+/// A number converted to a kind: the number of its range that is congruent modulo 2 to the width, and for `_Bool` 0 for
+/// 0 and else 1 (C11 6.3.1.2, 6.3.1.3).
 pub fn wrap(kind: IntKind, number: i128) -> i128
     ensures { result ≡ wrap kind number }
 {

@@ -46,8 +46,8 @@ pub fn breaks_move(base: u64, step: i128, size: u64, minus: bool) -> bool
     !fits(IntKind::ULong, exact_move(base, step, size, minus))
 }
 
-/// How many elements of a size, in bytes, one address is behind another, as a `long`: their difference converted to `long`,
-/// divided by the size and truncated towards zero (C11 6.5.6p9).
+/// How many elements of a size, in bytes, one address is behind another, as a `long`: their difference converted to
+/// `long`, divided by the size and truncated towards zero (C11 6.5.6p9).
 pub fn distance(left: u64, right: u64, size: u64) -> i128
     requires { 1 ≤ size }
     ensures { result ≡ distance left right size }
@@ -62,8 +62,8 @@ pub fn breaks_bounds(index: i128, count: u64) -> bool
     index < 0 || i128::from(count) <= index
 }
 
-/// Whether a copy of so many bytes from one address to another has undefined behaviour: the addresses are less than the count
-/// apart (C11 7.24.2.1).
+/// Whether a copy of so many bytes from one address to another has undefined behaviour: the addresses are less than the
+/// count apart (C11 7.24.2.1).
 pub fn breaks_copy(to: u64, from: u64, count: u64) -> bool
     ensures { result ≡ overlaps to from count }
 {

@@ -8,7 +8,8 @@ use crate::kinds::{width, wrap};
 use crate::operators::ShiftOp;
 use stk_ctype::IntKind;
 
-/// Whether a shift in a promoted kind has undefined behaviour: the count is below 0 or at least the width (C11 6.5.7p3).
+/// Whether a shift in a promoted kind has undefined behaviour: the count is below 0 or at least the width (C11
+/// 6.5.7p3).
 pub fn breaks_shift(kind: IntKind, count: i128) -> bool
     ensures { result ≡ is_oversized kind count }
 {
@@ -32,8 +33,9 @@ fn shifted_left(kind: IntKind, left: i128, count: u8) -> i128
     wrap(kind, left * power(count))
 }
 
-/// The value of a shift of a number of a kind (C11 6.5.7): the number of the kind that is congruent to the exact result, a
-/// right shift being rounded down. For an undefined count it is 0, and -1 for a right shift of a negative number.
+/// The value of a shift of a number of a kind (C11 6.5.7): the number of the kind that is congruent to the exact
+/// result, a right shift being rounded down. For an undefined count it is 0, and -1 for a right shift of a negative
+/// number.
 pub fn shifted(op: ShiftOp, kind: IntKind, left: i128, count: i128) -> i128
     requires { IsTrue (fits kind left) }
     ensures { result ≡ shifted op kind left count }

@@ -57,8 +57,8 @@ fn first_holding(kinds: &[IntKind], number: i128) -> Option<IntKind>
     None
 }
 
-/// The kind of an integer constant, which is decimal or else octal or hexadecimal: the first of its list that holds the number
-/// (C11 6.4.4.1p5). `None` exactly where no kind of the list does.
+/// The kind of an integer constant, which is decimal or else octal or hexadecimal: the first of its list that holds the
+/// number (C11 6.4.4.1p5). `None` exactly where no kind of the list does.
 pub fn constant_kind(decimal: bool, suffix: Suffix, number: u64) -> Option<IntKind>
     ensures { result ≡ constant_kind decimal suffix number }
 {

@@ -84,7 +84,8 @@ pub fn breaks(what: UbKind, op: ArithOp, kind: IntKind, left: i128, right: i128)
     }
 }
 
-/// Whether the absolute value of a number of a kind has undefined behaviour: it is the kind's least number (C11 7.22.6.1).
+/// Whether the absolute value of a number of a kind has undefined behaviour: it is the kind's least number (C11
+/// 7.22.6.1).
 pub fn breaks_abs(kind: IntKind, number: i128) -> bool
     ensures { result ≡ int_eq number (least kind) }
 {

@@ -1,1 +1,12 @@
+pub mod Slotted
+pub mod Placed
+pub mod Indexed
+pub mod Summed
+pub mod Far
+pub mod Rowed
+pub mod Numbered
+pub mod Forgotten
+pub mod Known
+pub mod Started
+pub mod Numbers
 pub mod Made

@@ -2,13 +2,13 @@
 use Rattle.std.proofs.Common.{◌≡◌, ℕ, List, length, replicate, ℤ, None, refl}
 use Rattle.stk_tree.specs.Syntax.{FunctionTree}
 use Rattle.stk_numbers.specs.declared.conditions.Kinds.{Kinds}
-use Rattle.stk_runs.specs.declared.entry.Entry.{Entry}
-use Rattle.stk_runs.specs.Typings.{Typing}
-use Rattle.stk_runs.specs.Places.{Setting}
-use Rattle.stk_runs.specs.Worlds.{trace_of}
-use Rattle.stk_runs.specs.Statements.{statement_run}
-use Rattle.stk_runs.specs.Keys.{KeyInfo, parameter_key, keys_of, setting_of, body_of}
-use Rattle.stk_runs.specs.Paths.{path_world, start_registers, number_under, path}
+use Rattle.stk_meaning.specs.declared.entry.Entry.{Entry}
+use Rattle.stk_meaning.specs.Typings.{Typing}
+use Rattle.stk_meaning.specs.Places.{Setting}
+use Rattle.stk_meaning.specs.Worlds.{trace_of}
+use Rattle.stk_meaning.specs.Statements.{statement_run}
+use Rattle.stk_meaning.specs.Keys.{KeyInfo, parameter_key, keys_of, setting_of, body_of}
+use Rattle.stk_meaning.specs.Paths.{path_world, start_registers, number_under, path}
 
 pub told : (ty : Typing) (without : Kinds) (f : FunctionTree) (g : Setting) (keys : List KeyInfo) (numbers r : List ℤ) (n : ℕ) (entries : List Entry) → g ≡ setting_of ty without f → keys ≡ keys_of ty without f
     → r ≡ start_registers g.typing f (λ k. number_under keys numbers (parameter_key k)) → n ≡ length g.kept

@@ -3,24 +3,24 @@
 ghost use Rattle.std.specs.Prelude.{◌≡◌, IfOk};
 ghost use Rattle.stk_tree.specs.View.{view_function};
 ghost use Rattle.stk_numbers.specs.declared.conditions.Kinds as kinds;
-ghost use Rattle.stk_runs.specs.Typings as typings;
-ghost use Rattle.stk_runs.specs.Keys.{body_of, keys_of, setting_of};
-ghost use Rattle.stk_runs.specs.Paths.{path};
-ghost use Rattle.stk_evaluating.specs.Loops.{EachLoop};
-ghost use Rattle.stk_settings.specs.Settings.{setting_in};
-ghost use Rattle.stk_loop_rows.specs.Rows.{Knows};
+ghost use Rattle.stk_meaning.specs.Typings as typings;
+ghost use Rattle.stk_meaning.specs.Keys.{body_of, keys_of, setting_of};
+ghost use Rattle.stk_meaning.specs.Paths.{path};
+ghost use Rattle.stk_eval_expr.specs.Loops.{EachLoop};
+ghost use Rattle.stk_function_env.specs.Settings.{setting_in};
+ghost use Rattle.stk_path_runs.specs.Rows.{Knows};
 
+use crate::starting::start_registers;
+use crate::{FunctionTables, MappedFunction};
 use std::alloc::Global;
 use stk_base::NoMemory;
-use stk_loop_rows::FunctionTables;
-use stk_operating::Word;
-use stk_path_setting::{MappedFunction, start_registers};
-use stk_running::run_body;
-use stk_runs::Entry;
+use stk_exec_stmt::run_body;
+use stk_meaning::Entry;
+use stk_operators::Word;
 use stk_tree::Function;
 
-/// The trace of the path run of a function for these numbers of its keys, in order: what it violates, enters and sees. The tables are
-/// those of the function, and know its loops. The only refusal is want of memory.
+/// The trace of the path run of a function for these numbers of its keys, in order: what it violates, enters and sees.
+/// The tables are those of the function, and know its loops.
 pub fn path_run(
     alloc: Global,
     tables: &FunctionTables,

@@ -1,5 +1,5 @@
-//! Whole files: functions of all forms, with loops, `switch`, calls that don't return, loads and `_Bool`. Their records were computed by a program that
-//! was written apart from this one, from the definitions.
+//! Whole files: functions of all forms, with loops, `switch`, calls that don't return, loads and `_Bool`. Their records
+//! were computed by a program that was written apart from this one, from the definitions.
 
 use crate::rows::{CALM, check};
 use std::alloc::Global;
@@ -39,8 +39,9 @@ fn each_file_has_its_records(rt: HostRuntime) -> Result<(), Fail> {
     Ok(())
 }
 
-/// Functions of 16 input bits: with a `switch` whose sections fall through, with a call that doesn't return, and with eight loads of `_Bool`. Which
-/// fragments are unstable, and their starts and conditions, were worked out by hand; the columns and the counts of candidates are what this program printed.
+/// Functions of 16 input bits: with a `switch` whose sections fall through, with a call that doesn't return, and with
+/// eight loads of `_Bool`. Which fragments are unstable, and their starts and conditions, were worked out by hand; the
+/// columns and the counts of candidates are what this program printed.
 static WIDE: [(&str, &str); 3] = [
     (
         "int f(unsigned char x, unsigned char y) { int q = 0; switch (x) { case 0: q = 1 / y; case 300: if (y == 0) return 1; } return q; }",

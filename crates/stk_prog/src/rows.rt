@@ -276,7 +276,7 @@ fn failing(alloc: Global, call: Option<u64>) -> Result<Vec<u64>, Fail> {
 }
 
 /// Runs the top call, and compares its status and what the sinks took.
-pub fn check(
+pub(crate) fn check(
     alloc: Global,
     rt: &impl Abort,
     outside: &Outside,
@@ -378,7 +378,7 @@ pub const UNREAD: &[u8] = b"stack: the input cannot be read\n";
 pub const UNWRITTEN: &[u8] = b"stack: the output cannot be written\n";
 
 /// How the outside behaves.
-pub fn of_outside(
+pub(crate) fn of_outside(
     words: &'static [&'static str],
     most: usize,
     source_fails: Option<u64>,

@@ -62,8 +62,9 @@ fn of_quotients(alloc: Global, quotients: usize, empty: usize) -> Result<Vec<u8>
     Ok(input)
 }
 
-// A quotient's statement has 9 nodes, each of which weighs 128, and 2048 for `^`, 132096 for `/` and 2048 for `=`; the rest has 12
-// nodes and 2048 for the initialiser. So 58 quotients weigh 7969536, and 238 empty statements with them 8000000.
+// A quotient's statement has 9 nodes, each of which weighs 128, and 2048 for `^`, 132096 for `/` and 2048 for `=`; the
+// rest has 12 nodes and 2048 for the initialiser. So 58 quotients weigh 7969536, and 238 empty statements with them
+// 8000000.
 #[test]
 fn a_function_weighs_at_most_8000000(rt: HostRuntime) -> Result<(), Fail> {
     let judged = b"1 functions, 0 candidates, 0 unstable, 0 undecided, 0 skipped\n";

@@ -6,7 +6,7 @@ use Rattle.stk_clauses.specs.Literals.{negated}
 use Rattle.stk_clauses.specs.Propagation.{IsQuiet}
 use Rattle.stk_clauses.proofs.Values.{lit_cases}
 use Rattle.stk_clauses.proofs.Members.{contains_cases, contains_head, contains_tail, contains_split}
-use Rattle.stk_assignment.specs.Assigned.{Assigned}
+use Rattle.stk_propagate.specs.Assigned.{Assigned}
 use Rattle.stk_propagate.specs.Trailed.{IsAssumed}
 use Rattle.stk_propagate.specs.Fitting.{IsSettled, IsAlive, IsTimely}
 use Rattle.stk_propagate.proofs.Lists.{in_take}

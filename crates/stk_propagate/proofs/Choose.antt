@@ -8,8 +8,8 @@ use Rattle.stk_clauses.specs.Literals.{negated, AreDistinct}
 use Rattle.stk_clauses.specs.Propagation.{HasNoPair}
 use Rattle.stk_clauses.proofs.Values.{lit_cases}
 use Rattle.stk_clauses.proofs.Members.{contains_head, contains_tail}
-use Rattle.stk_assignment.specs.Assigned.{AreFresh}
-use Rattle.stk_assignment.proofs.Dropping.{one_place}
+use Rattle.stk_propagate.specs.Assigned.{AreFresh}
+use Rattle.stk_propagate.proofs.Dropping.{one_place}
 use Rattle.stk_propagate.specs.Fitting.{IsSettled, IsWatched, IsCalm}
 use Rattle.stk_propagate.specs.Choosing.{IsFalseFrom, IsNotLater}
 use Rattle.stk_propagate.proofs.Lists.{in_take}
@@ -72,7 +72,8 @@ module _ (t c : List Lit) (i : ℕ) (but : Option Lit) (best d : Lit) (when at :
     later = later_more t c but (get_or c i d) i d lt (later_other t (take i c) but best (get_or c i d) old.later (not_later t best (get_or c i d) when at old.since f (omega arith))) (λ n. λ k h x. x);
   }
 
--- at an assumption where the clause was settled, the two literals that became false last are calm, where the last isn't false
+-- at an assumption where the clause was settled, the two literals that became false last are calm, where the last isn't
+-- false
 pub calm_before : (t c : List Lit) (a b : Lit) (k : ℕ) → AreFresh t → HasNoPair t → k ≤ length t → Contains c a → (Contains t (negated a) → ⊥) → AreNotLater t c (Some a) b → IsSettled (take k t) c → IsCalm (take k t) (take k t) c (Some (a, b))
 calm_before t c a b k s ok le ca na later settled = ((λ h. absurd (na (in_take t k (negated a) h))), (λ h. at settled h))
   where

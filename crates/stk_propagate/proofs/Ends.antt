@@ -8,8 +8,8 @@ use Rattle.stk_clauses.specs.declared.literal.Lit.{Lit}
 use Rattle.stk_clauses.specs.Literals.{negated}
 use Rattle.stk_clauses.specs.Propagation.{Forced, Falsifies, IsQuiet, AreQuiet, AllFalse, HasNoPair}
 use Rattle.stk_clauses.proofs.Units.{forced_in}
-use Rattle.stk_assignment.specs.Assigned.{Assigned, IsAssigned, AreFresh}
-use Rattle.stk_assignment.proofs.Dropping.{one_place}
+use Rattle.stk_propagate.specs.Assigned.{Assigned, IsAssigned, AreFresh}
+use Rattle.stk_propagate.proofs.Dropping.{one_place}
 use Rattle.stk_propagate.specs.Trailed.{Trailed, IsGrown}
 use Rattle.stk_propagate.specs.Fitting.{Fits, AreReasons, IsCalm}
 use Rattle.stk_propagate.proofs.Lists.{no_pair}

@@ -8,7 +8,7 @@ use Rattle.stk_clauses.specs.declared.literal.Lit.{Lit}
 use Rattle.stk_clauses.specs.Literals.{negated, AreBelow}
 use Rattle.stk_clauses.specs.Propagation.{AreQuiet}
 use Rattle.stk_clauses.proofs.Values.{negated-negated, negated-other}
-use Rattle.stk_assignment.specs.Assigned.{Assigned}
+use Rattle.stk_propagate.specs.Assigned.{Assigned}
 use Rattle.stk_propagate.specs.Trailed.{Trailed, IsAssumed}
 use Rattle.stk_propagate.specs.Fitting.{IsReason, AreReasons, IsSettled, IsWatched, IsCalm, Fits}
 use Rattle.stk_propagate.proofs.Calm.{calm_more}

@@ -8,7 +8,7 @@ use Rattle.stk_clauses.specs.declared.literal.Lit.{Lit}
 use Rattle.stk_clauses.specs.Literals.{negated}
 use Rattle.stk_clauses.specs.Propagation.{Forced, assumed, unit, AreQuiet}
 use Rattle.stk_clauses.proofs.Units.{forced_in}
-use Rattle.stk_assignment.specs.Assigned.{Assigned, AreFresh}
+use Rattle.stk_propagate.specs.Assigned.{Assigned, AreFresh}
 use Rattle.stk_propagate.specs.Trailed.{IsGrown}
 use Rattle.stk_propagate.specs.Fitting.{AreReasons}
 use Rattle.stk_propagate.proofs.Lists.{no_pair}

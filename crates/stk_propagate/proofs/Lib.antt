@@ -1,3 +1,9 @@
+pub mod Pushing
+pub mod Dropping
+pub mod Numbers
+pub mod Following
+pub mod Apart
+pub mod Operations
 pub mod Lists
 pub mod Calm
 pub mod Fits

@@ -5,7 +5,7 @@ use Rattle.std.proofs.lemmas.Bool.{cases_eq, eq-eqb, ne_eqb}
 use Rattle.std.proofs.lemmas.List.{get_or-set_same, get_or-set_other}
 use Rattle.stk_clauses.specs.declared.literal.Lit.{Lit}
 use Rattle.stk_clauses.proofs.Values.{same_lit}
-use Rattle.stk_chains.proofs.Numbers.{in_head, in_tail, in_split}
+use Rattle.stk_propagate.proofs.Numbers.{in_head, in_tail, in_split}
 use Rattle.stk_propagate.specs.Linked.{side_of, watch_at, pair_of}
 use Rattle.stk_propagate.proofs.Lists.{at_set, at_else}
 

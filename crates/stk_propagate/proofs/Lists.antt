@@ -7,7 +7,7 @@ use Rattle.stk_clauses.specs.declared.literal.Lit.{Lit}
 use Rattle.stk_clauses.specs.Literals.{negated}
 use Rattle.stk_clauses.specs.Propagation.{IsOpen, HasNoPair}
 use Rattle.stk_clauses.proofs.Values.{negated-negated, negated-other}
-use Rattle.stk_assignment.specs.Assigned.{AreFresh}
+use Rattle.stk_propagate.specs.Assigned.{AreFresh}
 
 pub in_take : (t : List Lit) (k : ℕ) (x : Lit) → Contains (take k t) x → Contains t x
 in_take t k x (j, lt, e) =

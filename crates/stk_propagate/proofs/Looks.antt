@@ -6,7 +6,7 @@ use Rattle.std.proofs.lemmas.List.{get_or_default, get_or-set_same, take-append-
 use Rattle.stk_clauses.specs.declared.literal.Lit.{Lit}
 use Rattle.stk_clauses.specs.Literals.{negated}
 use Rattle.stk_clauses.specs.Propagation.{AllFalse}
-use Rattle.stk_assignment.specs.Assigned.{Assigned}
+use Rattle.stk_propagate.specs.Assigned.{Assigned}
 use Rattle.stk_propagate.specs.Trailed.{Trailed, IsAssumed, IsGrown}
 use Rattle.stk_propagate.specs.Fitting.{IsReason, IsSettled, IsWatched, IsCalm, Fits}
 use Rattle.stk_propagate.proofs.Fits.{fits_watches, fits_looked}

@@ -5,7 +5,7 @@ use Rattle.std.proofs.lemmas.Bool.{cases_eq, cases_lt, eq-eqb, ne_eqb}
 use Rattle.std.proofs.lemmas.List.{length-set, get_or-set_same, get_or-set_other, get_or_past, get_or_append_left}
 use Rattle.stk_clauses.specs.declared.literal.Lit.{Lit}
 use Rattle.stk_clauses.proofs.Values.{same_lit}
-use Rattle.stk_chains.proofs.Numbers.{none_in}
+use Rattle.stk_propagate.proofs.Numbers.{none_in}
 use Rattle.stk_propagate.specs.Linked.{side_of, watch_at}
 use Rattle.stk_propagate.proofs.Lists.{at_set, at_else}
 use Rattle.stk_propagate.proofs.Links.{Watches, Spare, Links, linked_cases, linked_old, linked_new}

@@ -4,8 +4,8 @@ use Rattle.std.specs.List.{Contains}
 use Rattle.std.proofs.lemmas.List.{length-set}
 use Rattle.stk_clauses.specs.declared.literal.Lit.{Lit}
 use Rattle.stk_clauses.specs.Literals.{AreBelow}
-use Rattle.stk_assignment.specs.Assigned.{Assigned}
-use Rattle.stk_chains.specs.Chained.{Chained}
+use Rattle.stk_propagate.specs.Assigned.{Assigned}
+use Rattle.stk_propagate.specs.WatchLists.{Chained}
 use Rattle.stk_propagate.specs.declared.inner.Inner.{Inner}
 use Rattle.stk_propagate.specs.Linked.{InSpare, AreLinked, IsLinked}
 use Rattle.stk_propagate.proofs.Lists.{at_else}

@@ -9,7 +9,7 @@ use Rattle.stk_clauses.specs.declared.literal.Lit.{Lit}
 use Rattle.stk_clauses.specs.Literals.{negated}
 use Rattle.stk_clauses.specs.Propagation.{HasNoPair}
 use Rattle.stk_clauses.proofs.Values.{lit_cases}
-use Rattle.stk_assignment.specs.Assigned.{Assigned}
+use Rattle.stk_propagate.specs.Assigned.{Assigned}
 use Rattle.stk_propagate.specs.declared.inner.Inner.{Inner}
 use Rattle.stk_propagate.specs.Trailed.{Trailed, IsGrown}
 use Rattle.stk_propagate.specs.Fitting.{IsReason, IsWatched, IsCalm, Fits}

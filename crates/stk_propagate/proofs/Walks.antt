@@ -6,8 +6,8 @@ use Rattle.std.proofs.lemmas.List.{get_or_default, get_or_append_left}
 use Rattle.stk_clauses.specs.declared.literal.Lit.{Lit}
 use Rattle.stk_clauses.specs.Literals.{negated, AreBelow}
 use Rattle.stk_clauses.proofs.Values.{negated-negated}
-use Rattle.stk_chains.proofs.Numbers.{none_in}
-use Rattle.stk_assignment.specs.Assigned.{Assigned}
+use Rattle.stk_propagate.proofs.Numbers.{none_in}
+use Rattle.stk_propagate.specs.Assigned.{Assigned}
 use Rattle.stk_propagate.specs.declared.inner.Inner.{Inner}
 use Rattle.stk_propagate.specs.Trailed.{IsGrown}
 use Rattle.stk_propagate.specs.Linked.{trailed, side_of, watch_at, twin, chain_of, InSpare, AreLinked, AreCalmed}

@@ -4,7 +4,7 @@ use Rattle.std.specs.List.{Contains, All}
 use Rattle.stk_clauses.specs.declared.literal.Lit.{Lit}
 use Rattle.stk_clauses.specs.Literals.{negated, AreBelow}
 use Rattle.stk_clauses.specs.Propagation.{IsQuiet}
-use Rattle.stk_assignment.specs.Assigned.{Assigned}
+use Rattle.stk_propagate.specs.Assigned.{Assigned}
 use Rattle.stk_propagate.specs.Trailed.{Trailed, IsAssumed}
 
 -- l is in the clause, and its other literals are false
@@ -25,13 +25,15 @@ abbrev pub IsWatched : List Lit → Option (Lit × Lit) → Type 0
 IsWatched c None = length c < 2
 IsWatched c (Some w) = Contains c w.0 × Contains c w.1 × (w.0 ≢ w.1)
 
--- a watched literal that is false where those of s are true has a true one of t beside it; a clause without watched ones has a true one of t
+-- a watched literal that is false where those of s are true has a true one of t beside it; a clause without watched
+-- ones has a true one of t
 abbrev pub IsCalm : List Lit → List Lit → List Lit → Option (Lit × Lit) → Type 0
 IsCalm s t c None = (l : Lit) × Contains c l × Contains t l
 IsCalm s t c (Some w) = (Contains s (negated w.0) → Contains t w.1) × (Contains s (negated w.1) → Contains t w.0)
 
--- the trail is one over these clauses: each has its watched literals; reasons are reasons; at each assumption all clauses were settled, and
--- the watches calm, by the literals before it; and the watches of the clauses that were looked at are calm as far as propagation went
+-- the trail is one over these clauses: each has its watched literals; reasons are reasons; at each assumption all
+-- clauses were settled, and the watches calm, by the literals before it; and the watches of the clauses that were
+-- looked at are calm as far as propagation went
 pub record Fits (s : Trailed) (cs : List (List Lit)) : Type 0 where
   pub below : All (AreBelow s.assigned.vars) cs
   pub counted : length s.watches ≡ length cs
@@ -48,7 +50,8 @@ pub record Fits (s : Trailed) (cs : List (List Lit)) : Type 0 where
 abbrev pub IsAlive : List Lit → List Lit → Type 0
 IsAlive t c = (c ≡ []) ⊎ ((u : Lit) × Contains c u × (Contains t (negated u) → ⊥))
 
--- where u alone isn't false, nothing is assumed, or another literal became false with the last assumed literal or after it
+-- where u alone isn't false, nothing is assumed, or another literal became false with the last assumed literal or after
+-- it
 abbrev pub IsTimely : Assigned → List Lit → Type 0
 IsTimely a c = (u : Lit) → Contains c u → (Contains a.literals (negated u) → ⊥) → ((m : Lit) → Contains c m → m ≢ u → Contains a.literals (negated m))
     → ((k : ℕ) → IsAssumed a k → ⊥) ⊎ ((m : Lit) × Contains c m × (m ≢ u) × ((k : ℕ) → IsAssumed a k → Contains (take k a.literals) (negated m) → ⊥))

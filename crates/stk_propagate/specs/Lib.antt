@@ -1,3 +1,7 @@
+pub mod Assigned
+pub mod AssignmentInside
+pub mod WatchLists
+pub mod WatchListInside
 pub mod Trailed
 pub mod Fitting
 pub mod Choosing

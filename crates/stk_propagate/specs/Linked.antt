@@ -1,8 +1,9 @@
--- The fields of a trail, and the chains of its watches. The places of the clause id are 2 id, for its first watched literal, and 2 id + 1.
+-- The fields of a trail, and the chains of its watches. The places of the clause id are 2 id, for its first watched
+-- literal, and 2 id + 1.
 use Rattle.std.specs.Prelude.{◌≡◌, ◌⊎◌, ◌↔◌, ℕ, ◌<◌, ◌+◌, ◌-◌, ◌*◌, ◌/◌, ◌%◌, ◌^◌, ◌==◌, if◌then◌else◌, List, [], length, slice_index_or, Option, Some, None}
 use Rattle.std.specs.List.{Contains}
 use Rattle.stk_clauses.specs.declared.literal.Lit.{Lit}
-use Rattle.stk_chains.specs.Chained.{Chained}
+use Rattle.stk_propagate.specs.WatchLists.{Chained}
 use Rattle.stk_propagate.specs.declared.inner.Inner.{Inner}
 use Rattle.stk_propagate.specs.Trailed.{Trailed}
 
@@ -45,11 +46,13 @@ pub record IsSized (f : Inner) : Type 0 where
   pub numbered : f.chains.numbers ≡ 2 * length f.watches.items
   pub few : length f.watches.items < 2 ^ 31
 
--- the chain of each literal holds the places that watch it, of the clauses that were looked at; those of w may be in extra too
+-- the chain of each literal holds the places that watch it, of the clauses that were looked at; those of w may be in
+-- extra too
 abbrev pub AreLinked : Inner → Lit → (ℕ → Type 0) → Type 0
 AreLinked f w extra = (l : Lit) (x : ℕ) → l.0 < 2 * f.assigned.vars → (Contains (chain_of f l) x ⊎ ((l ≡ w) × extra x)) ↔ ((x / 2 < f.looked) × (watch_at f.watches.items x ≡ Some l))
 
--- the chain of each literal holds the places that watch it, of the clauses that were looked at, and the spare one is empty
+-- the chain of each literal holds the places that watch it, of the clauses that were looked at, and the spare one is
+-- empty
 pub record IsLinked (f : Inner) : Type 0 where
   pub sized : IsSized f
   pub linked : (l : Lit) (x : ℕ) → l.0 < 2 * f.assigned.vars → Contains (chain_of f l) x ↔ ((x / 2 < f.looked) × (watch_at f.watches.items x ≡ Some l))

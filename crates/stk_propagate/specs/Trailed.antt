@@ -1,10 +1,10 @@
 -- A trail as contracts see it.
 use Rattle.std.specs.Prelude.{◌≡◌, ℕ, ◌<◌, ◌++◌, List, map, length, slice_index_or, Option, Some, None}
 use Rattle.stk_clauses.specs.declared.literal.Lit.{Lit}
-use Rattle.stk_assignment.specs.Assigned.{Assigned}
+use Rattle.stk_propagate.specs.Assigned.{Assigned}
 
--- the true literals with their reasons; of each clause that was taken in its two watched literals, if it has two; how many of the true
--- literals propagation has gone through, and how many of the clauses it has looked at
+-- the true literals with their reasons; of each clause that was taken in its two watched literals, if it has two; how
+-- many of the true literals propagation has gone through, and how many of the clauses it has looked at
 pub record Trailed : Type 0 where
   pub assigned : Assigned
   pub watches : List (Option (Lit × Lit))

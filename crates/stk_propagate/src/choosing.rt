@@ -6,7 +6,7 @@ ghost use Rattle.stk_clauses.specs.Literals.{negated, AreBelow, AreDistinct};
 ghost use Rattle.stk_propagate.specs.Fitting.{IsWatched};
 ghost use Rattle.stk_propagate.specs.Choosing.{IsFalseFrom, IsNotLater};
 
-use stk_assignment::Assignment;
+use crate::Assignment;
 use stk_clauses::Lit;
 
 /// Where the literal became false: the place of its negation, or how many literals are true, if it isn't false.

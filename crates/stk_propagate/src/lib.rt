@@ -1,6 +1,7 @@
-//! The trail of a search: true literals with their reasons over a store of clauses, and unit propagation over two watched literals.
+//! The true literals of a search, the clauses that watch them, and unit propagation.
 #![tactic(auto)]
 
+mod assignment;
 mod choosing;
 mod inner;
 mod looking;
@@ -8,5 +9,8 @@ mod propagation;
 mod taking;
 mod trail;
 mod walking;
+mod watch_lists;
 
+pub use assignment::Assignment;
 pub use trail::Trail;
+pub use watch_lists::WatchLists;

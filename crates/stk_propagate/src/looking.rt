@@ -12,7 +12,8 @@ use crate::inner::Inner;
 use stk_clauses::{Lit, Store};
 
 impl Inner {
-    /// Looks at a clause of fewer than two literals, the next one that wasn't looked at. Says whether all its literals are false.
+    /// Looks at a clause of fewer than two literals, the next one that wasn't looked at. Says whether all its literals
+    /// are false.
     fn look_short(&mut self, store: &Store) -> bool
         requires linked { IsLinked self.old }
         requires fits { Fits (trailed self.old) store.now }
@@ -78,8 +79,8 @@ impl Inner {
         }
     }
 
-    /// Looks at a clause of two literals or more, the next one that wasn't looked at: has it watch the two that became false last
-    /// or aren't false. Says whether all its literals are false.
+    /// Looks at a clause of two literals or more, the next one that wasn't looked at: has it watch the two that became
+    /// false last or aren't false. Says whether all its literals are false.
     fn look_long(&mut self, store: &Store) -> bool
         requires linked { IsLinked self.old }
         requires fits { Fits (trailed self.old) store.now }

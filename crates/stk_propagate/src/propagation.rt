@@ -4,7 +4,7 @@ ghost use Rattle.std.specs.List.{Contains, All};
 ghost use Rattle.stk_clauses.specs.declared.literal.Lit.{Lit};
 ghost use Rattle.stk_clauses.specs.Literals.{negated};
 ghost use Rattle.stk_clauses.specs.Propagation.{IsOpen, AllFalse, AreQuiet};
-ghost use Rattle.stk_assignment.specs.Assigned.{IsAssigned};
+ghost use Rattle.stk_propagate.specs.Assigned.{IsAssigned};
 ghost use Rattle.stk_propagate.specs.Trailed.{IsAssumed, IsGrown};
 ghost use Rattle.stk_propagate.specs.Fitting.{Fits};
 ghost use Rattle.stk_propagate.specs.Linked.{trailed, IsLinked};

@@ -7,10 +7,9 @@ ghost use Rattle.stk_propagate.specs.Linked.{trailed, IsLinked};
 
 use crate::choosing::first_two;
 use crate::inner::Inner;
+use crate::{Assignment, WatchLists};
 use std::alloc::Global;
-use stk_assignment::Assignment;
 use stk_base::NoMemory;
-use stk_chains::Chains;
 use stk_clauses::Store;
 
 impl Inner {
@@ -21,7 +20,7 @@ impl Inner {
         ensures blank { IfOk result (λ f. f.assigned ≡ record { vars = vars; literals = []; reasons = [] }) }
     {
         let assigned = Assignment::reserve(alloc, vars)?;
-        let chains = Chains::reserve(alloc, vars as usize * 2 + 1)?;
+        let chains = WatchLists::reserve(alloc, vars as usize * 2 + 1)?;
         Ok(Inner {
             assigned,
             chains,

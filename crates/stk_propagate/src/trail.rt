@@ -4,7 +4,7 @@ ghost use Rattle.std.specs.List.{Contains, All};
 ghost use Rattle.stk_clauses.specs.declared.literal.Lit.{Lit};
 ghost use Rattle.stk_clauses.specs.Literals.{negated, AreBelow};
 ghost use Rattle.stk_clauses.specs.Propagation.{Forced, Falsifies, IsOpen, AllFalse, AreQuiet};
-ghost use Rattle.stk_assignment.specs.Assigned.{IsAssigned};
+ghost use Rattle.stk_propagate.specs.Assigned.{IsAssigned};
 ghost use Rattle.stk_propagate.specs.Trailed.{IsAssumed, IsGrown};
 ghost use Rattle.stk_propagate.specs.Fitting.{Fits, IsCalm, IsAlive, IsTimely};
 
@@ -14,11 +14,11 @@ use std::marker::Model;
 use stk_base::NoMemory;
 use stk_clauses::{Lit, Store};
 
-/// True literals over the clauses of a store, in the order in which they became true, each assumed or with a clause as its
-/// reason. Each clause of two literals or more that was taken in watches two of them.
+/// True literals over the clauses of a store, in the order in which they became true, each assumed or with a clause as
+/// its reason. Each clause of two literals or more that was taken in watches two of them.
 ///
-/// Calls that take a store ask that the trail fits it: that it is a trail over this store's clauses. All but `reserve` and
-/// `attach` take no memory.
+/// Calls that take a store ask that the trail fits it: that it is a trail over this store's clauses. All but `reserve`
+/// and `attach` take no memory.
 #[derive(Drop)]
 pub struct Trail {
     inner: Inner,
@@ -72,8 +72,8 @@ impl Trail {
         self.inner.assigned.place(lit)
     }
 
-    /// The clause whose other literals were all false when propagation made the literal true; `None` where it was assumed or
-    /// isn't true.
+    /// The clause whose other literals were all false when propagation made the literal true; `None` where it was
+    /// assumed or isn't true.
     pub fn reason(&self, lit: Lit) -> Option<u32>
         requires { lit.0 < 2 * self.now.assigned.vars }
         ensures known { (k : ℕ) → k < length self.now.assigned.literals → slice_index_or self.now.assigned.literals k lit ≡ lit → result ≡ slice_index_or self.now.assigned.reasons k None }
@@ -93,8 +93,8 @@ impl Trail {
 
     /// Propagates: answers a clause with only false literals, or `None` when every clause is quiet.
     ///
-    /// It looks only at the clauses that are watched by a literal which became false and at those that were taken in since
-    /// it last ended.
+    /// It looks only at the clauses that are watched by a literal which became false and at those that were taken in
+    /// since it last ended.
     pub fn propagate(&mut self, store: &Store) -> Option<u32>
         requires { Fits self.old store.now }
         ensures fits { Fits self.new store.now }
@@ -135,8 +135,8 @@ impl Trail {
 
     /// Takes the store's last clause in. After `NoMemory` the trail is as before.
     ///
-    /// The clause is empty, or has a literal that isn't false; and where exactly one isn't, nothing is assumed, or another one
-    /// became false with the last assumed literal or after it.
+    /// The clause is empty, or has a literal that isn't false; and where exactly one isn't, nothing is assumed, or
+    /// another one became false with the last assumed literal or after it.
     pub fn attach(&mut self, id: u32, store: &Store) -> Result<(), NoMemory>
         requires last { id + 1 ≡ length store.now }
         requires fits { Fits self.old (take id store.now) }

@@ -12,8 +12,8 @@ use crate::inner::Inner;
 use stk_clauses::{Lit, Store};
 
 impl Inner {
-    /// Visits the clause of a place that watches a false literal: moves the watch, or makes the last literal true that may be.
-    /// Says whether all are false.
+    /// Visits the clause of a place that watches a false literal: moves the watch, or makes the last literal true that
+    /// may be. Says whether all are false.
     fn visit(&mut self, store: &Store, place: u32, lit: Lit) -> bool
         requires sized { IsSized self.old }
         requires fits { Fits (trailed self.old) store.now }

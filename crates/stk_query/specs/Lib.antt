@@ -1,1 +1,4 @@
+pub mod Standing
+pub mod Reading
+pub mod Laws
 pub mod Verdicts

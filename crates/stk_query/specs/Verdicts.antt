@@ -2,9 +2,9 @@
 use Rattle.std.specs.Prelude.{ℕ, ◌+◌, ◌-◌, ◌^◌, ◌<◌, ◌≤◌, Bool, true, false, length, sum, min}
 use Rattle.stk_clauses.specs.Derivations.{IsRefutation, IsSpentLog}
 use Rattle.stk_terms.specs.Terms.{Stored}
-use Rattle.stk_trying.specs.Ordered.{IsFirst}
-use Rattle.stk_goals.specs.Standing.{StandsForGoal, IsWithinBound}
-use Rattle.stk_goals.specs.Laws.{MakesOne, IsNever}
+use Rattle.stk_terms.specs.Ordered.{IsFirst}
+use Rattle.stk_query.specs.Standing.{StandsForGoal, IsWithinBound}
+use Rattle.stk_query.specs.Laws.{MakesOne, IsNever}
 use Rattle.stk_query.specs.declared.verdict.Verdict.{Verdict}
 use Rattle.stk_query.specs.declared.verdict.Verdict.TheVariants.{Satisfied, Tried, Refuted, Undecided}
 
@@ -22,8 +22,9 @@ is_no Tried = true
 is_no (Refuted list derivation) = true
 is_no (Undecided list log) = false
 
--- what a verdict within a budget says of the goal: these inputs make it 1, and of at most 16 bits they are the first that do; none of at most
--- 16 bits do; or the inputs have more bits, and clauses that stand for the goal are refuted within the budget, or have a spent log of it
+-- what a verdict within a budget says of the goal: these inputs make it 1, and of at most 16 bits they are the first
+-- that do; none of at most 16 bits do; or the inputs have more bits, and clauses that stand for the goal are refuted
+-- within the budget, or have a spent log of it
 abbrev pub IsVerdict : Stored → ℕ → ℕ → Verdict → Type 0
 IsVerdict s i budget (Satisfied residues) = MakesOne s i residues.numbers × (sum s.inputs ≤ 16 → IsFirst s i residues.numbers)
 IsVerdict s i budget Tried = (sum s.inputs ≤ 16) × IsNever s i

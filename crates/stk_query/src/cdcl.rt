@@ -4,11 +4,11 @@ ghost use Rattle.stk_base.specs.Causes.{Rose};
 ghost use Rattle.stk_terms.specs.Values.{width_at};
 ghost use Rattle.stk_terms.specs.Cost.{cost};
 ghost use Rattle.stk_rewrite.specs.Normal.{IsNormal};
-ghost use Rattle.stk_goals.specs.Laws.{IsNever};
+ghost use Rattle.stk_query.specs.Laws.{IsNever};
 ghost use Rattle.stk_query.specs.Verdicts.{is_undecided, is_no, IsVerdict, one_more};
 
+use crate::enumerate::{are_few, tried};
 use crate::searching::searched;
-use crate::trying::{are_few, tried};
 use crate::verdict::is_undecided;
 use crate::{Decider, MOST_BUDGET, Verdict};
 use std::alloc::Global;
@@ -16,8 +16,8 @@ use std::marker::Model;
 use stk_base::NoMemory;
 use stk_terms::{TermId, Terms};
 
-/// A decider that tries all inputs of at most 16 bits, and else searches by learning from conflicts. Contracts see it as how many goals it gave
-/// up, which stops at the last value of a u64.
+/// A decider that tries all inputs of at most 16 bits, and else searches by learning from conflicts. Contracts see it
+/// as how many goals it gave up, which stops at the last value of a u64.
 #[derive(Drop)]
 pub struct Cdcl {
     alloc: Global,
@@ -51,7 +51,8 @@ impl Cdcl {
 impl Decider for Cdcl {
     ghost given_up = { λ c. c };
 
-    /// As `Decider::ask` says. The count rises by one at each `Undecided`, up to the last value of a u64, and stays at any other answer.
+    /// As `Decider::ask` says. The count rises by one at each `Undecided`, up to the last value of a u64, and stays at
+    /// any other answer.
     fn ask(&mut self, terms: &Terms, goal: TermId, budget: u32) -> Result<Verdict, NoMemory>
         requires exists { goal.0 < length terms.now.terms }
         requires one { width_at terms.now goal.0 ≡ 1 }

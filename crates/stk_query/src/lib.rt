@@ -1,13 +1,17 @@
-//! Deciding goals: whether some inputs of terms make a term of width 1 be 1. Up to 16 bits of inputs all are tried; wider goals become
-//! clauses, which are searched for values or a refutation within a budget.
+//! Decides goals: by all inputs where they are few, and else by a search over the goal's clauses.
 #![tactic(auto)]
 
 mod cdcl;
+mod clauses;
 mod decider;
+mod enumerate;
+mod laws;
+mod reading;
 mod searching;
-mod trying;
 mod verdict;
 
 pub use cdcl::Cdcl;
+pub use clauses::has_room;
 pub use decider::{Decider, MOST_BUDGET};
+pub use laws::standing;
 pub use verdict::Verdict;

@@ -5,17 +5,17 @@ ghost use Rattle.stk_clauses.specs.Literals.{AreBelow, Satisfies};
 ghost use Rattle.stk_clauses.specs.Derivations.{IsRefutation};
 ghost use Rattle.stk_terms.specs.Values.{width_at};
 ghost use Rattle.stk_terms.specs.Cost.{cost};
-ghost use Rattle.stk_goals.specs.Standing.{StandsForGoal};
-ghost use Rattle.stk_goals.specs.Laws.{MakesOne};
+ghost use Rattle.stk_query.specs.Standing.{StandsForGoal};
+ghost use Rattle.stk_query.specs.Laws.{MakesOne};
 ghost use Rattle.stk_query.specs.Verdicts.{IsVerdict};
 
+use crate::clauses::clauses_for;
+use crate::reading::residues_from;
 use crate::{MOST_BUDGET, Verdict};
 use std::alloc::Global;
-use stk_base::NoMemory;
-use stk_bits::Bits;
+use stk_base::{Bits, NoMemory};
 use stk_check::check;
 use stk_clauses::{Cnf, Derivation};
-use stk_goals::{clauses_for, residues_from};
 use stk_solver::{Answer, solve};
 use stk_terms::{Residues, TermId, Terms};
 
@@ -57,8 +57,8 @@ fn accepted(
     }
 }
 
-/// The verdict on a goal whose inputs have more than 16 bits: its clauses are searched, and a refutation is passed to `check` before it is
-/// answered.
+/// The verdict on a goal whose inputs have more than 16 bits: its clauses are searched, and a refutation is passed to
+/// `check` before it is answered.
 pub(crate) fn searched(
     alloc: Global,
     terms: &Terms,

@@ -63,8 +63,8 @@ impl<R: Read> Source for RealSource<R> {
     }
 }
 
-/// A sink over a writer. That the writer takes nothing of a piece that isn't empty counts as an error. Contracts see how
-/// many of its calls failed, up to the last value of a u64.
+/// A sink over a writer. That the writer takes nothing of a piece that isn't empty counts as an error. Contracts see
+/// how many of its calls failed, up to the last value of a u64.
 #[derive(Drop)]
 pub struct RealSink<W> {
     writer: W,

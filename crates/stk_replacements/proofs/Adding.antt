@@ -1,7 +1,7 @@
 -- Spellings that are added to a text, one after the other.
 use Rattle.std.proofs.Common.{◌≡◌, ℕ, List, [], ◌∷◌, ◌++◌, map, sym, ap, ◌∙◌, append_assoc, append-nil}
 use Rattle.stk_tree.specs.declared.fixed.Lexeme.{Lexeme}
-use Rattle.stk_runs.specs.Replacements.{spelled}
+use Rattle.stk_meaning.specs.Replacements.{spelled}
 use Rattle.stk_replacements.specs.Spaced.{each_after, each_before}
 
 pub adds_before : (bytes out now : List ℕ) (old new : List Lexeme) (t : Lexeme) (target : List ℕ) → old ≡ t ∷ new → now ≡ out ++ (spelled bytes t ++ 32 ∷ []) → out ++ each_before (map (spelled bytes) old) ≡ target → now ++ each_before (map (spelled bytes) new) ≡ target

@@ -3,7 +3,7 @@ use Rattle.std.proofs.Common.{◌≡◌, ℕ, ◌<◌, Bool, true, false, ◌&&�
 use Rattle.std.specs.Cmp.Lexicographic.{pointwise}
 use Rattle.stk_base.specs.Text.{same_text}
 use Rattle.stk_tree.specs.declared.fixed.Lexeme.{Lexeme}
-use Rattle.stk_runs.specs.Replacements.{spelled}
+use Rattle.stk_meaning.specs.Replacements.{spelled}
 
 abbrev pub rows : List ℕ → List Lexeme → List Lexeme → Bool
 rows bytes l r = pointwise same_text (map (spelled bytes) l) (map (spelled bytes) r)

@@ -1,8 +1,8 @@
 -- What a sum is replaced by, where it is known which operand is spelled like the other side.
 use Rattle.std.proofs.Common.{◌≡◌, Bool, true, false, ◌&&◌, not, if◌then◌else◌, Option, Some, None, sym, ap, ◌∙◌}
 use Rattle.stk_tree.specs.Syntax.{ExprTree}
-use Rattle.stk_runs.specs.Typings.{Typing}
-use Rattle.stk_runs.specs.Replacements.{Replaced, Summed, first_of_both, kept_if, replaced_sum, spelled_alike}
+use Rattle.stk_meaning.specs.Typings.{Typing}
+use Rattle.stk_meaning.specs.Replacements.{Replaced, Summed, first_of_both, kept_if, replaced_sum, spelled_alike}
 
 -- what a test chooses
 pub chosen : (keeps b : Bool) (x : Replaced) → keeps ≡ b → keeps ≡ true → Some x ≡ (if b then Some x else None)

@@ -3,9 +3,9 @@ use Rattle.std.specs.Prelude.{Bool, ◌&&◌, ◌||◌, not}
 use Rattle.std.specs.Option.{is_some}
 use Rattle.stk_tree.specs.Syntax.{ExprTree}
 use Rattle.stk_tree.specs.View.{view_expression}
-use Rattle.stk_rules.specs.Types.{kind_of}
-use Rattle.stk_runs.specs.Typings.{Typing, type_in}
-use Rattle.stk_runs.specs.Replacements as runs
+use Rattle.stk_type_rules.specs.Types.{kind_of}
+use Rattle.stk_meaning.specs.Typings.{Typing, type_in}
+use Rattle.stk_meaning.specs.Replacements as runs
 use Rattle.stk_replacements.specs.declared.replacing.Replaced.{Replaced}
 use Rattle.stk_replacements.specs.declared.replacing.Summed.{Summed}
 

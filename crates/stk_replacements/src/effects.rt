@@ -2,12 +2,12 @@
 
 ghost use Rattle.std.specs.Prelude.{◌≡◌};
 ghost use Rattle.stk_tree.specs.View.{view_expression};
-ghost use Rattle.stk_runs.specs.Replacements.{has_effect};
+ghost use Rattle.stk_meaning.specs.Replacements.{has_effect};
 
 use stk_tree::{Expr, ExprForm};
 
 /// Whether an expression holds a call, an assignment, `++` or `--`.
-pub fn has_effect(e: &Expr) -> bool
+pub(crate) fn has_effect(e: &Expr) -> bool
     ensures { result ≡ has_effect (view_expression e.now) }
 {
     match &e.form {

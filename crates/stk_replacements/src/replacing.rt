@@ -2,8 +2,8 @@
 
 ghost use Rattle.std.specs.Prelude.{◌≡◌, ◌&&◌, not, if◌then◌else◌, IfOk, option_map};
 ghost use Rattle.stk_tree.specs.View.{view_expression};
-ghost use Rattle.stk_runs.specs.Typings.{bare};
-ghost use Rattle.stk_runs.specs.Replacements.{summed, summed_by, kept_if, replaced_sum, replaced_side, replacement};
+ghost use Rattle.stk_meaning.specs.Typings.{bare};
+ghost use Rattle.stk_meaning.specs.Replacements.{summed, summed_by, kept_if, replaced_sum, replaced_side, replacement};
 ghost use Rattle.stk_function_types.specs.Nodes.{typing_in};
 ghost use Rattle.stk_replacements.specs.Shown.{summed_shown, replaced_shown, may_keep};
 
@@ -12,11 +12,11 @@ use crate::spelling::spelled_alike;
 use std::alloc::Global;
 use stk_base::NoMemory;
 use stk_function_types::FunctionTypes;
-use stk_rules::kind_of;
 use stk_tree::{BinaryOp, Expr, ExprForm};
+use stk_type_rules::kind_of;
 
-/// What a comparison is replaced by: the operand that is kept, and whether it is the right operand of the sum; whether the sum is
-/// the left side of the comparison, and whether 0 is the left side of what replaces it.
+/// What a comparison is replaced by: the operand that is kept, and whether it is the right operand of the sum; whether
+/// the sum is the left side of the comparison, and whether 0 is the left side of what replaces it.
 #[derive(Clone, Copy)]
 pub struct Replaced<'a> {
     pub kept: &'a Expr,
@@ -154,7 +154,8 @@ fn zero_first(first: bool, minus: bool) -> bool
     if first { minus } else { !minus }
 }
 
-// Whether the right operand may be left out, which is spelled like the other side or not: that of a sum, and not of a difference.
+// Whether the right operand may be left out, which is spelled like the other side or not: that of a sum, and not of a
+// difference.
 fn right_alike(alike: bool, minus: bool) -> bool
     ensures { result ≡ (alike && not minus) }
 {
@@ -211,9 +212,9 @@ fn replaced_side<'a>(
     }
 }
 
-/// What a comparison of two sides is replaced by, parentheses round them aside; `None` exactly where it has no replacement. It takes the
-/// time of the tokens up to the first difference, and that of the operands where one is spelled like the other side. The only refusal
-/// is want of memory.
+/// What a comparison of two sides is replaced by, parentheses round them aside; `None` exactly where it has no
+/// replacement. It takes the time of the tokens up to the first difference, and that of the operands where one is
+/// spelled like the other side.
 #[tactic(auto, using(crate::proofs::Choosing::first_found, crate::proofs::Choosing::second_found))]
 pub fn replacement<'a>(
     alloc: Global,

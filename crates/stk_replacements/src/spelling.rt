@@ -4,7 +4,7 @@ ghost use Rattle.std.specs.Prelude.{◌≡◌, IfOk, map};
 ghost use Rattle.std.specs.Cmp.Lexicographic.{pointwise};
 ghost use Rattle.stk_base.specs.Text.{same_text};
 ghost use Rattle.stk_tree.specs.View.{view_expression};
-ghost use Rattle.stk_runs.specs.Replacements.{spelled, spelled_alike};
+ghost use Rattle.stk_meaning.specs.Replacements.{spelled, spelled_alike};
 
 use std::alloc::Global;
 use stk_base::NoMemory;
@@ -47,9 +47,9 @@ fn same_spellings(bytes: &[u8], left: &mut Printing, right: &mut Printing) -> Re
     }
 }
 
-/// Whether two expressions have the same tokens, by their spelling. It takes no longer than their tokens up to the first difference
-/// do. The only refusal is want of memory.
-pub fn spelled_alike(
+/// Whether two expressions have the same tokens, by their spelling. It takes no longer than their tokens up to the
+/// first difference do.
+pub(crate) fn spelled_alike(
     alloc: Global,
     bytes: &[u8],
     left: &Expr,

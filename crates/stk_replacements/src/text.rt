@@ -3,7 +3,7 @@
 ghost use Rattle.std.specs.Prelude.{◌≡◌, ◌++◌, ◌∷◌, [], IfOk, OnOk, map};
 ghost use Rattle.stk_tree.specs.Tokens.{expression_tokens};
 ghost use Rattle.stk_tree.specs.View.{view_expression};
-ghost use Rattle.stk_runs.specs.Replacements.{comparison_mark, replacement_text, spelled};
+ghost use Rattle.stk_meaning.specs.Replacements.{comparison_punctuator, replacement_text, spelled};
 ghost use Rattle.stk_replacements.specs.Shown.{replaced_shown};
 ghost use Rattle.stk_replacements.specs.Spaced.{each_after, each_before};
 
@@ -16,8 +16,8 @@ use stk_tree::{Expr, Fixed, spelling};
 use stk_tree_walk::Printing;
 
 // The spelling of a comparison.
-fn comparison_mark(op: CompareOp) -> &'static [u8]
-    ensures { result.now ≡ comparison_mark op }
+fn comparison_punctuator(op: CompareOp) -> &'static [u8]
+    ensures { result.now ≡ comparison_punctuator op }
 {
     match op {
         CompareOp::Lt => spelling(Fixed::Less),
@@ -77,30 +77,30 @@ fn add_after(bytes: &[u8], tokens: &mut Printing, out: &mut Vec<u8>) -> Result<(
 
 // The text of `0 op y`.
 fn zero_first(alloc: Global, bytes: &[u8], op: CompareOp, kept: &Expr) -> Result<Vec<u8>, NoMemory>
-    ensures { IfOk result (λ text. text.items ≡ 48 ∷ 32 ∷ comparison_mark op ++ each_after (map (spelled bytes.now) (expression_tokens (view_expression kept.now)))) }
+    ensures { IfOk result (λ text. text.items ≡ 48 ∷ 32 ∷ comparison_punctuator op ++ each_after (map (spelled bytes.now) (expression_tokens (view_expression kept.now)))) }
 {
     let mut tokens = Printing::new(alloc, kept)?;
     let mut out = Vec::new(alloc);
     add(b"0 ", &mut out)?;
-    add(comparison_mark(op), &mut out)?;
+    add(comparison_punctuator(op), &mut out)?;
     add_after(bytes, &mut tokens, &mut out)?;
     Ok(out)
 }
 
 // The text of `y op 0`.
 fn zero_last(alloc: Global, bytes: &[u8], op: CompareOp, kept: &Expr) -> Result<Vec<u8>, NoMemory>
-    ensures { IfOk result (λ text. text.items ≡ each_before (map (spelled bytes.now) (expression_tokens (view_expression kept.now))) ++ (comparison_mark op ++ 32 ∷ 48 ∷ [])) }
+    ensures { IfOk result (λ text. text.items ≡ each_before (map (spelled bytes.now) (expression_tokens (view_expression kept.now))) ++ (comparison_punctuator op ++ 32 ∷ 48 ∷ [])) }
 {
     let mut tokens = Printing::new(alloc, kept)?;
     let mut out = Vec::new(alloc);
     add_before(bytes, &mut tokens, &mut out)?;
-    add(comparison_mark(op), &mut out)?;
+    add(comparison_punctuator(op), &mut out)?;
     add(b" 0", &mut out)?;
     Ok(out)
 }
 
-/// The text of what a comparison by this operator is replaced by: the tokens of `y op 0` or of `0 op y`, for the operand y that is
-/// kept, with one space between each two. The only refusal is want of memory.
+/// The text of what a comparison by this operator is replaced by: the tokens of `y op 0` or of `0 op y`, for the
+/// operand y that is kept, with one space between each two.
 pub fn replacement_text(
     alloc: Global,
     bytes: &[u8],

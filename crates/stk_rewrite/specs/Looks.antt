@@ -47,7 +47,8 @@ is_shift LShr = true
 is_shift AShr = true
 is_shift _ = false
 
--- a term as the rules see it: its place, width and operator, the place of its first argument, and whether it is a sum with a constant
+-- a term as the rules see it: its place, width and operator, the place of its first argument, and whether it is a sum
+-- with a constant
 pub record Look : Type 0 where
   pub id : ℕ
   pub width : ℕ

@@ -74,7 +74,8 @@ is_left (ZeroExt w) a b c = is_constant a.op || nat_eq w a.width
 is_left (SignExt w) a b c = is_constant a.op || nat_eq w a.width
 -- (c, d)
 is_left Concat a b c = folds a b
--- three constants; (1, a, b): a; (0, a, b): b; (t, a, a): a; (Not(t), a, b): Ite(t, b, a); width 1: (t, 1, 0): t and (t, 0, 1): Not(t)
+-- three constants; (1, a, b): a; (0, a, b): b; (t, a, a): a; (Not(t), a, b): Ite(t, b, a); width 1: (t, 1, 0): t and
+-- (t, 0, 1): Not(t)
 is_left Ite a b c = (is_constant a.op && folds b c) || is_number 1 a.op || is_number 0 a.op || same b c || is_not a.op || (is_yes b && is_no c) || (is_no b && is_yes c)
 
 -- whether the term at a place is the left side of a rule

@@ -54,7 +54,7 @@ fn masked(terms: &Terms, a: TermId, b: TermId) -> Right
 }
 
 /// The bits that two terms share.
-pub fn and(terms: &Terms, a: TermId, b: TermId) -> Right
+pub(crate) fn and(terms: &Terms, a: TermId, b: TermId) -> Right
     requires sound { IsSound terms.now }
     requires pair { ArePair terms.now a.0 b.0 }
     ensures { Replaces terms.now (Two And a b) result }
@@ -116,7 +116,7 @@ fn united(terms: &Terms, a: TermId, b: TermId) -> Right
 }
 
 /// The bits that either of two terms has.
-pub fn or(terms: &Terms, a: TermId, b: TermId) -> Right
+pub(crate) fn or(terms: &Terms, a: TermId, b: TermId) -> Right
     requires sound { IsSound terms.now }
     requires pair { ArePair terms.now a.0 b.0 }
     ensures { Replaces terms.now (Two Or a b) result }
@@ -167,7 +167,7 @@ fn differing(terms: &Terms, a: TermId, b: TermId) -> Right
 }
 
 /// The bits in which two terms differ.
-pub fn xor(terms: &Terms, a: TermId, b: TermId) -> Right
+pub(crate) fn xor(terms: &Terms, a: TermId, b: TermId) -> Right
     requires sound { IsSound terms.now }
     requires pair { ArePair terms.now a.0 b.0 }
     ensures { Replaces terms.now (Two Xor a b) result }
@@ -200,7 +200,7 @@ fn last_product(terms: &Terms, a: TermId, width: u8, n: u128) -> Right
 }
 
 /// The product of two terms.
-pub fn product(terms: &Terms, a: TermId, b: TermId) -> Right
+pub(crate) fn product(terms: &Terms, a: TermId, b: TermId) -> Right
     requires sound { IsSound terms.now }
     requires pair { ArePair terms.now a.0 b.0 }
     ensures { Replaces terms.now (Two Mul a b) result }

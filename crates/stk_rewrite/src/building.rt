@@ -89,7 +89,7 @@ fn last(
 }
 
 /// Makes a right side.
-pub fn build(terms: &mut Terms, right: Right) -> Result<TermId, NoMemory>
+pub(crate) fn build(terms: &mut Terms, right: Right) -> Result<TermId, NoMemory>
     requires sound { IsSound terms.old }
     requires can { CanBuild terms.old right }
     ensures built { IfOk result (λ v. IsBuilt terms.old terms.new right v.0) }

@@ -45,7 +45,7 @@ fn picked(terms: &Terms, t: TermId, a: TermId, b: TermId) -> Right
 }
 
 /// One of two terms: a constant test chooses, equal branches need none, and a Not changes the branches.
-pub fn choice(terms: &Terms, t: TermId, a: TermId, b: TermId) -> Right
+pub(crate) fn choice(terms: &Terms, t: TermId, a: TermId, b: TermId) -> Right
     requires sound { IsSound terms.now }
     requires test { IsNormal terms.now t.0 }
     requires one { width_at terms.now t.0 ≡ 1 }

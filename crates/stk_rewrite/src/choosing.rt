@@ -106,7 +106,7 @@ fn argument(terms: &Terms, done: &[TermId], id: TermId, k: usize) -> TermId
 }
 
 /// What stands for a term.
-pub fn choose(terms: &Terms, done: &[TermId], id: TermId) -> Right
+pub(crate) fn choose(terms: &Terms, done: &[TermId], id: TermId) -> Right
     requires sound { IsSound terms.now }
     requires exists { id.0 < length terms.now.terms }
     requires count { length done.now ≡ id.0 }

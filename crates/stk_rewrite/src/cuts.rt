@@ -32,7 +32,7 @@ fn cut_out(terms: &Terms, low: u8, size: u8, a: TermId) -> Right
 }
 
 /// Bits of a term: those of extracted bits are extracted from the term below.
-pub fn extract(terms: &Terms, low: u8, size: u8, a: TermId) -> Right
+pub(crate) fn extract(terms: &Terms, low: u8, size: u8, a: TermId) -> Right
     requires sound { IsSound terms.now }
     requires normal { IsNormal terms.now a.0 }
     requires some { 1 ≤ size }
@@ -49,7 +49,7 @@ pub fn extract(terms: &Terms, low: u8, size: u8, a: TermId) -> Right
 }
 
 /// Zeros in front: up to the term's own width it is the term.
-pub fn extend(terms: &Terms, size: u8, a: TermId) -> Right
+pub(crate) fn extend(terms: &Terms, size: u8, a: TermId) -> Right
     requires sound { IsSound terms.now }
     requires normal { IsNormal terms.now a.0 }
     requires wider { width_at terms.now a.0 ≤ size }
@@ -69,7 +69,7 @@ pub fn extend(terms: &Terms, size: u8, a: TermId) -> Right
 }
 
 /// Sign bits in front: up to the term's own width it is the term.
-pub fn extend_signed(terms: &Terms, size: u8, a: TermId) -> Right
+pub(crate) fn extend_signed(terms: &Terms, size: u8, a: TermId) -> Right
     requires sound { IsSound terms.now }
     requires normal { IsNormal terms.now a.0 }
     requires wider { width_at terms.now a.0 ≤ size }
@@ -89,7 +89,7 @@ pub fn extend_signed(terms: &Terms, size: u8, a: TermId) -> Right
 }
 
 /// The bits of one term in front of those of another.
-pub fn joined(terms: &Terms, a: TermId, b: TermId) -> Right
+pub(crate) fn joined(terms: &Terms, a: TermId, b: TermId) -> Right
     requires sound { IsSound terms.now }
     requires first { IsNormal terms.now a.0 }
     requires second { IsNormal terms.now b.0 }

@@ -62,7 +62,7 @@ fn alike(terms: &Terms, a: TermId, b: TermId) -> Right
 }
 
 /// Whether two terms are equal.
-pub fn equal(terms: &Terms, a: TermId, b: TermId) -> Right
+pub(crate) fn equal(terms: &Terms, a: TermId, b: TermId) -> Right
     requires sound { IsSound terms.now }
     requires pair { ArePair terms.now a.0 b.0 }
     ensures { Replaces terms.now (Two Eq a b) result }

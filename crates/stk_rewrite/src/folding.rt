@@ -25,7 +25,7 @@ fn pair_width(op: TermOp, first: u8, second: u8) -> u8
 }
 
 /// The number of an operator over two constants.
-pub fn fold(terms: &Terms, op: TermOp, a: TermId, b: TermId, x: u128, y: u128) -> Right
+pub(crate) fn fold(terms: &Terms, op: TermOp, a: TermId, b: TermId, x: u128, y: u128) -> Right
     requires sound { IsSound terms.now }
     requires exists { a.0 < length terms.now.terms }
     requires other { b.0 < length terms.now.terms }
@@ -55,7 +55,7 @@ fn single_width(op: TermOp, width: u8) -> u8
 }
 
 /// The number of an operator over a constant.
-pub fn fold_one(terms: &Terms, op: TermOp, a: TermId, x: u128) -> Right
+pub(crate) fn fold_one(terms: &Terms, op: TermOp, a: TermId, x: u128) -> Right
     requires sound { IsSound terms.now }
     requires exists { a.0 < length terms.now.terms }
     requires arity { arity op ≡ 1 }

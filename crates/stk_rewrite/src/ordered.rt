@@ -44,7 +44,7 @@ fn apart(terms: &Terms, a: TermId, b: TermId) -> Right
 }
 
 /// The difference of two terms.
-pub fn difference(terms: &Terms, a: TermId, b: TermId) -> Right
+pub(crate) fn difference(terms: &Terms, a: TermId, b: TermId) -> Right
     requires sound { IsSound terms.now }
     requires pair { ArePair terms.now a.0 b.0 }
     ensures { Replaces terms.now (Two Sub a b) result }
@@ -57,7 +57,7 @@ pub fn difference(terms: &Terms, a: TermId, b: TermId) -> Right
 }
 
 /// The quotient of two terms: by 0 it is 0, and by 1 the term.
-pub fn quotient(terms: &Terms, a: TermId, b: TermId) -> Right
+pub(crate) fn quotient(terms: &Terms, a: TermId, b: TermId) -> Right
     requires sound { IsSound terms.now }
     requires pair { ArePair terms.now a.0 b.0 }
     ensures { Replaces terms.now (Two UDiv a b) result }
@@ -80,7 +80,7 @@ pub fn quotient(terms: &Terms, a: TermId, b: TermId) -> Right
 }
 
 /// The remainder of two terms: by 0 it is the term, and by 1 it is 0.
-pub fn remainder(terms: &Terms, a: TermId, b: TermId) -> Right
+pub(crate) fn remainder(terms: &Terms, a: TermId, b: TermId) -> Right
     requires sound { IsSound terms.now }
     requires pair { ArePair terms.now a.0 b.0 }
     ensures { Replaces terms.now (Two URem a b) result }
@@ -103,7 +103,7 @@ pub fn remainder(terms: &Terms, a: TermId, b: TermId) -> Right
 }
 
 /// Whether one term is below another: none is below itself or below 0, and all ones are below none.
-pub fn less(terms: &Terms, a: TermId, b: TermId) -> Right
+pub(crate) fn less(terms: &Terms, a: TermId, b: TermId) -> Right
     requires sound { IsSound terms.now }
     requires pair { ArePair terms.now a.0 b.0 }
     ensures { Replaces terms.now (Two ULt a b) result }
@@ -139,7 +139,7 @@ pub fn less(terms: &Terms, a: TermId, b: TermId) -> Right
 }
 
 /// Whether one term is below another in two's complement: none is below itself.
-pub fn less_signed(terms: &Terms, a: TermId, b: TermId) -> Right
+pub(crate) fn less_signed(terms: &Terms, a: TermId, b: TermId) -> Right
     requires sound { IsSound terms.now }
     requires pair { ArePair terms.now a.0 b.0 }
     ensures { Replaces terms.now (Two SLt a b) result }

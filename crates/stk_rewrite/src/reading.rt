@@ -9,7 +9,7 @@ ghost use Rattle.stk_rewrite.specs.Readings.{IsNumber, IsSum, IsNegation, IsNega
 use stk_terms::{TermId, TermOp, Terms};
 
 /// The operator.
-pub fn op_of(terms: &Terms, a: TermId) -> TermOp
+pub(crate) fn op_of(terms: &Terms, a: TermId) -> TermOp
     requires sound { IsSound terms.now }
     requires exists { a.0 < length terms.now.terms }
     ensures { result ≡ (term_at terms.now a.0).op }
@@ -18,7 +18,7 @@ pub fn op_of(terms: &Terms, a: TermId) -> TermOp
 }
 
 /// How many arguments there are.
-pub fn count_of(terms: &Terms, a: TermId) -> usize
+pub(crate) fn count_of(terms: &Terms, a: TermId) -> usize
     requires sound { IsSound terms.now }
     requires exists { a.0 < length terms.now.terms }
     ensures { result ≡ length (term_at terms.now a.0).args }
@@ -28,7 +28,7 @@ pub fn count_of(terms: &Terms, a: TermId) -> usize
 }
 
 /// The number of a constant.
-pub fn number(terms: &Terms, a: TermId) -> Option<u128>
+pub(crate) fn number(terms: &Terms, a: TermId) -> Option<u128>
     requires sound { IsSound terms.now }
     requires exists { a.0 < length terms.now.terms }
     ensures { MatchOption result (is_constant (term_at terms.now a.0).op ≡ false) (λ n. IsNumber terms.now a.0 n) }
@@ -40,7 +40,7 @@ pub fn number(terms: &Terms, a: TermId) -> Option<u128>
 }
 
 /// The parts of a sum whose second part is a constant.
-pub fn added(terms: &Terms, a: TermId) -> Option<(TermId, u128)>
+pub(crate) fn added(terms: &Terms, a: TermId) -> Option<(TermId, u128)>
     requires sound { IsSound terms.now }
     requires normal { IsNormal terms.now a.0 }
     ensures { MatchOption result (adds_constant terms.now a.0 ≡ false) (λ p. IsSum terms.now a.0 p.0.0 p.1) }
@@ -60,7 +60,7 @@ pub fn added(terms: &Terms, a: TermId) -> Option<(TermId, u128)>
 }
 
 /// The argument of Not.
-pub fn negated(terms: &Terms, a: TermId) -> Option<TermId>
+pub(crate) fn negated(terms: &Terms, a: TermId) -> Option<TermId>
     requires sound { IsSound terms.now }
     requires normal { IsNormal terms.now a.0 }
     ensures { MatchOption result (is_not (term_at terms.now a.0).op ≡ false) (λ x. IsNegation terms.now a.0 x.0) }
@@ -75,7 +75,7 @@ pub fn negated(terms: &Terms, a: TermId) -> Option<TermId>
 }
 
 /// The argument of Neg.
-pub fn opposite(terms: &Terms, a: TermId) -> Option<TermId>
+pub(crate) fn opposite(terms: &Terms, a: TermId) -> Option<TermId>
     requires sound { IsSound terms.now }
     requires normal { IsNormal terms.now a.0 }
     ensures { MatchOption result (is_neg (term_at terms.now a.0).op ≡ false) (λ x. IsNegative terms.now a.0 x.0) }
@@ -90,7 +90,7 @@ pub fn opposite(terms: &Terms, a: TermId) -> Option<TermId>
 }
 
 /// What the term is cut out of, and from which bit on.
-pub fn cut(terms: &Terms, a: TermId) -> Option<(u8, TermId)>
+pub(crate) fn cut(terms: &Terms, a: TermId) -> Option<(u8, TermId)>
     requires sound { IsSound terms.now }
     requires normal { IsNormal terms.now a.0 }
     ensures { MatchOption result (is_extract (term_at terms.now a.0).op ≡ false) (λ p. IsCut terms.now a.0 p.0 p.1.0) }

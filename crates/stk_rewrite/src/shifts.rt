@@ -12,7 +12,7 @@ use crate::right::Right;
 use stk_terms::{TermId, TermOp, Terms};
 
 /// A shift of either direction: by 0 it is the term, and of 0 it is 0.
-pub fn shift(terms: &Terms, op: TermOp, a: TermId, b: TermId) -> Right
+pub(crate) fn shift(terms: &Terms, op: TermOp, a: TermId, b: TermId) -> Right
     requires sound { IsSound terms.now }
     requires pair { ArePair terms.now a.0 b.0 }
     requires shift { is_shift op ≡ true }

@@ -12,7 +12,7 @@ use crate::right::Right;
 use stk_terms::{TermId, TermOp, Terms};
 
 /// Not of a term that is no constant, which takes away another Not.
-pub fn inverted(terms: &Terms, a: TermId) -> Right
+pub(crate) fn inverted(terms: &Terms, a: TermId) -> Right
     requires sound { IsSound terms.now }
     requires part { IsPlain terms.now a.0 }
     ensures { Replaces terms.now (One Not a) result }
@@ -24,7 +24,7 @@ pub fn inverted(terms: &Terms, a: TermId) -> Right
 }
 
 /// Not of a term.
-pub fn not(terms: &Terms, a: TermId) -> Right
+pub(crate) fn not(terms: &Terms, a: TermId) -> Right
     requires sound { IsSound terms.now }
     requires normal { IsNormal terms.now a.0 }
     ensures { Replaces terms.now (One Not a) result }
@@ -36,7 +36,7 @@ pub fn not(terms: &Terms, a: TermId) -> Right
 }
 
 /// Neg of a term that is no constant, which takes away another Neg.
-pub fn reversed(terms: &Terms, a: TermId) -> Right
+pub(crate) fn reversed(terms: &Terms, a: TermId) -> Right
     requires sound { IsSound terms.now }
     requires part { IsPlain terms.now a.0 }
     ensures { Replaces terms.now (One Neg a) result }
@@ -48,7 +48,7 @@ pub fn reversed(terms: &Terms, a: TermId) -> Right
 }
 
 /// Neg of a term.
-pub fn negative(terms: &Terms, a: TermId) -> Right
+pub(crate) fn negative(terms: &Terms, a: TermId) -> Right
     requires sound { IsSound terms.now }
     requires normal { IsNormal terms.now a.0 }
     ensures { Replaces terms.now (One Neg a) result }

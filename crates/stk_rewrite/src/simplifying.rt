@@ -42,8 +42,9 @@ fn next_part(terms: &mut Terms, part: bool, done: &[TermId], id: TermId) -> Resu
     if part { next(terms, done, id) } else { Ok(id) }
 }
 
-/// A term of the same width and, for all residues of the inputs, the same number, of which no part is the left side of a
-/// rule. It costs no more. Each part of the given term is rewritten once, its arguments before it; terms that are there stay.
+/// A term of the same width and, for all residues of the inputs, the same number, of which no part is the left side of
+/// a rule. It costs no more. Each part of the given term is rewritten once, its arguments before it; terms that are
+/// there stay.
 pub fn simplify(alloc: Global, terms: &mut Terms, id: TermId) -> Result<TermId, NoMemory>
     requires { id.0 < length terms.old.terms }
     ensures simplifies { IfOk result (λ v. Simplifies terms.old terms.new id.0 v.0) }

@@ -42,7 +42,7 @@ fn sum_with(terms: &Terms, a: TermId, width: u8, n: u128) -> Right
 }
 
 /// The sum of two terms.
-pub fn sum(terms: &Terms, a: TermId, b: TermId) -> Right
+pub(crate) fn sum(terms: &Terms, a: TermId, b: TermId) -> Right
     requires sound { IsSound terms.now }
     requires pair { ArePair terms.now a.0 b.0 }
     ensures { Replaces terms.now (Two Add a b) result }

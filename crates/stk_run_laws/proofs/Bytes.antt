@@ -10,7 +10,7 @@ use Rattle.stk_ctype.specs.Kinds.{bytes_of}
 use Rattle.stk_numbers.specs.Kinds.{width_of, residue, decoded, wrap, fits}
 use Rattle.stk_numbers.proofs.Residues.{residue_below, residue_decoded}
 use Rattle.stk_numbers.proofs.Wrapping.{wrap_in_range}
-use Rattle.stk_runs.specs.Memory.{Memory, following, put, read_bytes, write_bytes, shown, number_at, stored}
+use Rattle.stk_meaning.specs.Memory.{Memory, following, put, read_bytes, write_bytes, shown, number_at, stored}
 
 pub put_here : (a x : ℕ) (m : Memory) → put a x m a ≡ x
 put_here a x m = grind (arith, common_steps)

@@ -5,8 +5,8 @@ use Rattle.std.proofs.lemmas.Grind.{common_steps}
 use Rattle.stk_ctype.specs.declared.kind.IntKind.{IntKind}
 use Rattle.stk_ctype.specs.Kinds.{bytes_of}
 use Rattle.stk_numbers.specs.Kinds.{width_of, residue, wrap}
-use Rattle.stk_runs.specs.Memory.{Memory, shown, number_at, stored}
-use Rattle.stk_runs.specs.Paths.{KeptNumbers, forgotten_from, forgotten}
+use Rattle.stk_meaning.specs.Memory.{Memory, shown, number_at, stored}
+use Rattle.stk_meaning.specs.Paths.{KeptNumbers, forgotten_from, forgotten}
 use Rattle.stk_run_laws.specs.Held.{Held, IsClear, AreHeld, Agrees, Unmoved, WhatIsStoredIsReadBack, KeptNumbersGoOnAgreeing}
 use Rattle.stk_run_laws.proofs.Bytes.{same_read, untouched, number_stored}
 

@@ -1,12 +1,12 @@
 -- Which nodes stand in visits, and that those of two parts are different where numbers ascend.
 use Rattle.std.proofs.Common.{◌≡◌, ℕ, ◌<◌, ◌⊎◌, List, [], ◌∷◌, ◌++◌, sym, subst, inl, inr, arith}
-use Rattle.stk_runs.specs.Visits.{Visits, no_visit, visit, both_visits, scope, unevaluated}
-use Rattle.stk_run_laws.specs.Sites.{site_node, IsBelow, IsIn, Ascends, nodes_of}
+use Rattle.stk_meaning.specs.Visits.{Visits, no_visit, one_visit, both_visits, scope, unevaluated}
+use Rattle.stk_run_laws.specs.Visits.{visit_node, IsBelow, IsIn, Ascends, nodes_of}
 
 -- a node stands among what is visited and evaluated
 abbrev pub Stands : ℕ → Visits → Type 0
 Stands k no_visit = ⊥
-Stands k (visit x) = k ≡ site_node x
+Stands k (one_visit x) = k ≡ visit_node x
 Stands k (both_visits a b) = Stands k a ⊎ Stands k b
 Stands k (scope ks a) = Stands k a
 Stands k (unevaluated a) = ⊥
@@ -18,7 +18,7 @@ pub record Apart (a b : Visits) : Type 0 where
 -- no node stands twice
 abbrev pub Distinct : Visits → Type 0
 Distinct no_visit = Unit {0}
-Distinct (visit x) = Unit {0}
+Distinct (one_visit x) = Unit {0}
 Distinct (both_visits a b) = Distinct a × Distinct b × Apart a b
 Distinct (scope ks a) = Distinct a
 Distinct (unevaluated a) = Unit {0}
@@ -39,7 +39,7 @@ in_either x (y ∷ a) b (inr h) = elim (in_either x a b h) [ inl i ↦ inl (inr 
 
 pub stands_in : (k : ℕ) (v : Visits) → Stands k v → IsIn k (nodes_of v)
 stands_in k no_visit h = absurd h
-stands_in k (visit x) h = inl h
+stands_in k (one_visit x) h = inl h
 stands_in k (both_visits a b) (inl h) = in_left k (nodes_of a) (nodes_of b) (stands_in k a h)
 stands_in k (both_visits a b) (inr h) = in_right k (nodes_of a) (nodes_of b) (stands_in k b h)
 stands_in k (scope ks a) h = stands_in k a h
@@ -70,7 +70,7 @@ ascends_apart (x ∷ a) b i j h (inr p) q = ascends_apart a b i j h.1 p q
 -- where the nodes ascend, none stands twice
 pub distinct_of : (v : Visits) → Ascends (nodes_of v) → Distinct v
 distinct_of no_visit h = tt
-distinct_of (visit x) h = tt
+distinct_of (one_visit x) h = tt
 distinct_of (both_visits a b) h = (
   distinct_of a (ascends_left (nodes_of a) (nodes_of b) h),
   distinct_of b (ascends_right (nodes_of a) (nodes_of b) h),

@@ -1,10 +1,11 @@
--- Kept objects in memory: where they lie, the numbers kept of them, and what a memory gives of them (C11 6.2.4p2, 6.5p7).
+-- Kept objects in memory: where they lie, the numbers kept of them, and what a memory gives of them (C11 6.2.4p2,
+-- 6.5p7).
 use Rattle.std.specs.Prelude.{ℕ, ◌+◌, ◌-◌, ◌^◌, ◌<◌, ◌≤◌, ◌≡◌, Bool, true, false, ℤ, Some, None, get_or, set}
 use Rattle.stk_ctype.specs.declared.kind.IntKind.{IntKind}
 use Rattle.stk_ctype.specs.Kinds.{bytes_of}
 use Rattle.stk_numbers.specs.Kinds.{fits, wrap}
-use Rattle.stk_runs.specs.Memory.{Memory, number_at, stored}
-use Rattle.stk_runs.specs.Paths.{KeptNumbers, forgotten}
+use Rattle.stk_meaning.specs.Memory.{Memory, number_at, stored}
+use Rattle.stk_meaning.specs.Paths.{KeptNumbers, forgotten}
 
 -- how many objects are kept, and of each by its position the kind of its numbers and its address
 pub record Held : Type 0 where
@@ -38,8 +39,8 @@ WhatIsStoredIsReadBack = (k : IntKind) (a : ℕ) (z : ℤ) (m : Memory) → a + 
 abbrev pub WhatIsReadIsInRange : Type 0
 WhatIsReadIsInRange = (k : IntKind) (a : ℕ) (m : Memory) → fits k (number_at k a m) ≡ true
 
--- a store to a kept object keeps its number and those of all others; one to bytes that no kept object has keeps all; whatever is written
--- otherwise leaves right what is then still kept, where what may have changed is forgotten
+-- a store to a kept object keeps its number and those of all others; one to bytes that no kept object has keeps all;
+-- whatever is written otherwise leaves right what is then still kept, where what may have changed is forgotten
 pub record GoOnAgreeing (h : Held) (kept : KeptNumbers) (m : Memory) : Type 0 where
   pub stored_to : (q : ℕ) (z : ℤ) → q < h.count → Agrees h (set kept q (Some (wrap (h.kind q) z))) (stored (h.kind q) (h.address q) z m)
   pub beside : (k : IntKind) (a : ℕ) (z : ℤ) → a + bytes_of k ≤ 2 ^ 64 - 1 → ((q : ℕ) → q < h.count → IsClear h q a (bytes_of k)) → Agrees h kept (stored k a z m)

@@ -1,6 +1,15 @@
-//! Tests of what a search stands on: true literals, chains of numbers, and the trail.
+//! Tests of the search and of deciding goals.
 #![tactic(auto)]
 
-mod steps;
+mod answers;
 #[cfg(test)]
-mod tests;
+mod deciding;
+#[cfg(test)]
+mod plain;
+#[cfg(test)]
+mod query;
+#[cfg(test)]
+mod search;
+#[cfg(test)]
+mod solver;
+mod steps;

@@ -6,17 +6,15 @@ ghost use Rattle.stk_clauses.specs.Literals.{AreBelow};
 ghost use Rattle.stk_propagate.specs.Fitting.{Fits};
 
 use std::alloc::Global;
-use stk_assignment::Assignment;
 use stk_base::NoMemory;
-use stk_chains::Chains;
 use stk_clauses::{Cnf, Lit, Store, are_distinct};
-use stk_propagate::Trail;
+use stk_propagate::{Assignment, Trail, WatchLists};
 
 /// The number that stands for none.
 pub(crate) const NONE: u32 = 99;
 
-/// Four variables, clauses over them, literals that are assumed one after the other, and what propagation finds then: the number of a
-/// clause with only false literals, the true literals, and the reason of each.
+/// Four variables, clauses over them, literals that are assumed one after the other, and what propagation finds then:
+/// the number of a clause with only false literals, the true literals, and the reason of each.
 #[derive(Drop)]
 pub(crate) struct Row {
     pub clauses: &'static [&'static [u32]],
@@ -270,7 +268,7 @@ pub(crate) fn told(assigned: &Assignment, number: u32) -> (u32, usize, u32) {
 }
 
 /// Takes the first number out of a chain, if the chain exists.
-pub(crate) fn first_of(chains: &mut Chains, chain: usize) -> u32
+pub(crate) fn first_of(chains: &mut WatchLists, chain: usize) -> u32
     requires { chain < length chains.old.chains }
     ensures { length chains.new.chains ≡ length chains.old.chains }
 {
@@ -278,7 +276,7 @@ pub(crate) fn first_of(chains: &mut Chains, chain: usize) -> u32
 }
 
 /// Takes the first number out of a chain and puts it into another one.
-pub(crate) fn hand_over(chains: &mut Chains, from: usize, to: usize) -> u32
+pub(crate) fn hand_over(chains: &mut WatchLists, from: usize, to: usize) -> u32
     requires from { from < length chains.old.chains }
     requires to { to < length chains.old.chains }
     ensures { length chains.new.chains ≡ length chains.old.chains }
@@ -293,10 +291,10 @@ pub(crate) fn hand_over(chains: &mut Chains, from: usize, to: usize) -> u32
 }
 
 /// Three chains, and the number 0 in the first.
-pub(crate) fn with_one(alloc: Global) -> Result<Chains, NoMemory>
+pub(crate) fn with_one(alloc: Global) -> Result<WatchLists, NoMemory>
     ensures { IfOk result (λ c. length c.chains ≡ 3) }
 {
-    let mut chains = Chains::reserve(alloc, 3)?;
+    let mut chains = WatchLists::reserve(alloc, 3)?;
     chains.grow()?;
     chains.link(0, 0);
     Ok(chains)

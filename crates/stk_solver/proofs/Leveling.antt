@@ -5,9 +5,9 @@ use Rattle.std.proofs.lemmas.Bool.{cases_eq, cases_lt}
 use Rattle.std.proofs.lemmas.List.{length-take, get_or-take, get_or_append_left, get_or-append_right, get_or-map, length-map, get_or_at}
 use Rattle.stk_clauses.specs.declared.literal.Lit.{Lit}
 use Rattle.stk_clauses.specs.Propagation.{IsQuiet, AreQuiet}
-use Rattle.stk_assignment.specs.Assigned.{Assigned}
+use Rattle.stk_propagate.specs.Assigned.{Assigned}
 use Rattle.stk_propagate.specs.Trailed.{IsAssumed, IsGrown}
-use Rattle.stk_analysis.specs.Learnt.{AreLevels}
+use Rattle.stk_solver.specs.Learnt.{AreLevels}
 
 -- no level is behind the last one
 pub last_level : (a : Assigned) (ls : List ℕ) → AreLevels a ls → 0 < length ls → (k : ℕ) → IsAssumed a k → k ≤ get_or ls (length ls - 1) 0

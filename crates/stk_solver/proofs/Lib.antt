@@ -1,3 +1,7 @@
+pub mod Marking
+pub mod Leading
+pub mod LearntClauses
+pub mod Collecting
 pub mod Leveling
 pub mod Timing
 pub mod Logging

@@ -3,9 +3,9 @@ use Rattle.std.proofs.Common.{◌≡◌, ◌<◌, ◌^◌, ◌++◌, ◌∙◌, 
 use Rattle.std.specs.List.{Contains}
 use Rattle.stk_clauses.specs.declared.literal.Lit.{Lit}
 use Rattle.stk_clauses.specs.Derivations.{clauses_of_steps, AreSteps, AreNew}
-use Rattle.stk_assignment.specs.Assigned.{IsAssigned}
+use Rattle.stk_propagate.specs.Assigned.{IsAssigned}
 use Rattle.stk_propagate.specs.Fitting.{Fits}
-use Rattle.stk_analysis.specs.Learnt.{AreLevels}
+use Rattle.stk_solver.specs.Learnt.{AreLevels}
 use Rattle.stk_solver.specs.declared.search.Search.{Search}
 use Rattle.stk_solver.specs.Searching.{IsSearch}
 

@@ -8,13 +8,13 @@ use Rattle.stk_clauses.specs.Literals.{negated}
 use Rattle.stk_clauses.specs.Propagation.{IsOpen, AllFalse, AreQuiet, Forced, assumed, unit}
 use Rattle.stk_clauses.specs.Derivations.{ConflictStands}
 use Rattle.stk_clauses.proofs.Units.{no_falsified, leaves}
-use Rattle.stk_assignment.specs.Assigned.{AreFresh}
+use Rattle.stk_propagate.specs.Assigned.{AreFresh}
 use Rattle.stk_propagate.specs.Trailed.{Trailed}
 use Rattle.stk_propagate.specs.Fitting.{Fits}
 use Rattle.stk_propagate.proofs.Lists.{no_pair}
-use Rattle.stk_analysis.specs.Learnt.{AreLevels}
-use Rattle.stk_analysis.proofs.Leading.{fresh_front}
-use Rattle.stk_analysis.proofs.Learning.{quiet_at}
+use Rattle.stk_solver.specs.Learnt.{AreLevels}
+use Rattle.stk_solver.proofs.Leading.{fresh_front}
+use Rattle.stk_solver.proofs.LearntClauses.{quiet_at}
 
 abbrev zero_lit : Lit
 zero_lit = record { 0 = 0 }

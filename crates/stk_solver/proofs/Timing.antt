@@ -7,11 +7,11 @@ use Rattle.stk_clauses.specs.declared.literal.Lit.{Lit}
 use Rattle.stk_clauses.specs.Literals.{negated}
 use Rattle.stk_clauses.specs.Propagation.{IsOpen}
 use Rattle.stk_clauses.proofs.Members.{contains_head, contains_tail}
-use Rattle.stk_assignment.specs.Assigned.{Assigned, AreFresh}
+use Rattle.stk_propagate.specs.Assigned.{Assigned, AreFresh}
 use Rattle.stk_propagate.specs.Trailed.{IsAssumed}
 use Rattle.stk_propagate.specs.Fitting.{IsAlive, IsTimely}
-use Rattle.stk_analysis.specs.Learnt.{AreLevels}
-use Rattle.stk_analysis.proofs.Leading.{take_grows}
+use Rattle.stk_solver.specs.Learnt.{AreLevels}
+use Rattle.stk_solver.proofs.Leading.{take_grows}
 use Rattle.stk_solver.specs.Jumping.{IsDeep}
 use Rattle.stk_solver.proofs.Leveling.{size, found_level}
 

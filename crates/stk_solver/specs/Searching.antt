@@ -3,12 +3,13 @@ use Rattle.std.specs.Prelude.{◌≡◌, ◌⊎◌, ℕ, ◌<◌, ◌+◌, ◌*�
 use Rattle.std.specs.List.{Contains}
 use Rattle.stk_clauses.specs.declared.literal.Lit.{Lit}
 use Rattle.stk_clauses.specs.Derivations.{clauses_of_steps, AreSteps, AreNew}
-use Rattle.stk_assignment.specs.Assigned.{IsAssigned}
+use Rattle.stk_propagate.specs.Assigned.{IsAssigned}
 use Rattle.stk_propagate.specs.Fitting.{Fits}
-use Rattle.stk_analysis.specs.Learnt.{AreLevels}
+use Rattle.stk_solver.specs.Learnt.{AreLevels}
 use Rattle.stk_solver.specs.declared.search.Search.{Search}
 
--- the store has the given clauses and those of the log, each by its hints and new; the trail fits it; and with a level, no clause is empty
+-- the store has the given clauses and those of the log, each by its hints and new; the trail fits it; and with a level,
+-- no clause is empty
 pub record IsSearch (s : Search) (given : List (List Lit)) : Type 0 where
   pub clauses : s.store ≡ given ++ clauses_of_steps s.log.items
   pub small : s.vars < 2 ^ 31

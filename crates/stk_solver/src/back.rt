@@ -3,9 +3,9 @@ ghost use Rattle.std.specs.Prelude.{◌≡◌, ◌-◌, ◌*◌, ◌<◌, ◌≤
 ghost use Rattle.std.specs.List.{Contains};
 ghost use Rattle.stk_clauses.specs.declared.literal.Lit.{Lit};
 ghost use Rattle.stk_clauses.specs.Literals.{negated, AreBelow};
-ghost use Rattle.stk_assignment.specs.Assigned.{IsAssigned};
+ghost use Rattle.stk_propagate.specs.Assigned.{IsAssigned};
 ghost use Rattle.stk_propagate.specs.Fitting.{Fits};
-ghost use Rattle.stk_analysis.specs.Learnt.{AreLevels};
+ghost use Rattle.stk_solver.specs.Learnt.{AreLevels};
 ghost use Rattle.stk_solver.specs.Jumping.{IsDeep};
 
 use crate::search::Search;

@@ -8,9 +8,8 @@ use stk_base::NoMemory;
 use stk_clauses::{Lit, Store};
 
 impl Search {
-    /// The unassigned literal to try next, if what is tried next knows one: a variable that conflicts met lately, with the sign
-    /// that it had last.
-    /// The contract alone reads `_given`.
+    /// The unassigned literal to try next, if what is tried next knows one: a variable that conflicts met lately, with
+    /// the sign that it had last. The contract alone reads `_given`.
     fn suggested(&mut self, _given: &Store) -> Option<Lit>
         requires search { IsSearch self.old _given.now }
         ensures search { IsSearch self.new _given.now }

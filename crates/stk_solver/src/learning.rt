@@ -4,20 +4,20 @@ ghost use Rattle.stk_clauses.specs.Literals.{AreDistinct, AreBelow};
 ghost use Rattle.stk_clauses.specs.Propagation.{AllFalse, IsNew};
 ghost use Rattle.stk_clauses.specs.Hints.{IsByHints};
 ghost use Rattle.stk_propagate.specs.Fitting.{IsAlive, IsTimely};
-ghost use Rattle.stk_analysis.specs.Learnt.{IsAsserting};
+ghost use Rattle.stk_solver.specs.Learnt.{IsAsserting};
 ghost use Rattle.stk_solver.specs.Searching.{IsSearch};
 ghost use Rattle.stk_solver.specs.Jumping.{IsDeep};
 
 use crate::back::levels_to_keep;
+use crate::restarts::Restarts;
 use crate::search::Search;
 use std::alloc::Global;
-use stk_activity::Restarts;
 use stk_base::NoMemory;
 use stk_clauses::{Derived, Lit, Store};
 use stk_propagate::Trail;
 
-/// How many levels to keep: none, where it's time to begin anew, and else so many that the learnt clause makes its first
-/// literal true.
+/// How many levels to keep: none, where it's time to begin anew, and else so many that the learnt clause makes its
+/// first literal true.
 fn kept_levels(restarts: &mut Restarts, trail: &Trail, levels: &[u32], others: &[Lit]) -> usize
     requires below { AreBelow trail.now.assigned.vars others.now }
     requires some { 0 < length levels.now }

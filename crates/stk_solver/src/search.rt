@@ -5,15 +5,16 @@ ghost use Rattle.stk_clauses.specs.Literals.{AreBelow};
 ghost use Rattle.stk_clauses.specs.Propagation.{AllFalse, AreQuiet};
 ghost use Rattle.stk_solver.specs.Searching.{IsSearch};
 
+use crate::analysis::Analysis;
+use crate::decision_order::Order;
+use crate::restarts::Restarts;
 use std::alloc::Global;
-use stk_activity::{Order, Restarts};
-use stk_analysis::Analysis;
 use stk_base::NoMemory;
 use stk_clauses::{Cnf, Derived, Store};
 use stk_propagate::Trail;
 
-/// A search: the given clauses and the learnt ones, the trail over them, the places of the assumed literals, the learnt clauses
-/// with their hints, what learns them, what is tried next, and when to begin anew.
+/// A search: the given clauses and the learnt ones, the trail over them, the places of the assumed literals, the learnt
+/// clauses with their hints, what learns them, what is tried next, and when to begin anew.
 #[derive(Drop)]
 pub(crate) struct Search {
     pub(crate) vars: u32,

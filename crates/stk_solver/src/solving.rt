@@ -6,8 +6,7 @@ ghost use Rattle.stk_solver.specs.Answers.{IsAnswer};
 
 use crate::search::Search;
 use std::alloc::Global;
-use stk_base::{List, NoMemory};
-use stk_bits::Bits;
+use stk_base::{Bits, List, NoMemory};
 use stk_clauses::{Cnf, Derivation};
 
 /// Literals are numbers below 2^32, so they name the variables below 2^31.
@@ -23,10 +22,10 @@ pub enum Answer {
 
 /// Searches for values of the variables below `vars` that satisfy all clauses, and learns at most `budget` clauses.
 ///
-/// `Satisfied` has one value for each variable, and they satisfy every clause. `Refuted` has a derivation of at most `budget` + 1
-/// steps that refutes the clauses, so a checker accepts it. `Spent` comes only with a spent log of the budget: exactly `budget`
-/// clauses, each by its hints and new, after which one more conflict above level 0 stands. Lists over 2^31 variables or more, for
-/// which no memory would do, are answered `NoMemory`.
+/// `Satisfied` has one value for each variable, and they satisfy every clause. `Refuted` has a derivation of at most
+/// `budget` + 1 steps that refutes the clauses, so a checker accepts it. `Spent` comes only with a spent log of the
+/// budget: exactly `budget` clauses, each by its hints and new, after which one more conflict above level 0 stands.
+/// Lists over 2^31 variables or more, for which no memory would do, are answered `NoMemory`.
 pub fn solve(alloc: Global, cnf: &Cnf, budget: u32) -> Result<Answer, NoMemory>
     requires within { All (AreBelow cnf.now.vars) cnf.now.store }
     requires room { length cnf.now.store + budget < 2 ^ 31 - 1 }

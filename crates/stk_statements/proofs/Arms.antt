@@ -3,21 +3,21 @@ use Rattle.std.proofs.Common.{ℕ, ◌≡◌, ◌<◌, ◌++◌, List, [], Optio
 use Rattle.stk_ctype.specs.declared.kind.IntKind.{IntKind}
 use Rattle.stk_tree.specs.Syntax.{ExprTree, MaybeExprTree, MaybeStmtTree, PartTrees, SectionTrees, StartTree, StmtTree}
 use Rattle.stk_tree.specs.Syntax as s
-use Rattle.stk_facts.specs.declared.untyped.Untyped.{Untyped}
-use Rattle.stk_facts.specs.Facts.{Fact, Fits, fact_at, plain}
-use Rattle.stk_facts.specs.Outcome.{Outcome, Good, and_then, finish, IsAt, Gives}
-use Rattle.stk_facts.proofs.Steps.{goes, stops}
-use Rattle.stk_rules.specs.Types.{kind_of}
-use Rattle.stk_scope.specs.Locals.{Local}
+use Rattle.stk_type_rules.specs.declared.untyped.Untyped.{Untyped}
+use Rattle.stk_type_rules.specs.Facts.{Fact, Fits, fact_at, plain}
+use Rattle.stk_type_rules.specs.Outcome.{Outcome, Good, and_then, finish, IsAt, Gives}
+use Rattle.stk_type_rules.proofs.Steps.{goes, stops}
+use Rattle.stk_type_rules.specs.Types.{kind_of}
+use Rattle.stk_typing.specs.Locals.{Local}
 use Rattle.stk_typing.specs.Typing.{expression_typed}
 use Rattle.stk_typing.proofs.Turns.{longer, mapped}
-use Rattle.stk_bodies.specs.Bodies.{Body, with_more, opened, looped, switched}
-use Rattle.stk_bodies.specs.Sections.{Labelled, section_rule, unlabelled}
-use Rattle.stk_bodies.specs.Statements.{Started, for_rule, form_typed, maybe_statement_typed, maybe_typed, parts_typed, sections_typed, start_typed, statement_typed, switch_rule, test_rule}
-use Rattle.stk_body_parts.specs.declared.labels.Labels.{Labels}
-use Rattle.stk_body_parts.specs.Rows.{AnyFact, AnyLabels, IsKnown, IsLabelled, IsStarted, Nothing, known_at}
-use Rattle.stk_body_parts.proofs.Turns.{Labels_are}
-use Rattle.stk_statements.proofs.Turns.{body_stops, for_gives, test_body, test_two, then_gives, then_tested}
+use Rattle.stk_function_types.specs.Bodies.{Body, with_more, opened, looped, switched}
+use Rattle.stk_function_types.specs.Sections.{Labelled, section_rule, unlabelled}
+use Rattle.stk_function_types.specs.Statements.{Started, for_rule, form_typed, maybe_statement_typed, maybe_typed, parts_typed, sections_typed, start_typed, statement_typed, switch_rule, test_rule}
+use Rattle.stk_statements.specs.declared.labels.Labels.{Labels}
+use Rattle.stk_statements.specs.Rows.{AnyFact, AnyLabels, IsKnown, IsLabelled, IsStarted, Nothing, known_at}
+use Rattle.stk_statements.proofs.Turns.{Labels_are}
+use Rattle.stk_statements.proofs.StatementTurns.{body_stops, for_gives, test_body, test_two, then_gives, then_tested}
 
 -- an answer, where the outcome is said in other words
 pub again : {A V : Type 0} (Q : A → V → Type 0) (o z : Outcome A) (result : Result V Untyped) (a c : List Fact) → o ≡ z → Gives Q o result a c → Gives Q z result a c

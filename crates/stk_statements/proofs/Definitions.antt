@@ -6,17 +6,17 @@ use Rattle.stk_ctype.specs.Types.{TypeTree, type_of}
 use Rattle.stk_tree.specs.declared.declaration.Storage.{Storage}
 use Rattle.stk_tree.specs.Syntax.{BaseTree, DeclrTree, StmtTree}
 use Rattle.stk_tree.specs.Syntax as s
-use Rattle.stk_facts.specs.declared.untyped.Untyped.{Untyped}
-use Rattle.stk_facts.specs.Facts.{Fact}
-use Rattle.stk_facts.specs.Outcome.{Outcome, Good, Refused, and_then, finish, IsAt, Gives}
-use Rattle.stk_facts.proofs.Steps.{goes}
-use Rattle.stk_scope.specs.declared.locals.LocalName.{LocalName}
-use Rattle.stk_scope.specs.Locals.{Local, local_of}
+use Rattle.stk_type_rules.specs.declared.untyped.Untyped.{Untyped}
+use Rattle.stk_type_rules.specs.Facts.{Fact}
+use Rattle.stk_type_rules.specs.Outcome.{Outcome, Good, Refused, and_then, finish, IsAt, Gives}
+use Rattle.stk_type_rules.proofs.Steps.{goes}
+use Rattle.stk_typing.specs.declared.locals.LocalName.{LocalName}
+use Rattle.stk_typing.specs.Locals.{Local, local_of}
 use Rattle.stk_declarators.specs.Rows.{scope_with}
 use Rattle.stk_typing.specs.Typing.{base_typed}
-use Rattle.stk_bodies.specs.Bodies.{Body}
-use Rattle.stk_bodies.specs.Functions.{body_of, body_typed, function_typed, head_typed, outside, storage_rule}
-use Rattle.stk_body_parts.specs.Rows.{AnyFact, IsHeaded}
+use Rattle.stk_function_types.specs.Bodies.{Body}
+use Rattle.stk_function_types.specs.Functions.{body_of, body_typed, function_typed, head_typed, outside, storage_rule}
+use Rattle.stk_statements.specs.Rows.{AnyFact, IsHeaded}
 
 -- whatever is known of a node that has its fact
 pub any_ok : (o : Outcome Fact) (i : ℕ) (v : Unit {0}) (a b : List Fact) → Gives (IsAt b) o (Ok i) a b → Gives AnyFact o (Ok v) a b

@@ -12,21 +12,21 @@ use Rattle.stk_tree.specs.declared.declaration.Declr.{Declr, out-Declr, fold_out
 use Rattle.stk_tree.specs.Syntax.{PartTree, SectionTree, StmtTree, StmtFormTree, MaybeInitTree, BaseFormTree, DesigTree, DimensionTree, InitTree, TailTree, ExprFormTree, BaseTree, DeclrTree, EnumrTree, ItemTree, MemberTree, ParamTree, TypeNameTree, ExprTree}
 use Rattle.stk_tree.specs.View.{base_form_step, designator_step, dimension_step, initialiser_step, tail_step, expression_form_step, base_step, declarator_step, enumerator_step, item_step, member_step, parameter_step, type_name_step, expression_step, view_declarator, view_tail}
 use Rattle.stk_ctype.specs.Types.{TypeTree}
-use Rattle.stk_scope.specs.Scope.{Scope}
-use Rattle.stk_scope.specs.Arrays.{starred}
+use Rattle.stk_typing.specs.Scope.{Scope}
+use Rattle.stk_typing.specs.Arrays.{starred}
 use Rattle.stk_typing.specs.Forms.{structs_in}
 use Rattle.stk_declarators.specs.Tails.{tail_typed, tail_type}
 use Rattle.stk_declarators.specs.Rows.{locals_in}
 use Rattle.stk_tree.specs.Syntax as s
 use Rattle.stk_tree.specs.View.{given_expression, labels, maybe_statement, parts, part_step, sections, section_step, statement_form_step, statement_step, statements, view_expression, view_label, view_part, view_section, view_start, view_statement, view_statement_form}
-use Rattle.stk_facts.specs.Facts.{Fits, plain}
-use Rattle.stk_facts.specs.Outcome.{Good, and_then, finish}
-use Rattle.stk_rules.specs.Types.{kind_of}
+use Rattle.stk_type_rules.specs.Facts.{Fits, plain}
+use Rattle.stk_type_rules.specs.Outcome.{Good, and_then, finish}
+use Rattle.stk_type_rules.specs.Types.{kind_of}
 use Rattle.stk_typing.specs.Typing.{expression_typed}
-use Rattle.stk_bodies.specs.Bodies.{Body, with_more, opened, looped, switched}
-use Rattle.stk_bodies.specs.Sections.{unlabelled}
-use Rattle.stk_bodies.specs.Functions.{body_typed, head_typed}
-use Rattle.stk_bodies.specs.Statements.{for_rule, maybe_statement_typed, maybe_typed, parts_typed, sections_typed, start_typed, statement_typed, switch_rule, test_rule}
+use Rattle.stk_function_types.specs.Bodies.{Body, with_more, opened, looped, switched}
+use Rattle.stk_function_types.specs.Sections.{unlabelled}
+use Rattle.stk_function_types.specs.Functions.{body_typed, head_typed}
+use Rattle.stk_function_types.specs.Statements.{for_rule, maybe_statement_typed, maybe_typed, parts_typed, sections_typed, start_typed, statement_typed, switch_rule, test_rule}
 
 seen : (x : Stmt) (f : StmtForm) (t : StmtFormTree) → (out-Stmt x).form ≡ f → view_statement_form f ≡ t → view_statement x ≡ s.statement (out-Stmt x).node t
 seen x f t is view = fold_out-Stmt PartTree StmtFormTree SectionTree StmtTree part_step statement_form_step section_step statement_step x ∙ ap (s.statement (out-Stmt x).node) (ap view_statement_form is ∙ view)

@@ -5,26 +5,28 @@ ghost use Rattle.stk_ctype.specs.Types.{type_of};
 ghost use Rattle.stk_ctype.specs.Structs.{Structs, structs_of};
 ghost use Rattle.stk_ctype.specs.Sound.{IsSound};
 ghost use Rattle.stk_tree.specs.View.{view_base, view_declarator, view_function, view_statement};
-ghost use Rattle.stk_facts.specs.Facts.{AreSoundFacts, fact_of};
-ghost use Rattle.stk_facts.specs.Outcome.{Gives};
-ghost use Rattle.stk_scope.specs.Locals.{AreSoundLocals, local_of};
+ghost use Rattle.stk_type_rules.specs.Facts.{AreSoundFacts, fact_of};
+ghost use Rattle.stk_type_rules.specs.Outcome.{Gives};
+ghost use Rattle.stk_typing.specs.Locals.{AreSoundLocals, local_of};
 ghost use Rattle.stk_typing.specs.Typing.{base_typed};
 ghost use Rattle.stk_declarators.specs.Rows.{file_scope};
-ghost use Rattle.stk_body_parts.specs.Places.{body_in};
-ghost use Rattle.stk_bodies.specs.Functions.{body_typed, function_typed, head_typed};
-ghost use Rattle.stk_body_parts.specs.Rows.{AnyFact, IsHeaded};
+ghost use Rattle.stk_statements.specs.Places.{body_in};
+ghost use Rattle.stk_function_types.specs.Functions.{body_typed, function_typed, head_typed};
+ghost use Rattle.stk_statements.specs.Rows.{AnyFact, IsHeaded};
 
+use crate::Context;
+use crate::forms::by_nothing;
+use crate::rules::storage_rule;
 use crate::statements::{parts, statement};
-use stk_body_parts::{Place, by_nothing, storage_rule};
+use stk_address_taken::NodeSet;
 use stk_ctype::CType;
 use stk_declarators::{File, scope, tail, tail_type};
-use stk_facts::{NodeFact, Untyped, fact, own};
-use stk_scope::{Locals, starred};
-use stk_taken::NodeSet;
 use stk_tree::{Declr, Function, Stmt, StmtForm};
-use stk_typing::base;
+use stk_type_rules::{NodeFact, Untyped, fact, own};
+use stk_typing::{Locals, base, starred};
 
-// Types the head of a function, whose base names this type, and brings its parameters into force. The answer is its result.
+// Types the head of a function, whose base names this type, and brings its parameters into force. The answer is its
+// result.
 fn head(
     f: &File,
     locals: &mut Locals,
@@ -48,7 +50,12 @@ fn head(
 }
 
 // Types the body of a function.
-fn body(p: &Place, locals: &mut Locals, facts: &mut Vec<NodeFact>, x: &Stmt) -> Result<(), Untyped>
+fn body(
+    p: &Context,
+    locals: &mut Locals,
+    facts: &mut Vec<NodeFact>,
+    x: &Stmt,
+) -> Result<(), Untyped>
     requires locals { AreSoundLocals (structs_of p.now.file.names.now) (map local_of locals.old) }
     requires sound { AreSoundFacts (structs_of p.now.file.names.now) (map fact_of facts.old.items) }
     ensures gives { Gives AnyFact (body_typed (body_in p.now locals.old) (view_statement x.now)) result (map fact_of facts.old.items) (map fact_of facts.new.items) }
@@ -90,9 +97,9 @@ fn base_type(
     Ok(ty)
 }
 
-/// Types a function definition whose unit's node has this number, where these are the declarators whose names are operands of `&`
-/// (C11 6.9.1): a fact for each of its nodes is put behind the others; or the first node that a rule refuses, by the lowest rule
-/// that does.
+/// Types a function definition whose unit's node has this number, where these are the declarators whose names are
+/// operands of `&` (C11 6.9.1): a fact for each of its nodes is put behind the others; or the first node that a rule
+/// refuses, by the lowest rule that does.
 pub fn function(
     f: &File,
     taken: &NodeSet,
@@ -107,7 +114,7 @@ pub fn function(
     let mut locals = Locals::new(f.alloc);
     let ty = base_type(f, &locals, facts, x)?;
     let returns = head(f, &mut locals, facts, &ty, &x.declr)?;
-    let p = Place {
+    let p = Context {
         file: *f,
         taken,
         returns: &returns,

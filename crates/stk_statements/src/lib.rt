@@ -1,8 +1,17 @@
-//! The types of the bodies of functions, and of function definitions: a fact for each node in the order of the numbers, or the first
-//! node that a rule refuses, with the lowest rule that does.
+//! The types of the bodies of functions: local declarations, labels, statements, and a function definition whole.
 #![tactic(auto)]
 
+mod forms;
 mod functions;
+mod initials;
+mod labels;
+mod locals;
+mod places;
+mod rules;
 mod statements;
 
+pub use forms::{discarded, returned, test};
 pub use functions::function;
+pub use labels::{Labels, put_labels};
+pub use locals::declaration;
+pub use places::Context;

@@ -4,29 +4,26 @@ ghost use Rattle.std.specs.Prelude.{◌≡◌, map, OnOk};
 ghost use Rattle.std.specs.Option.{option_map};
 ghost use Rattle.stk_ctype.specs.Structs.{Structs, structs_of};
 ghost use Rattle.stk_tree.specs.View.{given_expression, view_part, view_section, view_start, view_statement, maybe_statement, parts, sections, statements};
-ghost use Rattle.stk_facts.specs.Facts.{AreSoundFacts, fact_of};
-ghost use Rattle.stk_facts.specs.Outcome.{Gives, finish};
-ghost use Rattle.stk_scope.specs.Locals.{AreSoundLocals, local_of};
-ghost use Rattle.stk_bodies.specs.Bodies.{opened};
-ghost use Rattle.stk_body_parts.specs.Places.{Begins, body_in};
-ghost use Rattle.stk_bodies.specs.Sections.{Labelled, section_rule, unlabelled};
-ghost use Rattle.stk_bodies.specs.Statements.{maybe_statement_typed, part_typed, parts_typed, section_typed, sections_typed, start_typed, statement_typed, statements_typed};
-ghost use Rattle.stk_body_parts.specs.Rows.{AnyFact, AnyLabels, AreLocals, IsLabelled, IsStarted, Nothing};
+ghost use Rattle.stk_type_rules.specs.Facts.{AreSoundFacts, fact_of};
+ghost use Rattle.stk_type_rules.specs.Outcome.{Gives, finish};
+ghost use Rattle.stk_typing.specs.Locals.{AreSoundLocals, local_of};
+ghost use Rattle.stk_function_types.specs.Bodies.{opened};
+ghost use Rattle.stk_statements.specs.Places.{Begins, body_in};
+ghost use Rattle.stk_function_types.specs.Sections.{Labelled, section_rule, unlabelled};
+ghost use Rattle.stk_function_types.specs.Statements.{maybe_statement_typed, part_typed, parts_typed, section_typed, sections_typed, start_typed, statement_typed, statements_typed};
+ghost use Rattle.stk_statements.specs.Rows.{AnyFact, AnyLabels, AreLocals, IsLabelled, IsStarted, Nothing};
 
+use crate::forms::{by_for, by_leave, by_nothing, by_switch, by_test, optional};
+use crate::{Context, Labels, declaration, discarded, put_labels, returned, test};
 use stk_base::Boxed;
-use stk_body_parts::{
-    Labels, Place, by_for, by_leave, by_nothing, by_switch, by_test, declaration, discarded,
-    optional, put_labels, returned, test,
-};
 use stk_ctype::IntKind;
-use stk_facts::{NodeFact, Untyped, fact, own};
-use stk_rules::kind_of;
-use stk_scope::Locals;
 use stk_tree::{Part, Section, Start, Stmt, StmtForm};
+use stk_type_rules::{NodeFact, Untyped, fact, kind_of, own};
+use stk_typing::Locals;
 
 // Types the first part of a `for`: the place of its expression, where it is one.
 fn start(
-    p: &Place,
+    p: &Context,
     locals: &mut Locals,
     facts: &mut Vec<NodeFact>,
     x: &Start,
@@ -56,11 +53,11 @@ fn by_section(facts: &mut Vec<NodeFact>, node: u32, all: &Labels) -> Result<(), 
     Ok(())
 }
 
-/// Types a statement (C11 6.8): a fact for each of its nodes is put behind the others, its own last, and the locals are as
-/// before; or the first node that a rule refuses, by the lowest rule that does.
+/// Types a statement (C11 6.8): a fact for each of its nodes is put behind the others, its own last, and the locals are
+/// as before; or the first node that a rule refuses, by the lowest rule that does.
 #[cycle(statement)]
-pub fn statement(
-    p: &Place,
+pub(crate) fn statement(
+    p: &Context,
     locals: &mut Locals,
     facts: &mut Vec<NodeFact>,
     x: &Stmt,
@@ -119,7 +116,7 @@ pub fn statement(
 // Types the parts of a block of its own.
 #[cycle(statement)]
 fn block(
-    p: &Place,
+    p: &Context,
     locals: &mut Locals,
     facts: &mut Vec<NodeFact>,
     list: &[Part],
@@ -139,7 +136,7 @@ fn block(
 // Types a statement that may be missing.
 #[cycle(statement)]
 fn otherwise(
-    p: &Place,
+    p: &Context,
     locals: &mut Locals,
     facts: &mut Vec<NodeFact>,
     other: &Option<Boxed<Stmt>>,
@@ -159,7 +156,7 @@ fn otherwise(
 // Types statements, one after the other.
 #[cycle(statement)]
 fn statements(
-    p: &Place,
+    p: &Context,
     locals: &mut Locals,
     facts: &mut Vec<NodeFact>,
     list: &[Stmt],
@@ -178,7 +175,12 @@ fn statements(
 
 // Types a part of a block, and brings its names into force.
 #[cycle(statement)]
-fn part(p: &Place, locals: &mut Locals, facts: &mut Vec<NodeFact>, x: &Part) -> Result<(), Untyped>
+fn part(
+    p: &Context,
+    locals: &mut Locals,
+    facts: &mut Vec<NodeFact>,
+    x: &Part,
+) -> Result<(), Untyped>
     requires locals { AreSoundLocals (structs_of p.now.file.names.now) (map local_of locals.old) }
     requires sound { AreSoundFacts (structs_of p.now.file.names.now) (map fact_of facts.old.items) }
     ensures gives { Gives (AreLocals (map local_of locals.old) (map local_of locals.new)) (part_typed (body_in p.now locals.old) (view_part x.now)) result (map fact_of facts.old.items) (map fact_of facts.new.items) }
@@ -194,8 +196,8 @@ fn part(p: &Place, locals: &mut Locals, facts: &mut Vec<NodeFact>, x: &Part) -> 
 
 /// Types the parts of a block, one after the other, and brings their names into force.
 #[cycle(statement)]
-pub fn parts(
-    p: &Place,
+pub(crate) fn parts(
+    p: &Context,
     locals: &mut Locals,
     facts: &mut Vec<NodeFact>,
     list: &[Part],
@@ -216,7 +218,7 @@ pub fn parts(
 // Types all sections of a `switch`.
 #[cycle(statement)]
 fn switched(
-    p: &Place,
+    p: &Context,
     locals: &mut Locals,
     facts: &mut Vec<NodeFact>,
     kind: Option<IntKind>,
@@ -235,7 +237,7 @@ fn switched(
 // Types a section of a `switch`.
 #[cycle(statement)]
 fn section(
-    p: &Place,
+    p: &Context,
     locals: &mut Locals,
     facts: &mut Vec<NodeFact>,
     kind: Option<IntKind>,
@@ -257,7 +259,7 @@ fn section(
 // Types sections, one after the other.
 #[cycle(statement)]
 fn sections(
-    p: &Place,
+    p: &Context,
     locals: &mut Locals,
     facts: &mut Vec<NodeFact>,
     kind: Option<IntKind>,

@@ -9,17 +9,17 @@ use Rattle.stk_tree.specs.Syntax as s
 use Rattle.stk_tree.specs.Layout.{unit_laid_out}
 use Rattle.stk_tree.specs.Nodes.{unit_nodes}
 use Rattle.stk_tree.specs.Tokens.{declaration_tokens, unit_tokens}
-use Rattle.stk_tree_layout.proofs.Few.{unit_tokens-few}
+use Rattle.stk_nodes.proofs.Few.{unit_tokens-few}
 use Rattle.stk_tree.specs.Unlaid.{no_node, unlaid_declaration, unlaid_unit}
 use Rattle.stk_grammar.specs.Reading.{◌>>=◌, Found}
 use Rattle.stk_grammar.proofs.Operators.{bind_some, if_some, some_is}
-use Rattle.stk_decl_grammar.specs.Reading.{declaration_at}
-use Rattle.stk_decl_grammar.proofs.Declarations.{declaration_reads, declaration_sound}
-use Rattle.stk_lexeme.specs.Lexemes.{lexeme_of, lexemes_of, spans_of}
-use Rattle.stk_stmt_grammar.specs.Reading.{declared_on, is_end}
-use Rattle.stk_stmt_grammar.specs.Units.{IsUnit}
-use Rattle.stk_stmt_grammar.proofs.Found.{end_is}
-use Rattle.stk_stmt_grammar.proofs.LaidUnits.{laid_unlaid_unit, laid_is_unit}
+use Rattle.stk_grammar.specs.DeclarationReading.{declaration_at}
+use Rattle.stk_grammar.proofs.Declarations.{declaration_reads, declaration_sound}
+use Rattle.stk_grammar.specs.Lexemes.{lexeme_of, lexemes_of, spans_of}
+use Rattle.stk_grammar.specs.StatementReading.{declared_on, is_end}
+use Rattle.stk_grammar.specs.Units.{IsUnit}
+use Rattle.stk_grammar.proofs.Found.{end_is}
+use Rattle.stk_grammar.proofs.LaidUnits.{laid_unlaid_unit, laid_is_unit}
 use Rattle.stk_stmt.specs.Heads.{IsHead, ended_lexemes, ended_spans, is_declaration, last_end}
 use Rattle.stk_stmt.specs.Units.{declaration_unit_at}
 

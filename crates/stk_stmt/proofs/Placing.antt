@@ -8,13 +8,13 @@ use Rattle.stk_tree.specs.Syntax.{UnitTree}
 use Rattle.stk_tree.specs.Layout.{unit_laid_out}
 use Rattle.stk_tree.specs.Nodes.{unit_nodes}
 use Rattle.stk_tree.specs.Tokens.{unit_tokens}
-use Rattle.stk_tree_layout.proofs.Few.{unit_tokens-few}
-use Rattle.stk_lexeme.specs.Lexemes.{lexeme_of, lexemes_of, spans_of}
+use Rattle.stk_nodes.proofs.Few.{unit_tokens-few}
+use Rattle.stk_grammar.specs.Lexemes.{lexeme_of, lexemes_of, spans_of}
 use Rattle.stk_tree.specs.Unlaid.{unlaid_unit}
-use Rattle.stk_stmt_grammar.specs.Reading.{unit_at}
-use Rattle.stk_stmt_grammar.specs.Units.{IsUnit}
-use Rattle.stk_stmt_grammar.proofs.LaidUnits.{laid_unlaid_unit, laid_is_unit}
-use Rattle.stk_stmt_grammar.proofs.Laws.{found_unlaid, unit_of_found}
+use Rattle.stk_grammar.specs.StatementReading.{unit_at}
+use Rattle.stk_grammar.specs.Units.{IsUnit}
+use Rattle.stk_grammar.proofs.LaidUnits.{laid_unlaid_unit, laid_is_unit}
+use Rattle.stk_grammar.proofs.StatementLaws.{found_unlaid, unit_of_found}
 
 -- each token has a span
 pub one_span_each : (named : Span → Bool) (bytes : List ℕ) (tokens : List Token) (u : UnitTree) → unit_at named (lexemes_of bytes tokens) ≡ Some u → length (spans_of tokens) ≡ length (unit_tokens u)

@@ -6,8 +6,8 @@ use Rattle.stk_tree.specs.Syntax.{LabelTree, LabelTrees, MaybeExprTree, PartTree
 use Rattle.stk_tree.specs.Syntax as s
 use Rattle.stk_tree.specs.View.{chained}
 use Rattle.stk_grammar.specs.Reading.{◌>>=◌, Found, behind_left_paren, behind_right_brace}
-use Rattle.stk_decl_grammar.specs.Reading.{Reader}
-use Rattle.stk_stmt_grammar.specs.Reading.{SectionReader, StatementReader, begins_label, closed_at, ended_at, ends_section, for_at, for_on, kind_at, label_at, labels_at, labels_on, made_statement, part_at, parts_at, parts_on, section_at, section_of, section_on, sections_at, sections_on, start_at, statement_at, statement_on, statements_at, statements_on}
+use Rattle.stk_grammar.specs.DeclarationReading.{Reader}
+use Rattle.stk_grammar.specs.StatementReading.{SectionReader, StatementReader, begins_label, closed_at, ended_at, ends_section, for_at, for_on, kind_at, label_at, labels_at, labels_on, made_statement, part_at, parts_at, parts_on, section_at, section_of, section_on, sections_at, sections_on, start_at, statement_at, statement_on, statements_at, statements_on}
 use Rattle.stk_expr.specs.declared.parse.Parse.{Parse}
 use Rattle.stk_expr.specs.declared.parse.Parse.TheVariants as parse
 use Rattle.stk_expr.specs.Fronts.{in_front}

@@ -5,7 +5,7 @@ use Rattle.stk_tree.specs.declared.fixed.Fixed.TheVariants.{Semicolon}
 use Rattle.stk_tree.specs.declared.fixed.Lexeme.{Lexeme}
 use Rattle.stk_tree.specs.declared.fixed.Lexeme.TheVariants.{Fixed as Token}
 use Rattle.stk_tree.specs.Syntax.{UnitTree, declares, defines, empty_unit}
-use Rattle.stk_stmt_grammar.specs.Units.{IsUnit}
+use Rattle.stk_grammar.specs.Units.{IsUnit}
 
 -- tokens with a `;` behind them
 abbrev pub ended_lexemes : List Lexeme → List Lexeme

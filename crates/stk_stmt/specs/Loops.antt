@@ -5,7 +5,7 @@ use Rattle.stk_tree.specs.declared.fixed.Lexeme.{Lexeme}
 use Rattle.stk_tree.specs.Syntax.{MaybeExprTree, StartTree, StmtTree}
 use Rattle.stk_tree.specs.Syntax as s
 use Rattle.stk_grammar.specs.Reading.{◌>>=◌, Found, behind_left_paren}
-use Rattle.stk_stmt_grammar.specs.Reading.{StatementReader, behind_while, closed_at, do_on, ended_at, made_statement, start_at}
+use Rattle.stk_grammar.specs.StatementReading.{StatementReader, behind_while, closed_at, do_on, ended_at, made_statement, start_at}
 
 -- the `do` with this body
 abbrev pub do_behind : (Span → Bool) → ℕ → StmtTree → List Lexeme → Found StmtTree

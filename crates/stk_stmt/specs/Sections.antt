@@ -6,7 +6,7 @@ use Rattle.stk_tree.specs.Syntax.{LabelTrees, SectionTree}
 use Rattle.stk_tree.specs.Syntax as s
 use Rattle.stk_tree.specs.Unlaid.{no_node}
 use Rattle.stk_grammar.specs.Reading.{◌>>=◌, Found}
-use Rattle.stk_stmt_grammar.specs.Reading.{StatementReader, label_at, labels_at, statements_at}
+use Rattle.stk_grammar.specs.StatementReading.{StatementReader, label_at, labels_at, statements_at}
 
 -- the labels of a section
 abbrev pub some_labels_at : (Span → Bool) → ℕ → List Lexeme → Found LabelTrees

@@ -5,8 +5,8 @@ use Rattle.stk_tree.specs.declared.fixed.Lexeme.{Lexeme}
 use Rattle.stk_tree.specs.Syntax.{DeclarationTree, DeclrTree, DeclrTrees, UnitTree}
 use Rattle.stk_tree.specs.Syntax as s
 use Rattle.stk_grammar.specs.Reading.{◌>>=◌}
-use Rattle.stk_decl_grammar.specs.Reading.{declaration_at}
-use Rattle.stk_stmt_grammar.specs.Reading.{declared_on, defined_on, statement_at}
+use Rattle.stk_grammar.specs.DeclarationReading.{declaration_at}
+use Rattle.stk_grammar.specs.StatementReading.{declared_on, defined_on, statement_at}
 
 -- the declarator of a list that has one, and none of any other list
 abbrev pub lone_declarator : DeclrTrees → Option DeclrTree

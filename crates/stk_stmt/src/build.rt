@@ -1,7 +1,8 @@
 //! Nodes of trees. Their records are all alike: a tree is laid out as a whole, once its unit is read.
 //!
-//! A statement is put in a box as soon as it is made, since it isn't dropped where it stands; and an expression stays in its box
-//! until the statement that holds it is made, since to drop the box is one step, and to drop the expression is many.
+//! A statement is put in a box as soon as it is made, since it isn't dropped where it stands; and an expression stays
+//! in its box until the statement that holds it is made, since to drop the box is one step, and to drop the expression
+//! is many.
 
 ghost use Rattle.std.specs.Prelude.{◌≡◌, IfOk, map};
 ghost use Rattle.stk_tree.specs.Syntax as s;
@@ -19,7 +20,7 @@ use stk_tree::{
 };
 
 /// What a reader of statements answers: a statement of this form, and the tokens behind it.
-pub fn finished(
+pub(crate) fn finished(
     alloc: Global,
     form: StmtForm,
     rest: &[Lexeme],
@@ -34,7 +35,7 @@ pub fn finished(
 }
 
 /// An expression out of its box, where there is one.
-pub fn opened(value: Option<Boxed<Expr>>) -> Option<Expr>
+pub(crate) fn opened(value: Option<Boxed<Expr>>) -> Option<Expr>
     ensures { given_expression result ≡ given_expression value }
 {
     match value {
@@ -44,21 +45,21 @@ pub fn opened(value: Option<Boxed<Expr>>) -> Option<Expr>
 }
 
 /// `{ parts }`
-pub fn block(list: List<Part>) -> StmtForm
+pub(crate) fn block(list: List<Part>) -> StmtForm
     ensures { view_statement_form result ≡ s.block (parts (map view_part list)) }
 {
     StmtForm::Block(list)
 }
 
 /// `[e] ;`
-pub fn plain(value: Option<Boxed<Expr>>) -> StmtForm
+pub(crate) fn plain(value: Option<Boxed<Expr>>) -> StmtForm
     ensures { view_statement_form result ≡ s.expression_statement (given_expression value) }
 {
     StmtForm::Plain(opened(value))
 }
 
 /// An `if` without `else`.
-pub fn lone_if(test: Boxed<Expr>, then: Boxed<Stmt>) -> StmtForm
+pub(crate) fn lone_if(test: Boxed<Expr>, then: Boxed<Stmt>) -> StmtForm
     ensures { view_statement_form result ≡ s.if_statement (view_expression test) (view_statement then) s.no_statement }
 {
     StmtForm::If(test.into_inner(), then, None)
@@ -72,35 +73,35 @@ fn if_form(test: Expr, then: Boxed<Stmt>, other: Boxed<Stmt>) -> StmtForm
 }
 
 /// An `if` with an `else`.
-pub fn if_else(test: Boxed<Expr>, then: Boxed<Stmt>, other: Boxed<Stmt>) -> StmtForm
+pub(crate) fn if_else(test: Boxed<Expr>, then: Boxed<Stmt>, other: Boxed<Stmt>) -> StmtForm
     ensures { view_statement_form result ≡ s.if_statement (view_expression test) (view_statement then) (s.some_statement (view_statement other)) }
 {
     if_form(test.into_inner(), then, other)
 }
 
 /// `switch (e) { sections }`
-pub fn switch(value: Boxed<Expr>, list: List<Section>) -> StmtForm
+pub(crate) fn switch(value: Boxed<Expr>, list: List<Section>) -> StmtForm
     ensures { view_statement_form result ≡ s.switch_statement (view_expression value) (sections (map view_section list)) }
 {
     StmtForm::Switch(value.into_inner(), list)
 }
 
 /// `while (e) statement`
-pub fn while_loop(test: Boxed<Expr>, body: Boxed<Stmt>) -> StmtForm
+pub(crate) fn while_loop(test: Boxed<Expr>, body: Boxed<Stmt>) -> StmtForm
     ensures { view_statement_form result ≡ s.while_statement (view_expression test) (view_statement body) }
 {
     StmtForm::While(test.into_inner(), body)
 }
 
 /// `do statement while (e) ;`
-pub fn do_loop(body: Boxed<Stmt>, test: Boxed<Expr>) -> StmtForm
+pub(crate) fn do_loop(body: Boxed<Stmt>, test: Boxed<Expr>) -> StmtForm
     ensures { view_statement_form result ≡ s.do_statement (view_statement body) (view_expression test) }
 {
     StmtForm::Do(body, test.into_inner())
 }
 
 /// `for (start [e] ; [e]) statement`
-pub fn for_loop(
+pub(crate) fn for_loop(
     start: Boxed<Start>,
     test: Option<Boxed<Expr>>,
     step: Option<Boxed<Expr>>,
@@ -112,67 +113,67 @@ pub fn for_loop(
 }
 
 /// `break ;`
-pub fn break_form() -> StmtForm
+pub(crate) fn break_form() -> StmtForm
     ensures { view_statement_form result ≡ s.break_statement }
 {
     StmtForm::Break
 }
 
 /// `continue ;`
-pub fn continue_form() -> StmtForm
+pub(crate) fn continue_form() -> StmtForm
     ensures { view_statement_form result ≡ s.continue_statement }
 {
     StmtForm::Continue
 }
 
 /// `return [e] ;`
-pub fn return_form(value: Option<Boxed<Expr>>) -> StmtForm
+pub(crate) fn return_form(value: Option<Boxed<Expr>>) -> StmtForm
     ensures { view_statement_form result ≡ s.return_statement (given_expression value) }
 {
     StmtForm::Return(opened(value))
 }
 
 /// A declaration as a part of a block.
-pub fn local(declaration: Declaration) -> Part
+pub(crate) fn local(declaration: Declaration) -> Part
     ensures { view_part result ≡ s.local (view_declaration declaration) }
 {
     Part::Local(declaration)
 }
 
 /// A statement as a part of a block.
-pub fn run(statement: Boxed<Stmt>) -> Part
+pub(crate) fn run(statement: Boxed<Stmt>) -> Part
     ensures { view_part result ≡ s.run (view_statement statement) }
 {
     Part::Run(statement.into_inner())
 }
 
 /// Labels, and the statements behind them.
-pub fn section(marks: List<Label>, body: List<Stmt>) -> Section
-    ensures { view_section result ≡ s.section no_node (labels (map view_label marks)) (statements (map view_statement body)) }
+pub(crate) fn section(punctuators: List<Label>, body: List<Stmt>) -> Section
+    ensures { view_section result ≡ s.section no_node (labels (map view_label punctuators)) (statements (map view_statement body)) }
 {
     Section {
         node: no_node(),
-        labels: marks,
+        labels: punctuators,
         body,
     }
 }
 
 /// A lone `;`.
-pub fn empty_unit(alloc: Global) -> Result<Boxed<Unit>, AllocError>
+pub(crate) fn empty_unit(alloc: Global) -> Result<Boxed<Unit>, AllocError>
     ensures { IfOk result (λ x. view_unit x ≡ s.empty_unit no_node) }
 {
     Boxed::new(alloc, Unit::Empty(no_node()))
 }
 
 /// A declaration as a unit.
-pub fn declares(alloc: Global, declaration: Declaration) -> Result<Boxed<Unit>, AllocError>
+pub(crate) fn declares(alloc: Global, declaration: Declaration) -> Result<Boxed<Unit>, AllocError>
     ensures { IfOk result (λ x. view_unit x ≡ s.declares no_node (view_declaration declaration)) }
 {
     Boxed::new(alloc, Unit::Declares(no_node(), declaration))
 }
 
 /// A function as a unit.
-pub fn defines(
+pub(crate) fn defines(
     alloc: Global,
     storage: Option<Storage>,
     base: Base,

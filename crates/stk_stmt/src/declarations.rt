@@ -3,8 +3,8 @@
 ghost use Rattle.std.specs.Prelude.{◌≡◌, ◌≤◌};
 ghost use Rattle.stk_tree.specs.Nesting.{most_nesting};
 ghost use Rattle.stk_tree.specs.View.{view_declaration, view_start};
-ghost use Rattle.stk_decl_grammar.specs.Reading.{declaration_at, front_at};
-ghost use Rattle.stk_stmt_grammar.specs.Reading.{begins_local, start_at};
+ghost use Rattle.stk_grammar.specs.DeclarationReading.{declaration_at, front_at};
+ghost use Rattle.stk_grammar.specs.StatementReading.{begins_local, start_at};
 ghost use Rattle.stk_ctype.specs.Named.{named};
 ghost use Rattle.stk_expr.specs.Gives.{Gives};
 
@@ -15,18 +15,18 @@ use stk_base::Boxed;
 use stk_ctype::Names;
 use stk_decl::{LeadingDeclaration, declaration_within, front_within};
 use stk_expr::{Parse, begins_type};
-use stk_stmt_grammar::begins_static;
+use stk_grammar::begins_static;
 use stk_tree::{Lexeme, Start};
 
 /// Whether a declaration of a block begins here: with `static`, or with a type.
-pub fn begins_local(bytes: &[u8], names: &Names, lexemes: &[Lexeme]) -> bool
+pub(crate) fn begins_local(bytes: &[u8], names: &Names, lexemes: &[Lexeme]) -> bool
     ensures { result ≡ begins_local (named bytes.now names.now) lexemes.now }
 {
     begins_static(lexemes) || begins_type(bytes, names, lexemes)
 }
 
 /// A declaration, of at most the nesting `room`, at file scope or else in a block.
-pub fn declaration<'a>(
+pub(crate) fn declaration<'a>(
     alloc: Global,
     bytes: &[u8],
     names: &Names,
@@ -41,7 +41,7 @@ pub fn declaration<'a>(
 }
 
 /// What stands before the body of a function, of at most the nesting `room`, where the body begins behind it.
-pub fn front<'a>(
+pub(crate) fn front<'a>(
     alloc: Global,
     bytes: &[u8],
     names: &Names,
@@ -55,8 +55,8 @@ pub fn front<'a>(
 }
 
 /// The first part of a `for`, with its `;` (C11 6.8.5.3).
-#[tactic(auto, unfolding(stk_stmt_grammar::specs::Reading::start_at))]
-pub fn start<'a>(
+#[tactic(auto, unfolding(stk_grammar::specs::StatementReading::start_at))]
+pub(crate) fn start<'a>(
     alloc: Global,
     bytes: &[u8],
     names: &Names,

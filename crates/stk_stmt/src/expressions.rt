@@ -1,10 +1,10 @@
-//! The expressions of statements, with the marks around them.
+//! The expressions of statements, with the punctuators around them.
 
 ghost use Rattle.std.specs.Prelude.{◌≡◌, ◌≤◌};
 ghost use Rattle.stk_tree.specs.Nesting.{most_nesting};
 ghost use Rattle.stk_tree.specs.View.{given_expression, view_expression};
 ghost use Rattle.stk_grammar.specs.Stopped.{stopped_at};
-ghost use Rattle.stk_stmt_grammar.specs.Reading.{closed_at, condition_at, ended_at};
+ghost use Rattle.stk_grammar.specs.StatementReading.{closed_at, condition_at, ended_at};
 ghost use Rattle.stk_ctype.specs.Named.{named};
 ghost use Rattle.stk_expr.specs.Gives.{Gives};
 
@@ -16,8 +16,8 @@ use stk_grammar::{behind_left_paren, behind_right_paren, behind_semicolon};
 use stk_tree::{Expr, Lexeme, levels};
 
 /// `( e )`
-#[tactic(auto, unfolding(stk_stmt_grammar::specs::Reading::condition_at))]
-pub fn condition<'a>(
+#[tactic(auto, unfolding(stk_grammar::specs::StatementReading::condition_at))]
+pub(crate) fn condition<'a>(
     alloc: Global,
     bytes: &[u8],
     names: &Names,
@@ -38,8 +38,8 @@ pub fn condition<'a>(
 }
 
 /// `[e] ;`
-#[tactic(auto, unfolding(stk_stmt_grammar::specs::Reading::ended_at))]
-pub fn ended<'a>(
+#[tactic(auto, unfolding(stk_grammar::specs::StatementReading::ended_at))]
+pub(crate) fn ended<'a>(
     alloc: Global,
     bytes: &[u8],
     names: &Names,
@@ -60,8 +60,8 @@ pub fn ended<'a>(
 }
 
 /// `[e] )`
-#[tactic(auto, unfolding(stk_stmt_grammar::specs::Reading::closed_at))]
-pub fn closed<'a>(
+#[tactic(auto, unfolding(stk_grammar::specs::StatementReading::closed_at))]
+pub(crate) fn closed<'a>(
     alloc: Global,
     bytes: &[u8],
     names: &Names,

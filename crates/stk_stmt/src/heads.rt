@@ -3,7 +3,7 @@
 ghost use Rattle.std.specs.Prelude.{◌≡◌, ◌-◌};
 ghost use Rattle.stk_tree.specs.Nesting.{most_nesting};
 ghost use Rattle.stk_tree.specs.View.{view_unit};
-ghost use Rattle.stk_lexeme.specs.Lexemes.{spans_of};
+ghost use Rattle.stk_grammar.specs.Lexemes.{spans_of};
 ghost use Rattle.stk_ctype.specs.Named.{named};
 ghost use Rattle.stk_expr.specs.Gives.{Gives};
 ghost use Rattle.stk_stmt.specs.Heads.{last_end};
@@ -18,7 +18,7 @@ use stk_lex::Token;
 use stk_tree::{Lexeme, Unit};
 
 /// The empty span at the end of the last token; at 0 where there is none.
-pub fn end_of(tokens: &[Token]) -> Span
+pub(crate) fn end_of(tokens: &[Token]) -> Span
     ensures from { result.from ≡ last_end (spans_of tokens.now) }
     ensures to { result.to ≡ last_end (spans_of tokens.now) }
 {
@@ -31,7 +31,7 @@ pub fn end_of(tokens: &[Token]) -> Span
 }
 
 /// The declaration that all of these lexemes are, its `;` included. The records of its nodes aren't set.
-pub fn head_of(
+pub(crate) fn head_of(
     alloc: Global,
     bytes: &[u8],
     names: &Names,

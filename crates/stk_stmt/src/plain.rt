@@ -4,7 +4,7 @@ ghost use Rattle.std.specs.Prelude.{◌≡◌, ◌≤◌, map};
 ghost use Rattle.stk_tree.specs.Nesting.{most_nesting};
 ghost use Rattle.stk_tree.specs.Syntax as s;
 ghost use Rattle.stk_tree.specs.View.{labels, view_label, view_statement};
-ghost use Rattle.stk_stmt_grammar.specs.Reading.{label_at, plain_at, return_at, word_statement};
+ghost use Rattle.stk_grammar.specs.StatementReading.{label_at, plain_at, return_at, word_statement};
 ghost use Rattle.stk_ctype.specs.Named.{named};
 ghost use Rattle.stk_expr.specs.Gives.{Gives};
 ghost use Rattle.stk_stmt.specs.Sections.{some_labels_at};
@@ -16,12 +16,13 @@ use std::alloc::Global;
 use stk_base::{Boxed, List};
 use stk_ctype::Names;
 use stk_expr::{Parse, stopped};
-use stk_grammar::{behind_colon, behind_semicolon};
-use stk_stmt_grammar::{begins_label, behind_case, behind_default, behind_while};
+use stk_grammar::{
+    begins_label, behind_case, behind_colon, behind_default, behind_semicolon, behind_while,
+};
 use stk_tree::{Label, Lexeme, Stmt, levels};
 
 /// `case e :` or `default :`
-#[tactic(auto, unfolding(stk_stmt_grammar::specs::Reading::label_at))]
+#[tactic(auto, unfolding(stk_grammar::specs::StatementReading::label_at))]
 fn label<'a>(
     alloc: Global,
     bytes: &[u8],
@@ -48,8 +49,9 @@ fn label<'a>(
     Ok((Label::Default, rest))
 }
 
-/// Labels in a row, one or more. The bound is for the prover: each turn takes a token, so there are no more turns than tokens.
-pub fn labels<'a>(
+/// Labels in a row, one or more. The bound is for the prover: each turn takes a token, so there are no more turns than
+/// tokens.
+pub(crate) fn labels<'a>(
     alloc: Global,
     bytes: &[u8],
     names: &Names,
@@ -74,7 +76,10 @@ pub fn labels<'a>(
 }
 
 /// Behind a `break`.
-pub fn break_statement(alloc: Global, lexemes: &[Lexeme]) -> Result<(Boxed<Stmt>, &[Lexeme]), Parse>
+pub(crate) fn break_statement(
+    alloc: Global,
+    lexemes: &[Lexeme],
+) -> Result<(Boxed<Stmt>, &[Lexeme]), Parse>
     ensures { Gives (λ x. (view_statement x.0, x.1.now)) result (word_statement s.break_statement lexemes.now) }
 {
     let Some(rest) = behind_semicolon(lexemes) else {
@@ -84,7 +89,7 @@ pub fn break_statement(alloc: Global, lexemes: &[Lexeme]) -> Result<(Boxed<Stmt>
 }
 
 /// Behind a `continue`.
-pub fn continue_statement(
+pub(crate) fn continue_statement(
     alloc: Global,
     lexemes: &[Lexeme],
 ) -> Result<(Boxed<Stmt>, &[Lexeme]), Parse>
@@ -97,8 +102,8 @@ pub fn continue_statement(
 }
 
 /// Behind a `return`.
-#[tactic(auto, unfolding(stk_stmt_grammar::specs::Reading::return_at))]
-pub fn return_statement<'a>(
+#[tactic(auto, unfolding(stk_grammar::specs::StatementReading::return_at))]
+pub(crate) fn return_statement<'a>(
     alloc: Global,
     bytes: &[u8],
     names: &Names,
@@ -113,8 +118,8 @@ pub fn return_statement<'a>(
 }
 
 /// An expression statement, or a lone `;`.
-#[tactic(auto, unfolding(stk_stmt_grammar::specs::Reading::plain_at))]
-pub fn plain_statement<'a>(
+#[tactic(auto, unfolding(stk_grammar::specs::StatementReading::plain_at))]
+pub(crate) fn plain_statement<'a>(
     alloc: Global,
     bytes: &[u8],
     names: &Names,
@@ -129,7 +134,7 @@ pub fn plain_statement<'a>(
 }
 
 /// Behind the body of a `do`.
-pub fn do_test<'a>(
+pub(crate) fn do_test<'a>(
     alloc: Global,
     bytes: &[u8],
     names: &Names,

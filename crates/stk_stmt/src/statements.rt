@@ -5,7 +5,7 @@
 ghost use Rattle.std.specs.Prelude.{◌≡◌, ◌≤◌, ◌<◌, map, suc, length};
 ghost use Rattle.stk_tree.specs.Nesting.{most_nesting};
 ghost use Rattle.stk_tree.specs.View.{given_expression, parts, sections, statements, view_expression, view_part, view_section, view_statement};
-ghost use Rattle.stk_stmt_grammar.specs.Reading.{behind_else, block_at, do_at, else_on, if_at, part_at, parts_at, section_at, sections_at, statement_at, statement_on, statements_at, switch_at, while_at};
+ghost use Rattle.stk_grammar.specs.StatementReading.{behind_else, block_at, do_at, else_on, if_at, part_at, parts_at, section_at, sections_at, statement_at, statement_on, statements_at, switch_at, while_at};
 ghost use Rattle.stk_ctype.specs.Named.{named};
 ghost use Rattle.stk_expr.specs.Gives.{Gives};
 ghost use Rattle.stk_stmt.specs.Loops.{for_parts_at, for_with};
@@ -21,8 +21,10 @@ use std::alloc::Global;
 use stk_base::{Boxed, List};
 use stk_ctype::Names;
 use stk_expr::Parse;
-use stk_grammar::{behind_left_brace, behind_left_paren, behind_right_brace};
-use stk_stmt_grammar::{Kind, behind_else, behind_first, ends_section, kind_at};
+use stk_grammar::{
+    Kind, behind_else, behind_first, behind_left_brace, behind_left_paren, behind_right_brace,
+    ends_section, kind_at,
+};
 use stk_tree::{Expr, Lexeme, Part, Section, Stmt};
 
 /// The test, the step and the body of a `for`, and the tokens behind it.
@@ -36,7 +38,7 @@ struct ForParts<'a> {
 
 /// A statement, of at most the nesting `room`.
 #[cycle(statement)]
-pub fn statement<'a>(
+pub(crate) fn statement<'a>(
     alloc: Global,
     bytes: &[u8],
     names: &Names,
@@ -83,7 +85,7 @@ fn statement_of<'a>(
 
 /// A part of a block: a declaration where one begins, and else a statement.
 #[cycle(statement)]
-#[tactic(auto, unfolding(stk_stmt_grammar::specs::Reading::part_at))]
+#[tactic(auto, unfolding(stk_grammar::specs::StatementReading::part_at))]
 fn part<'a>(
     alloc: Global,
     bytes: &[u8],
@@ -102,7 +104,8 @@ fn part<'a>(
     Ok((build::run(found), rest))
 }
 
-/// Parts up to the `}`, and it. The bound is for the prover: each turn takes a token, so there are no more turns than tokens.
+/// Parts up to the `}`, and it. The bound is for the prover: each turn takes a token, so there are no more turns than
+/// tokens.
 #[cycle(statement)]
 fn parts<'a>(
     alloc: Global,
@@ -129,7 +132,7 @@ fn parts<'a>(
 
 /// A block, behind its `{`.
 #[cycle(statement)]
-#[tactic(auto, unfolding(stk_stmt_grammar::specs::Reading::block_at))]
+#[tactic(auto, unfolding(stk_grammar::specs::StatementReading::block_at))]
 fn block<'a>(
     alloc: Global,
     bytes: &[u8],
@@ -167,7 +170,7 @@ fn if_rest<'a>(
 
 /// Behind an `if`.
 #[cycle(statement)]
-#[tactic(auto, unfolding(stk_stmt_grammar::specs::Reading::if_at))]
+#[tactic(auto, unfolding(stk_grammar::specs::StatementReading::if_at))]
 fn if_statement<'a>(
     alloc: Global,
     bytes: &[u8],
@@ -185,7 +188,7 @@ fn if_statement<'a>(
 
 /// Behind a `while`.
 #[cycle(statement)]
-#[tactic(auto, unfolding(stk_stmt_grammar::specs::Reading::while_at))]
+#[tactic(auto, unfolding(stk_grammar::specs::StatementReading::while_at))]
 fn while_statement<'a>(
     alloc: Global,
     bytes: &[u8],
@@ -203,7 +206,7 @@ fn while_statement<'a>(
 
 /// Behind a `do`.
 #[cycle(statement)]
-#[tactic(auto, unfolding(stk_stmt_grammar::specs::Reading::do_at))]
+#[tactic(auto, unfolding(stk_grammar::specs::StatementReading::do_at))]
 fn do_statement<'a>(
     alloc: Global,
     bytes: &[u8],
@@ -264,7 +267,7 @@ fn for_statement<'a>(
 
 /// Behind a `switch`.
 #[cycle(statement)]
-#[tactic(auto, unfolding(stk_stmt_grammar::specs::Reading::switch_at))]
+#[tactic(auto, unfolding(stk_grammar::specs::StatementReading::switch_at))]
 fn switch_statement<'a>(
     alloc: Global,
     bytes: &[u8],
@@ -283,7 +286,8 @@ fn switch_statement<'a>(
     build::finished(alloc, build::switch(value, list), rest)
 }
 
-/// Sections up to the `}`, and it. The bound is for the prover: each turn takes a token, so there are no more turns than tokens.
+/// Sections up to the `}`, and it. The bound is for the prover: each turn takes a token, so there are no more turns
+/// than tokens.
 #[cycle(statement)]
 fn sections<'a>(
     alloc: Global,
@@ -338,13 +342,13 @@ fn section_of<'a>(
     requires { inner < most_nesting }
     ensures { Gives (λ x. (view_section x.0, x.1.now)) result (section_with (named bytes.now names.now) inner (statement_at (named bytes.now names.now) inner) lexemes.now) }
 {
-    let (marks, rest) = labels(alloc, bytes, names, inner, lexemes)?;
+    let (punctuators, rest) = labels(alloc, bytes, names, inner, lexemes)?;
     let (body, rest) = section_body(alloc, bytes, names, inner, rest)?;
-    Ok((build::section(marks, body), rest))
+    Ok((build::section(punctuators, body), rest))
 }
 
-/// The statements of a section, up to a label or the `}`. The bound is for the prover: each turn takes a token, so there are no
-/// more turns than tokens.
+/// The statements of a section, up to a label or the `}`. The bound is for the prover: each turn takes a token, so
+/// there are no more turns than tokens.
 #[cycle(statement)]
 fn section_body<'a>(
     alloc: Global,

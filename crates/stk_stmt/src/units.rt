@@ -3,7 +3,7 @@
 ghost use Rattle.std.specs.Prelude.{◌≡◌, map, option_map, ◌-◌};
 ghost use Rattle.stk_tree.specs.Nesting.{most_nesting};
 ghost use Rattle.stk_tree.specs.View.{declarators, view_declaration, view_declarator, view_statement, view_unit};
-ghost use Rattle.stk_stmt_grammar.specs.Reading.{function_of, unit_at};
+ghost use Rattle.stk_grammar.specs.StatementReading.{function_of, unit_at};
 ghost use Rattle.stk_ctype.specs.Named.{named};
 ghost use Rattle.stk_expr.specs.Gives.{Gives};
 ghost use Rattle.stk_stmt.specs.Units.{declaration_unit_at, definition_at, lone_declarator};
@@ -15,7 +15,7 @@ use std::alloc::Global;
 use stk_base::{Boxed, List};
 use stk_ctype::Names;
 use stk_expr::Parse;
-use stk_stmt_grammar::is_semicolon;
+use stk_grammar::is_semicolon;
 use stk_tree::{Declaration, Declr, Lexeme, MOST_NESTING, Stmt, Unit};
 
 /// The declarator of a list that has one.
@@ -62,7 +62,7 @@ fn definition(
 }
 
 /// A declaration that ends the tokens.
-pub fn declaration_unit(
+pub(crate) fn declaration_unit(
     alloc: Global,
     bytes: &[u8],
     names: &Names,
@@ -79,8 +79,8 @@ pub fn declaration_unit(
 }
 
 /// The unit that all of these lexemes are. The records of its nodes aren't set.
-#[tactic(auto, unfolding(stk_stmt_grammar::specs::Reading::unit_within))]
-pub fn unit_of(
+#[tactic(auto, unfolding(stk_grammar::specs::StatementReading::unit_within))]
+pub(crate) fn unit_of(
     alloc: Global,
     bytes: &[u8],
     names: &Names,

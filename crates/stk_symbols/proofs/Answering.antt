@@ -17,11 +17,11 @@ use Rattle.stk_terms.specs.Fitting.{AreWidths, IsSound}
 use Rattle.stk_terms.specs.Values.{bit}
 use Rattle.stk_terms.proofs.Sharing.{some_one}
 use Rattle.stk_values.specs.Keeping.{truth}
-use Rattle.stk_operations.specs.Standing.{stands}
-use Rattle.stk_operations.specs.Valued.{IsTerm, Obeys, Grown}
-use Rattle.stk_operations.proofs.Made.{term_below, term_kept}
-use Rattle.stk_operations.proofs.InRange.{stands_fits}
-use Rattle.stk_operations.proofs.Results.{wide_kind, narrow_kind}
+use Rattle.stk_values.specs.Standing.{stands}
+use Rattle.stk_symbols.specs.Valued.{IsTerm, Obeys, Grown}
+use Rattle.stk_symbols.proofs.Made.{term_below, term_kept}
+use Rattle.stk_values.proofs.InRange.{stands_fits}
+use Rattle.stk_symbols.proofs.Results.{wide_kind, narrow_kind}
 use Rattle.stk_symbols.specs.Symbolic.{Symbolic, Covers, residues_of, Serves, HasKey, Shows}
 use Rattle.stk_symbols.proofs.Growing.{over, under, obeyed, operand, answer}
 

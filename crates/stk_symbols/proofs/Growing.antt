@@ -10,10 +10,10 @@ use Rattle.stk_terms.specs.Values.{Bits, number_at}
 use Rattle.stk_terms.specs.Cost.{total_cost}
 use Rattle.stk_terms.proofs.Reading.{below}
 use Rattle.stk_values.specs.Keeping.{Keeps}
-use Rattle.stk_operations.specs.Standing.{stands}
-use Rattle.stk_operations.specs.Valued.{IsTerm, Obeys, Grown}
-use Rattle.stk_operations.proofs.Made.{term_kept}
-use Rattle.stk_operations.proofs.InRange.{stands_back}
+use Rattle.stk_values.specs.Standing.{stands}
+use Rattle.stk_symbols.specs.Valued.{IsTerm, Obeys, Grown}
+use Rattle.stk_symbols.proofs.Made.{term_kept}
+use Rattle.stk_values.proofs.InRange.{stands_back}
 use Rattle.stk_symbols.specs.Symbolic.{Symbolic, residues_of, Serves, HasKey, IsMade, Shows}
 use Rattle.stk_symbols.specs.Laws.{served_residues}
 

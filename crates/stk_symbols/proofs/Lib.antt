@@ -1,2 +1,16 @@
+pub mod Booleans
+pub mod Conversions
+pub mod Counts
+pub mod Distances
+pub mod Made
+pub mod Magnitudes
+pub mod Moves
+pub mod Overflows
+pub mod Results
+pub mod Shifted
+pub mod Signing
+pub mod Signs
+pub mod Sizes
+pub mod Truths
 pub mod Growing
 pub mod Answering

@@ -8,8 +8,8 @@ use Rattle.stk_terms.specs.declared.term.TermId.{TermId}
 use Rattle.stk_terms.specs.Fitting.{AreResidues}
 use Rattle.stk_terms.specs.Values.{number_at}
 use Rattle.stk_terms.proofs.Reading.{below}
-use Rattle.stk_operations.specs.Standing.{stands}
-use Rattle.stk_operations.proofs.InRange.{stands_fits}
+use Rattle.stk_values.specs.Standing.{stands}
+use Rattle.stk_values.proofs.InRange.{stands_fits}
 use Rattle.stk_symbols.specs.Symbolic.{Symbolic, Covers, residues_of, Serves, IsMade, Shows}
 
 pub residues_in_range : (ks : List IntKind) (m : List ℤ) → Covers ks m → AreResidues (map width_of ks) (residues_of ks m)

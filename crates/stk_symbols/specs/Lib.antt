@@ -1,2 +1,4 @@
+pub mod Valued
+pub mod Standing
 pub mod Symbolic
 pub mod Laws

@@ -7,8 +7,8 @@ use Rattle.stk_terms.specs.declared.term.TermId.{TermId}
 use Rattle.stk_terms.specs.Terms.{Stored}
 use Rattle.stk_terms.specs.Fitting.{IsSound}
 use Rattle.stk_terms.specs.Values.{number_at}
-use Rattle.stk_operations.specs.Standing.{stands}
-use Rattle.stk_operations.specs.Valued.{IsTerm}
+use Rattle.stk_values.specs.Standing.{stands}
+use Rattle.stk_symbols.specs.Valued.{IsTerm}
 
 -- the kinds of the keys, in order, and the terms
 pub record Symbolic : Type 0 where

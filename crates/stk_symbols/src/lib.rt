@@ -1,8 +1,27 @@
-//! Values that are terms over a function's keys: each call makes a term whose number, for the residues of any input map, stands for what the tables
-//! of stk_numbers say.
+//! The operations of C on numbers of its kinds as terms, and the store of values that are terms.
 #![tactic(auto)]
 
+mod addresses;
+mod arithmetic;
+mod comparing;
+mod conditions;
+mod converting;
+mod dividing;
+mod making;
+mod moving;
+mod shifting;
+mod sizing;
 mod store;
 mod symbols;
+mod tests;
 
+pub use addresses::{breaks_bounds, distance};
+pub use arithmetic::arith;
+pub use comparing::{choose, compare};
+pub use conditions::breaks;
+pub use converting::{constant, converted};
+pub use making::input;
+pub use moving::{breaks_move, moved};
+pub use shifting::{breaks_shift, shift};
 pub use symbols::Symbols;
+pub use tests::{both, opposite};

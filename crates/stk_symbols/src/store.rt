@@ -2,7 +2,6 @@
 use crate::symbols::Symbols;
 use stk_base::NoMemory;
 use stk_numbers::{ArithOp, CompareOp, IntKind, ShiftOp, UbKind};
-use stk_operations as terms;
 use stk_terms::TermId;
 use stk_values::Values;
 
@@ -25,21 +24,21 @@ impl Values for Symbols {
     ghost needs_memory = { Unit };
 
     fn constant(&mut self, kind: IntKind, number: i128) -> Result<TermId, NoMemory> {
-        let answer = terms::constant(&mut self.terms, kind, number);
+        let answer = crate::constant(&mut self.terms, kind, number);
         // For the prover: the terms keep their facts.
         let _count = self.terms.count();
         answer
     }
 
     fn input(&mut self, key: u32, kind: IntKind) -> Result<TermId, NoMemory> {
-        let answer = terms::input(&mut self.terms, key);
+        let answer = crate::input(&mut self.terms, key);
         // For the prover: the terms keep their facts.
         let _count = self.terms.count();
         answer
     }
 
     fn convert(&mut self, from: IntKind, to: IntKind, value: TermId) -> Result<TermId, NoMemory> {
-        let answer = terms::converted(&mut self.terms, from, to, value);
+        let answer = crate::converted(&mut self.terms, from, to, value);
         // For the prover: the terms keep their facts.
         let _count = self.terms.count();
         answer
@@ -52,7 +51,7 @@ impl Values for Symbols {
         left: TermId,
         right: TermId,
     ) -> Result<TermId, NoMemory> {
-        let answer = terms::arith(&mut self.terms, op, kind, left, right);
+        let answer = crate::arith(&mut self.terms, op, kind, left, right);
         // For the prover: the terms keep their facts.
         let _count = self.terms.count();
         answer
@@ -66,7 +65,7 @@ impl Values for Symbols {
         count_kind: IntKind,
         count: TermId,
     ) -> Result<TermId, NoMemory> {
-        let answer = terms::shift(&mut self.terms, op, kind, left, count_kind, count);
+        let answer = crate::shift(&mut self.terms, op, kind, left, count_kind, count);
         // For the prover: the terms keep their facts.
         let _count = self.terms.count();
         answer
@@ -79,7 +78,7 @@ impl Values for Symbols {
         left: TermId,
         right: TermId,
     ) -> Result<TermId, NoMemory> {
-        let answer = terms::compare(&mut self.terms, op, kind, left, right);
+        let answer = crate::compare(&mut self.terms, op, kind, left, right);
         // For the prover: the terms keep their facts.
         let _count = self.terms.count();
         answer
@@ -93,14 +92,14 @@ impl Values for Symbols {
         size: u64,
         minus: bool,
     ) -> Result<TermId, NoMemory> {
-        let answer = terms::moved(&mut self.terms, base, step_kind, step, size, minus);
+        let answer = crate::moved(&mut self.terms, base, step_kind, step, size, minus);
         // For the prover: the terms keep their facts.
         let _count = self.terms.count();
         answer
     }
 
     fn distance(&mut self, left: TermId, right: TermId, size: u64) -> Result<TermId, NoMemory> {
-        let answer = terms::distance(&mut self.terms, left, right, size);
+        let answer = crate::distance(&mut self.terms, left, right, size);
         // For the prover: the terms keep their facts.
         let _count = self.terms.count();
         answer
@@ -113,21 +112,21 @@ impl Values for Symbols {
         yes: TermId,
         no: TermId,
     ) -> Result<TermId, NoMemory> {
-        let answer = terms::choose(&mut self.terms, test, kind, yes, no);
+        let answer = crate::choose(&mut self.terms, test, kind, yes, no);
         // For the prover: the terms keep their facts.
         let _count = self.terms.count();
         answer
     }
 
     fn both(&mut self, left: TermId, right: TermId) -> Result<TermId, NoMemory> {
-        let answer = terms::both(&mut self.terms, left, right);
+        let answer = crate::both(&mut self.terms, left, right);
         // For the prover: the terms keep their facts.
         let _count = self.terms.count();
         answer
     }
 
     fn opposite(&mut self, test: TermId) -> Result<TermId, NoMemory> {
-        let answer = terms::opposite(&mut self.terms, test);
+        let answer = crate::opposite(&mut self.terms, test);
         // For the prover: the terms keep their facts.
         let _count = self.terms.count();
         answer
@@ -141,7 +140,7 @@ impl Values for Symbols {
         left: TermId,
         right: TermId,
     ) -> Result<TermId, NoMemory> {
-        let answer = terms::breaks(&mut self.terms, what, op, kind, left, right);
+        let answer = crate::breaks(&mut self.terms, what, op, kind, left, right);
         // For the prover: the terms keep their facts.
         let _count = self.terms.count();
         answer
@@ -153,7 +152,7 @@ impl Values for Symbols {
         count_kind: IntKind,
         count: TermId,
     ) -> Result<TermId, NoMemory> {
-        let answer = terms::breaks_shift(&mut self.terms, kind, count_kind, count);
+        let answer = crate::breaks_shift(&mut self.terms, kind, count_kind, count);
         // For the prover: the terms keep their facts.
         let _count = self.terms.count();
         answer
@@ -167,7 +166,7 @@ impl Values for Symbols {
         size: u64,
         minus: bool,
     ) -> Result<TermId, NoMemory> {
-        let answer = terms::breaks_move(&mut self.terms, base, step_kind, step, size, minus);
+        let answer = crate::breaks_move(&mut self.terms, base, step_kind, step, size, minus);
         // For the prover: the terms keep their facts.
         let _count = self.terms.count();
         answer
@@ -179,7 +178,7 @@ impl Values for Symbols {
         index: TermId,
         count: u64,
     ) -> Result<TermId, NoMemory> {
-        let answer = terms::breaks_bounds(&mut self.terms, index_kind, index, count);
+        let answer = crate::breaks_bounds(&mut self.terms, index_kind, index, count);
         // For the prover: the terms keep their facts.
         let _count = self.terms.count();
         answer

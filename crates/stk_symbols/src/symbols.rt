@@ -9,8 +9,9 @@ use stk_base::{List, NoMemory};
 use stk_numbers::{IntKind, width};
 use stk_terms::Terms;
 
-/// The store of values that are terms. The inputs of its terms are the keys of a function, in order, at the widths of their kinds. An input map gives
-/// each input the residue of its number, and the number of a value has the number of its term as its residue.
+/// The store of values that are terms. The inputs of its terms are the keys of a function, in order, at the widths of
+/// their kinds. An input map gives each input the residue of its number, and the number of a value has the number of
+/// its term as its residue.
 ///
 /// Contracts see it as the kinds of its keys and its terms.
 #[derive(Drop)]

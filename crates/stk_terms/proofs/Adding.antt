@@ -2,7 +2,7 @@
 use Rattle.std.proofs.Common.{◌≡◌, ℕ, zero, suc, ◌+◌, ◌≤◌, List, [], ◌∷◌, ◌++◌, map, length, get_or, slice_get, Some, refl, sym, ap, subst, ◌∙◌, arith, length-append}
 use Rattle.std.proofs.lemmas.List.{length-map, map-append, append-nil}
 use Rattle.std.proofs.lemmas.Option.{none-some}
-use Rattle.stk_terms.specs.declared.term.Node.{Node}
+use Rattle.stk_terms.specs.declared.term.TermNode.{TermNode}
 use Rattle.stk_terms.specs.Terms.{Term, Stored, StandsAt, Adds}
 use Rattle.stk_terms.specs.Terms as terms
 use Rattle.stk_terms.specs.Keys.{plain, said, terms_of, sizes_of, AreKept, Once, StandsIn, AddsNode, Same, More}
@@ -14,27 +14,27 @@ use Rattle.stk_terms.proofs.Growing.{long, push, older, meaning_at, width_at_ter
 use Rattle.stk_terms.proofs.Args.{fit_push}
 use Rattle.stk_terms.proofs.Sharing.{some_one}
 
-pub stands_plain : (ns : List Node) (i : ℕ) (n : Node) → StandsIn ns i n → StandsAt (terms_of ns) i (plain n)
+pub stands_plain : (ns : List TermNode) (i : ℕ) (n : TermNode) → StandsIn ns i n → StandsAt (terms_of ns) i (plain n)
 stands_plain [] i n h = absurd (none-some _ h)
 stands_plain (m ∷ ns) zero n h = ap (λ (p : Term × ℕ). Some p.0) (some_one h)
 stands_plain (m ∷ ns) (suc i) n h = stands_plain ns i n h
 
-said_as : (ns : List Node) (i : ℕ) (t : Term) → StandsAt (terms_of ns) i t → slice_get (map said ns) i ≡ Some (t, get_or (sizes_of ns) i 0)
+said_as : (ns : List TermNode) (i : ℕ) (t : Term) → StandsAt (terms_of ns) i t → slice_get (map said ns) i ≡ Some (t, get_or (sizes_of ns) i 0)
 said_as [] i t h = absurd (none-some _ h)
 said_as (m ∷ ns) zero t h = ap (λ (u : Term). Some (u, m.width)) (some_one h)
 said_as (m ∷ ns) (suc i) t h = said_as ns i t h
 
-abbrev pub store : List ℕ → List Node → Stored
+abbrev pub store : List ℕ → List TermNode → Stored
 store inputs ns = record { inputs = inputs; terms = terms_of ns }
 
 -- where the term stands, the node stands
-pub stands_in : (inputs : List ℕ) (ns : List Node) (i : ℕ) (n : Node) → AreKept inputs ns → n.width ≡ width_of inputs (sizes_of ns) (plain n) → StandsAt (terms_of ns) i (plain n) → StandsIn ns i n
+pub stands_in : (inputs : List ℕ) (ns : List TermNode) (i : ℕ) (n : TermNode) → AreKept inputs ns → n.width ≡ width_of inputs (sizes_of ns) (plain n) → StandsAt (terms_of ns) i (plain n) → StandsIn ns i n
 stands_in inputs ns i n kept w h =
     said_as ns i (plain n) h
     ∙ ap (λ k. Some (plain n, k)) (ap (λ l. get_or l i 0) kept.sized ∙ (width_at_term (store inputs ns) i (plain n) kept.fit h ∙ (ap (λ l. width_of inputs l (plain n)) (sym kept.sized) ∙ sym w)))
 
 -- the nodes stay kept
-pub kept_after : (inputs : List ℕ) (old new : List Node) (n : Node) → AreKept inputs old → Fits inputs (sizes_of old) (plain n) → n.width ≡ width_of inputs (sizes_of old) (plain n) → Once new → AddsNode old n new → AreKept inputs new
+pub kept_after : (inputs : List ℕ) (old new : List TermNode) (n : TermNode) → AreKept inputs old → Fits inputs (sizes_of old) (plain n) → n.width ≡ width_of inputs (sizes_of old) (plain n) → Once new → AddsNode old n new → AreKept inputs new
 kept_after inputs old new n kept fits w once (Same e) = subst (AreKept inputs) (sym e) kept
 kept_after inputs old new n kept fits w once (More e) = record {
   widths_are = kept.widths_are;
@@ -46,7 +46,7 @@ kept_after inputs old new n kept fits w once (More e) = record {
     grown : terms_of new ≡ terms_of old ++ plain n ∷ []
     grown = ap terms_of e ∙ map-append plain old (n ∷ [])
 
-pub adds_term : (old new : List Node) (n : Node) → AddsNode old n new → Adds (terms_of old) (plain n) (terms_of new)
+pub adds_term : (old new : List TermNode) (n : TermNode) → AddsNode old n new → Adds (terms_of old) (plain n) (terms_of new)
 adds_term old new n (Same e) = terms.Same (ap terms_of e)
 adds_term old new n (More e) = terms.More (ap terms_of e ∙ map-append plain old (n ∷ []))
 
@@ -88,7 +88,7 @@ width_of_added inputs old new t i fit h a b =
     width_at_term (record { inputs = inputs; terms = new }) i t fit h
     ∙ (ap (λ l. width_of inputs l t) m.1 ∙ width_local inputs (evaluated (width_of inputs) [] old) m.0 t (subst (λ k. AreBelow k t.args) (sym n) b))
 
-pub sizes_length : (ns : List Node) → length (sizes_of ns) ≡ length (terms_of ns)
+pub sizes_length : (ns : List TermNode) → length (sizes_of ns) ≡ length (terms_of ns)
 sizes_length ns = length-map ns (λ n. n.width) ∙ sym (length-map ns plain)
 
 cost_push : (inputs ws : List ℕ) (ts : List Term) (t : Term) → costs inputs ws (ts ++ t ∷ []) ≡ costs inputs ws ts + bound_of (evaluated (width_of inputs) ws ts) t

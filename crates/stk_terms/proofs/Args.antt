@@ -3,7 +3,7 @@ use Rattle.std.proofs.Common.{◌≡◌, ℕ, zero, suc, ◌+◌, ◌<◌, ◌�
 use Rattle.std.proofs.lemmas.List.{get_or-map}
 use Rattle.std.proofs.lemmas.Option.{none-some}
 use Rattle.stk_terms.specs.declared.term.TermId.{TermId}
-use Rattle.stk_terms.specs.declared.term.Node.{Node}
+use Rattle.stk_terms.specs.declared.term.TermNode.{TermNode}
 use Rattle.stk_terms.specs.Terms.{Term, StandsAt}
 use Rattle.stk_terms.specs.Keys.{sizes_of}
 use Rattle.stk_terms.specs.Values.{arg_at, evaluated, width_of}
@@ -26,7 +26,7 @@ arg_exists n [] k e b h = absurd (omega arith)
 arg_exists n (a ∷ args) zero e b h = b.0
 arg_exists n (a ∷ args) (suc k) e b h = arg_exists n args k e b.1 (omega arith)
 
-pub size_within : (ns : List Node) (args : List TermId) (k : ℕ) (e : TermId) (m : Node) → AreBelow (length ns) args → k < length args → (get_or ns (get_or args k e).0 m).width ≡ arg_at 0 (sizes_of ns) args k
+pub size_within : (ns : List TermNode) (args : List TermId) (k : ℕ) (e : TermId) (m : TermNode) → AreBelow (length ns) args → k < length args → (get_or ns (get_or args k e).0 m).width ≡ arg_at 0 (sizes_of ns) args k
 size_within ns args k e m b h = sym (arg_within 0 (sizes_of ns) args k e h ∙ get_or-map (λ n. n.width) ns (get_or args k e).0 m 0 (arg_exists (length ns) args k e b h))
 
 pub wider : (n m : ℕ) (args : List TermId) → n ≤ m → AreBelow n args → AreBelow m args

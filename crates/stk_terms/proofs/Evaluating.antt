@@ -1,7 +1,7 @@
 -- The numbers of nodes, one after the other.
 use Rattle.std.proofs.Common.{◌≡◌, ℕ, zero, suc, ◌+◌, ◌<◌, List, [], ◌∷◌, ◌++◌, map, length, get_or, take, drop, refl, sym, ap, subst, ◌∙◌, arith}
 use Rattle.std.proofs.lemmas.List.{length-map, length-take-le, get_or-take, take-append-drop}
-use Rattle.stk_terms.specs.declared.term.Node.{Node}
+use Rattle.stk_terms.specs.declared.term.TermNode.{TermNode}
 use Rattle.stk_terms.specs.declared.term.TermId.{TermId}
 use Rattle.stk_terms.specs.Terms.{Stored, StandsAt}
 use Rattle.stk_terms.specs.Keys.{plain, terms_of, sizes_of, AreKept}
@@ -12,7 +12,7 @@ use Rattle.stk_terms.proofs.Growing.{long, behind, meaning_at, arg_front, arg_nu
 use Rattle.stk_terms.proofs.Below.{AllWide, can_apply, all_below, all_wide, arg_below, arg_most, arg_least, no_bits, no_widths}
 use Rattle.stk_terms.proofs.Args.{wider, below_at, fits_at}
 
-term_at : (ns : List Node) (i : ℕ) (m : Node) → i < length ns → StandsAt (terms_of ns) i (plain (get_or ns i m))
+term_at : (ns : List TermNode) (i : ℕ) (m : TermNode) → i < length ns → StandsAt (terms_of ns) i (plain (get_or ns i m))
 term_at [] i m h = absurd (omega arith)
 term_at (n ∷ ns) zero m h = refl
 term_at (n ∷ ns) (suc i) m h = term_at ns i m (omega arith)
@@ -22,7 +22,7 @@ take_more [] i h = absurd (omega arith)
 take_more (x ∷ xs) zero h = refl
 take_more (x ∷ xs) (suc i) h = let e : suc i + 1 ≡ suc (i + 1) = omega arith in rw e (ap (λ l. x ∷ l) (take_more xs i (omega arith)))
 
-module _ (inputs residues : List ℕ) (ns : List Node) (kept : AreKept inputs ns) (res : AreResidues inputs residues) where
+module _ (inputs residues : List ℕ) (ns : List TermNode) (kept : AreKept inputs ns) (res : AreResidues inputs residues) where
   abbrev s : Stored
   s = record { inputs = inputs; terms = terms_of ns }
 
@@ -41,8 +41,8 @@ module _ (inputs residues : List ℕ) (ns : List Node) (kept : AreKept inputs ns
   count : length numbers ≡ length ns
   count = length-map all (λ b. b.number) ∙ (long (bits_of inputs residues) [] (terms_of ns) ∙ (omega arith ∙ length-map ns plain))
 
-  module _ (i : ℕ) (m : Node) (h : i < length ns) where
-    abbrev n : Node
+  module _ (i : ℕ) (m : TermNode) (h : i < length ns) where
+    abbrev n : TermNode
     n = get_or ns i m
 
     stands : StandsAt (terms_of ns) i (plain n)
@@ -82,10 +82,10 @@ module _ (inputs residues : List ℕ) (ns : List Node) (kept : AreKept inputs ns
         ap (λ x. take i numbers ++ x ∷ []) same ∙ take_more numbers i (omega (arith, count))
 
   -- the same of the node that is read, over the numbers that are kept
-  moved : (P : Node → List ℕ → Type 0) (a b : Node) (xs ys : List ℕ) → b ≡ a → ys ≡ xs → P a xs → P b ys
+  moved : (P : TermNode → List ℕ → Type 0) (a b : TermNode) (xs ys : List ℕ) → b ≡ a → ys ≡ xs → P a xs → P b ys
   moved P a b xs ys e d p = subst (λ n. P n ys) (sym e) (subst (P a) (sym d) p)
 
-  module _ (i : ℕ) (m n : Node) (done : List ℕ) (h : i < length ns) (e : n ≡ get_or ns i m) (d : done ≡ take i numbers) where
+  module _ (i : ℕ) (m n : TermNode) (done : List ℕ) (h : i < length ns) (e : n ≡ get_or ns i m) (d : done ≡ take i numbers) where
     pub among_is : AreBelow (length ns) n.args.items
     among_is = moved (λ n l. AreBelow (length ns) n.args.items) (get_or ns i m) n (take i numbers) done e d (among i m h)
 

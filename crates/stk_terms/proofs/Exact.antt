@@ -9,12 +9,12 @@ use denote.Enum.Declared.{Choice, values_one}
 use denote.Enum.Compared.{Each, by}
 use Rattle.stk_terms.specs.declared.term.TermOp.{TermOp}
 use Rattle.stk_terms.specs.declared.term.TermId.{TermId}
-use Rattle.stk_terms.specs.declared.term.Node.{Node}
+use Rattle.stk_terms.specs.declared.term.TermNode.{TermNode}
 use Rattle.stk_terms.specs.contracts.term.TermOp as ops
 use Rattle.stk_terms.specs.contracts.term.TermOpPartialEq.TheImpl as op_eq
 use Rattle.stk_terms.specs.contracts.term.TermIdPartialEq.TheImpl as id_eq
-use Rattle.stk_terms.specs.contracts.term.NodePartialEq.TheImpl as node_eq
-use Rattle.stk_terms.specs.contracts.term.NodeEq.TheImpl.Laws as node_laws
+use Rattle.stk_terms.specs.contracts.term.TermNodePartialEq.TheImpl as node_eq
+use Rattle.stk_terms.specs.contracts.term.TermNodeEq.TheImpl.Laws as node_laws
 use Rattle.stk_terms.specs.Terms.{Term, term_of}
 use Rattle.stk_terms.specs.Keys.{said}
 
@@ -56,7 +56,7 @@ ids_exact [] (y ∷ ys) h = absurd (true≢false (sym h))
 ids_exact (x ∷ xs) [] h = absurd (true≢false (sym h))
 ids_exact (x ∷ xs) (y ∷ ys) h = λ i. record { 0 = eqb-true x.0 y.0 (left_true _ _ h) i } ∷ ids_exact xs ys (right_true (id_eq.ghosts.eq x y) _ h) i
 
-pub node_exact : (a b : Node) → node_eq.ghosts.eq a b ≡ true → said a ≡ said b
+pub node_exact : (a b : TermNode) → node_eq.ghosts.eq a b ≡ true → said a ≡ said b
 node_exact a b h =
     let ops = op_exact a.op b.op (left_true _ _ h) in
     let rest = right_true (op_eq.ghosts.eq a.op b.op) _ h in
@@ -67,6 +67,6 @@ node_exact a b h =
 tested : Term × ℕ → Term × ℕ → Bool
 tested a b = op_eq.ghosts.eq a.0.op b.0.op && (pointwise id_eq.ghosts.eq a.0.args b.0.args && nat_eq a.1 b.1)
 
-pub node_same : (a b : Node) → said a ≡ said b → node_eq.ghosts.eq a b ≡ true
+pub node_same : (a b : TermNode) → said a ≡ said b → node_eq.ghosts.eq a b ≡ true
 unfolding tested
 node_same a b e = subst (λ n. tested (said a) n ≡ true) e (node_laws.lawful.laws.refl a)

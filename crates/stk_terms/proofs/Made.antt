@@ -1,7 +1,7 @@
 -- What the call that makes a term has to show.
 use Rattle.std.proofs.Common.{◌≡◌, ◌≤◌, ◌+◌, ℕ, List, [], get_or, sym, ap, subst, ◌∙◌, length}
 use Rattle.smallvec.specs.SmallVec.{SmallVec}
-use Rattle.stk_terms.specs.declared.term.Node.{Node}
+use Rattle.stk_terms.specs.declared.term.TermNode.{TermNode}
 use Rattle.stk_terms.specs.declared.term.TermOp.{TermOp}
 use Rattle.stk_terms.specs.declared.term.TermId.{TermId}
 use Rattle.stk_terms.specs.Terms.{Stored, StandsAt, Adds, term_of}
@@ -15,11 +15,11 @@ use Rattle.stk_terms.proofs.Adding.{store}
 use Rattle.stk_terms.proofs.Growing.{long}
 use Rattle.std.proofs.Math.Nat.{zero-add}
 
-module _ (inputs : List ℕ) (old new : List Node) (op : TermOp) (args : List TermId) (kept_args : SmallVec TermId) (width place : ℕ) (s : Stored)
+module _ (inputs : List ℕ) (old new : List TermNode) (op : TermOp) (args : List TermId) (kept_args : SmallVec TermId) (width place : ℕ) (s : Stored)
     (view_is : store inputs old ≡ s) (old_kept : AreKept inputs old) (can : CanMake s (term_of op args))
     (args_are : kept_args.items ≡ args) (width_is : width ≡ width_of inputs (sizes_of old) (term_of op args))
     (once : Once new) (adds : AddsNode old (record { op = op; args = kept_args; width = width }) new) (placed : StandsIn new place (record { op = op; args = kept_args; width = width })) where
-  abbrev pub node : Node
+  abbrev pub node : TermNode
   node = record { op = op; args = kept_args; width = width }
 
   same : plain node ≡ term_of op args

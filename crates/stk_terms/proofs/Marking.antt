@@ -4,7 +4,7 @@ use Rattle.std.proofs.Math.ListN.{set, length-set}
 use Rattle.std.proofs.lemmas.List.{get_or-set_same, get_or-set_other, length-replicate, length-map}
 use Rattle.std.proofs.lemmas.Bool.{eqb-true}
 use Rattle.stk_terms.specs.declared.term.TermId.{TermId}
-use Rattle.stk_terms.specs.declared.term.Node.{Node}
+use Rattle.stk_terms.specs.declared.term.TermNode.{TermNode}
 use Rattle.stk_terms.specs.Keys.{plain, terms_of}
 use Rattle.stk_terms.specs.Terms.{Stored, term_at, nth, child}
 use Rattle.stk_terms.specs.Fitting.{IsSound, AreBelow}
@@ -156,5 +156,5 @@ module _ (s : Stored) (sound : IsSound s) (i : ℕ) (l : i < length s.terms) whe
       same false false f g = refl
 
 -- nodes are as many as their terms
-pub in_terms : (ns : List Node) (i : ℕ) → i < length ns → i < length (terms_of ns)
+pub in_terms : (ns : List TermNode) (i : ℕ) → i < length ns → i < length (terms_of ns)
 in_terms ns i h = omega (arith, length-map ns plain)

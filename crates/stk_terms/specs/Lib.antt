@@ -6,3 +6,4 @@ pub mod Parts
 pub mod Cost
 pub mod Growth
 pub mod Keys
+pub mod Ordered

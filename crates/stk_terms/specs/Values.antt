@@ -51,7 +51,8 @@ width_by inputs (SignExt w) w0 w1 = w
 width_by inputs Concat w0 w1 = w0 + w1
 width_by inputs Ite w0 w1 = w1
 
--- the number of an operator, by the residues of the inputs, the widths of its first two arguments and the numbers of all three
+-- the number of an operator, by the residues of the inputs, the widths of its first two arguments and the numbers of
+-- all three
 abbrev pub number_by : List ℕ → TermOp → ℕ → ℕ → ℕ → ℕ → ℕ → ℕ
 number_by residues (Constant w n) w0 w1 x y z = n
 number_by residues (Input k) w0 w1 x y z = get_or residues k 0

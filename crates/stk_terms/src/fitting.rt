@@ -5,7 +5,7 @@ ghost use Rattle.stk_terms.specs.Fitting.{arity, AreBelow, AreResidues, WidthsFi
 use crate::term::{TermId, TermOp};
 
 /// How many arguments an operator has.
-pub fn arity_of(op: TermOp) -> usize
+pub(crate) fn arity_of(op: TermOp) -> usize
     ensures { result ≡ arity op }
 {
     match op {
@@ -18,7 +18,7 @@ pub fn arity_of(op: TermOp) -> usize
 }
 
 /// Whether all arguments are among the first terms.
-pub fn are_below(count: usize, args: &[TermId]) -> bool
+pub(crate) fn are_below(count: usize, args: &[TermId]) -> bool
     ensures { IsTrue result ↔ AreBelow count args.now }
 {
     for arg in args {
@@ -65,7 +65,7 @@ fn are_choice(test: u8, first: u8, second: u8) -> bool
 }
 
 /// Whether the widths of the arguments, and the numbers in the operator, fit it.
-pub fn widths_fit(inputs: &[u8], op: TermOp, first: u8, second: u8, third: u8) -> bool
+pub(crate) fn widths_fit(inputs: &[u8], op: TermOp, first: u8, second: u8, third: u8) -> bool
     ensures { IsTrue result ↔ WidthsFit inputs.now op first second third }
 {
     match op {
@@ -92,7 +92,7 @@ fn is_residue(width: u8, residue: u64) -> bool
 }
 
 /// Whether there is one residue for each input, below 2 to its width.
-pub fn are_residues(inputs: &[u8], residues: &[u64]) -> bool
+pub(crate) fn are_residues(inputs: &[u8], residues: &[u64]) -> bool
     ensures { IsTrue result ↔ AreResidues inputs.now residues.now }
 {
     if inputs.len() != residues.len() {

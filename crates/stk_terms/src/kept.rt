@@ -2,12 +2,12 @@
 ghost use Rattle.std.specs.Prelude.{◌≡◌, ℕ, ◌++◌, ◌∷◌, [], IfOk, OnOk, OnErr};
 ghost use Rattle.stk_terms.specs.Keys.{plain, Once, StandsIn, AddsNode};
 
-use crate::term::Node;
+use crate::term::TermNode;
 use indexmap::IndexSet;
 use std::alloc::AllocError;
 
 /// The place of a node, which is added where it isn't there.
-pub fn add(nodes: &mut IndexSet<Node>, node: Node) -> Result<usize, AllocError>
+pub(crate) fn add(nodes: &mut IndexSet<TermNode>, node: TermNode) -> Result<usize, AllocError>
     ensures stands { IfOk result (λ i. StandsIn nodes.new.keys i node) }
     ensures shared { (i : ℕ) → StandsIn nodes.old.keys i node → IfOk result (λ j. j ≡ i) }
     ensures adds { OnOk result (AddsNode nodes.old.keys node nodes.new.keys) }

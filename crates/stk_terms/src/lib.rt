@@ -1,6 +1,8 @@
-//! Shared bit-vector terms: a term is an operator over earlier terms, and the same term is made once.
+//! Shared bit-vector terms, and all inputs of a term in their order.
 #![tactic(auto)]
 
+mod enumerate;
+mod enumerate_laws;
 mod fitting;
 mod kept;
 mod marks;
@@ -9,6 +11,8 @@ mod operators;
 mod table;
 mod term;
 
+pub use enumerate::{first_that, input_bits};
+pub use enumerate_laws::each_has_its_number;
 pub use operators::apply;
 pub use table::{Residues, Terms};
 pub use term::{TermId, TermOp};

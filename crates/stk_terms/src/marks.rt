@@ -4,11 +4,11 @@ ghost use Rattle.stk_terms.specs.Fitting.{AreBelow, IsSound};
 ghost use Rattle.stk_terms.specs.Keys.{stored, args_in};
 ghost use Rattle.stk_terms.specs.Parts.{is_part, marked};
 
-use crate::term::{Node, TermId};
+use crate::term::{TermId, TermNode};
 use std::alloc::{AllocError, Global};
 
 // The arguments of a node.
-fn args_at(nodes: &[Node], place: usize) -> &[TermId]
+fn args_at(nodes: &[TermNode], place: usize) -> &[TermId]
     requires { place < length nodes.now }
     ensures { result.now ≡ args_in nodes.now place }
 {
@@ -27,7 +27,7 @@ fn mark(marks: &mut [bool], args: &[TermId])
 }
 
 // Marks the arguments of a node that is marked.
-fn step(marks: &mut [bool], nodes: &[Node], place: usize)
+fn step(marks: &mut [bool], nodes: &[TermNode], place: usize)
     requires under { AreBelow (length marks.old) (args_in nodes.now place) }
     requires place { place < length nodes.now }
     requires within { place < length marks.old }
@@ -49,10 +49,10 @@ fn begin(alloc: Global, place: usize) -> Result<Vec<bool>, AllocError>
 }
 
 /// For each node up to a place, whether that one depends on it.
-pub fn parts(
+pub(crate) fn parts(
     alloc: Global,
     inputs: &[u8],
-    nodes: &[Node],
+    nodes: &[TermNode],
     place: usize,
 ) -> Result<Vec<bool>, AllocError>
     requires sound { IsSound (stored inputs.now nodes.now) }

@@ -8,12 +8,12 @@ ghost use Rattle.stk_terms.specs.Applying.{CanApply};
 
 use crate::fitting::{are_below, arity_of, widths_fit};
 use crate::operators::apply;
-use crate::term::{Node, TermId, TermOp};
+use crate::term::{TermId, TermNode, TermOp};
 use std::alloc::{AllocError, Global};
 
 #[tactic(auto, using(crate::proofs::Args::arg_within, crate::proofs::Args::arg_beyond, crate::proofs::Args::arg_exists, crate::proofs::Args::size_within))]
 // The width of the k-th argument, 0 where there is none.
-fn size_at(nodes: &[Node], args: &[TermId], k: usize) -> u8
+fn size_at(nodes: &[TermNode], args: &[TermId], k: usize) -> u8
     requires { AreBelow (length nodes.now) args.now }
     ensures { result ≡ arg_at 0 (sizes_of nodes.now) args.now k }
 {
@@ -38,7 +38,7 @@ fn number_of_arg(numbers: &[u128], args: &[TermId], k: usize) -> u128
 }
 
 /// The width that an operator over these arguments has.
-pub fn width_of(inputs: &[u8], nodes: &[Node], op: TermOp, args: &[TermId]) -> u8
+pub(crate) fn width_of(inputs: &[u8], nodes: &[TermNode], op: TermOp, args: &[TermId]) -> u8
     requires { Fits inputs.now (sizes_of nodes.now) (term_of op args.now) }
     ensures { result ≡ width_by inputs.now op (arg_at 0 (sizes_of nodes.now) args.now 0) (arg_at 0 (sizes_of nodes.now) args.now 1) }
 {
@@ -55,7 +55,7 @@ pub fn width_of(inputs: &[u8], nodes: &[Node], op: TermOp, args: &[TermId]) -> u
 }
 
 /// Whether an operator and its arguments fit behind nodes.
-pub fn fits(inputs: &[u8], nodes: &[Node], op: TermOp, args: &[TermId]) -> bool
+pub(crate) fn fits(inputs: &[u8], nodes: &[TermNode], op: TermOp, args: &[TermId]) -> bool
     ensures { IsTrue result ↔ Fits inputs.now (sizes_of nodes.now) (term_of op args.now) }
 {
     if args.len() != arity_of(op) || !are_below(nodes.len(), args) {
@@ -68,7 +68,7 @@ pub fn fits(inputs: &[u8], nodes: &[Node], op: TermOp, args: &[TermId]) -> bool
 }
 
 // The number of a node, over the numbers of the nodes before it.
-fn number_of(nodes: &[Node], node: &Node, numbers: &[u128], residues: &[u64]) -> u128
+fn number_of(nodes: &[TermNode], node: &TermNode, numbers: &[u128], residues: &[u64]) -> u128
     requires among { AreBelow (length nodes.now) node.now.args.items }
     requires before { AreBelow (length numbers.now) node.now.args.items }
     requires fits { CanApply residues.now node.now.op (arg_at 0 (sizes_of nodes.now) node.now.args.items 0) (arg_at 0 (sizes_of nodes.now) node.now.args.items 1) (arg_at 0 numbers.now node.now.args.items 0) (arg_at 0 numbers.now node.now.args.items 1) }
@@ -89,7 +89,7 @@ fn number_of(nodes: &[Node], node: &Node, numbers: &[u128], residues: &[u64]) ->
 fn numbers(
     alloc: Global,
     inputs: &[u8],
-    nodes: &[Node],
+    nodes: &[TermNode],
     residues: &[u64],
     count: usize,
 ) -> Result<Vec<u128>, AllocError>
@@ -107,10 +107,10 @@ fn numbers(
 }
 
 /// The number of a node.
-pub fn number(
+pub(crate) fn number(
     alloc: Global,
     inputs: &[u8],
-    nodes: &[Node],
+    nodes: &[TermNode],
     residues: &[u64],
     place: usize,
 ) -> Result<u128, AllocError>

@@ -11,7 +11,7 @@ use crate::fitting::are_residues;
 use crate::kept;
 use crate::marks::parts;
 use crate::nodes::{fits, number, width_of};
-use crate::term::{Node, TermId, TermOp};
+use crate::term::{TermId, TermNode, TermOp};
 use indexmap::IndexSet;
 use smallvec::SmallVec;
 use std::alloc::Global;
@@ -29,7 +29,7 @@ pub struct Residues {
 #[derive(Drop)]
 pub struct Terms {
     inputs: List<u8>,
-    nodes: IndexSet<Node>,
+    nodes: IndexSet<TermNode>,
 }
 
 impl Model for Terms {
@@ -56,8 +56,8 @@ impl Terms {
         }
     }
 
-    /// Whether `make` can make a term of this operator and these arguments: whether the arguments exist, and fit the operator
-    /// in number and widths, and the numbers in the operator are in their ranges.
+    /// Whether `make` can make a term of this operator and these arguments: whether the arguments exist, and fit the
+    /// operator in number and widths, and the numbers in the operator are in their ranges.
     pub fn can_make(&self, op: TermOp, args: &[TermId]) -> bool
         ensures { IsTrue result ↔ CanMake self.now (term_of op args.now) }
     {
@@ -89,7 +89,7 @@ impl Terms {
         let nodes = self.nodes.as_slice();
         let width = width_of(inputs, nodes, op, args);
         let args = SmallVec::from_slice(*self.nodes.allocator(), args)?;
-        let place = kept::add(&mut self.nodes, Node { op, args, width })?;
+        let place = kept::add(&mut self.nodes, TermNode { op, args, width })?;
         Ok(TermId(place))
     }
 
@@ -134,8 +134,8 @@ impl Terms {
         self.nodes.as_slice()[id.0].args.as_slice()
     }
 
-    /// For each term up to this one, whether this one depends on it: it is this one, or an argument of a term on which this
-    /// one depends.
+    /// For each term up to this one, whether this one depends on it: it is this one, or an argument of a term on which
+    /// this one depends.
     pub fn parts(&self, id: TermId) -> Result<List<bool>, NoMemory>
         requires { id.0 < length self.now.terms }
         ensures count { IfOk result (λ m. length m ≡ id.0 + 1) }
@@ -152,8 +152,8 @@ impl Terms {
         Ok(List::from_vec(marks))
     }
 
-    /// The number of a term for residues of the inputs, below 2 to the term's width. It takes one pass over the terms up
-    /// to this one.
+    /// The number of a term for residues of the inputs, below 2 to the term's width. It takes one pass over the terms
+    /// up to this one.
     pub fn value(&self, id: TermId, inputs: &Residues) -> Result<u128, NoMemory>
         requires exists { id.0 < length self.now.terms }
         requires residues { AreResidues self.now.inputs inputs.now.numbers }

@@ -54,7 +54,7 @@ pub enum TermOp {
 
 /// An operator and its arguments, with the width that they have.
 #[derive(PartialEq, Eq, Hash, Drop)]
-pub struct Node {
+pub struct TermNode {
     pub op: TermOp,
     pub args: SmallVec<TermId, 3>,
     pub width: u8,

@@ -5,14 +5,14 @@ use Rattle.std.proofs.lemmas.List.{length-drop}
 use Rattle.stk_base.specs.declared.token.Class.{Class}
 use Rattle.stk_base.specs.declared.token.Class.TheVariants as classes
 use Rattle.stk_lex.specs.declared.token.Token.{Token}
-use Rattle.stk_lex.specs.Classes.{IsLongest, is_word, is_number, is_character, is_text, is_mark, is_digraph}
-use Rattle.stk_lex.specs.Lengths.{word_length, number_length, character_length, text_length, mark_length, digraph_length, form_length}
+use Rattle.stk_lex.specs.Classes.{IsLongest, is_word, is_number, is_character, is_text, is_punctuator, is_digraph}
+use Rattle.stk_lex.specs.Lengths.{word_length, number_length, character_length, text_length, punctuator_length, digraph_length, form_length}
 use Rattle.stk_lex.specs.Gaps.{line, comment, gap, gap_at, only_blanks, AreGaps, no_gap, more_gaps}
 use Rattle.stk_lex.specs.Cut.{InClass, IsFirst, IsCut, IsCutFrom, begins_comment, begins_quote, digraph}
 use Rattle.stk_lex.proofs.Cuts.{cut_behind, cut_more}
 use Rattle.stk_lex.proofs.First.{endless, first_form, passes_of, stray_byte, stray_comment, stray_quote}
 use Rattle.stk_lex.proofs.GapsLongest.{gap_is_longest}
-use Rattle.stk_lex.proofs.Longest.{word_is_longest, number_is_longest, character_is_longest, text_is_longest, mark_is_longest, digraph_is_longest}
+use Rattle.stk_lex.proofs.Longest.{word_is_longest, number_is_longest, character_is_longest, text_is_longest, punctuator_is_longest, digraph_is_longest}
 
 -- ---- the token at the front
 
@@ -41,8 +41,8 @@ form_class : (bs : List ℕ) (n : ℕ) → n ≡ form_length bs → 0 < n → In
 unfolding InSome
 form_class bs n e some = elim (one_of _ (digraph_length bs) n e) [
   | inr d ↦ (classes.Stray, digraph (passes_of is_digraph bs (digraph_length bs) n (digraph_is_longest bs) d some))
-  | inl e1 ↦ elim (one_of _ (mark_length bs) n e1) [
-    | inr d ↦ (classes.Mark, passes_of is_mark bs (mark_length bs) n (mark_is_longest bs) d some)
+  | inl e1 ↦ elim (one_of _ (punctuator_length bs) n e1) [
+    | inr d ↦ (classes.Punctuator, passes_of is_punctuator bs (punctuator_length bs) n (punctuator_is_longest bs) d some)
     | inl e2 ↦ elim (one_of _ (text_length bs) n e2) [
       | inr d ↦ (classes.Text, passes_of is_text bs (text_length bs) n (text_is_longest bs) d some)
       | inl e3 ↦ elim (one_of _ (character_length bs) n e3) [

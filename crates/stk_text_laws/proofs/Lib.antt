@@ -1,3 +1,13 @@
 pub mod Cutting
 pub mod Marking
 pub mod Skimming
+pub mod Passing
+pub mod Flat
+pub mod Levels
+pub mod Alike
+pub mod Exists
+pub mod Accepted
+pub mod Unique
+pub mod Items
+pub mod RowNumbers
+pub mod Nodes

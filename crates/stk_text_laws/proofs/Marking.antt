@@ -1,8 +1,8 @@
--- Each mark that lexing knows is spelled by one of `Fixed`.
+-- Each punctuator that lexing knows is spelled by one of `Fixed`.
 use Rattle.std.proofs.Common.{◌≡◌, ℕ, Bool, true, false, ◌&&◌, ◌||◌, ◌==◌, List, [], ◌∷◌, refl, sym, ap, subst, ◌∙◌, ◌⊎◌, inl, inr}
 use Rattle.std.specs.List.{list_any}
 use Rattle.std.proofs.lemmas.Bool.{false≢true, eqb-true}
-use Rattle.stk_lex.specs.Classes.{is_mark, is_mark_of_one, is_mark_of_two, is_mark_of_three, marks_of_one, marks_of_two, marks_of_three}
+use Rattle.stk_lex.specs.Classes.{is_punctuator, is_punctuator_of_one, is_punctuator_of_two, is_punctuator_of_three, punctuators_of_one, punctuators_of_two, punctuators_of_three}
 use Rattle.stk_tree.specs.declared.fixed.Fixed.{Fixed}
 use Rattle.stk_tree.specs.declared.fixed.Fixed.TheVariants as fixed
 use Rattle.stk_tree.specs.Spelling.{spelling_of}
@@ -33,7 +33,7 @@ one_in (m ∷ ms) a all e = elim (either_of (m == a) (list_any (λ n. n == a) ms
   | inr more ↦ one_in ms a all.1 more
 ]
 
-ones : AllOne marks_of_one
+ones : AllOne punctuators_of_one
 unfolding AllOne IsSpelled
 ones = (
   (fixed.LeftBracket, refl),
@@ -106,9 +106,9 @@ ones = (
   ),
 )
 
-of_one : (text : List ℕ) → is_mark_of_one text ≡ true → IsSpelled text
+of_one : (text : List ℕ) → is_punctuator_of_one text ≡ true → IsSpelled text
 of_one [] e = absurd (false≢true e)
-of_one (a ∷ []) e = one_in marks_of_one a ones e
+of_one (a ∷ []) e = one_in punctuators_of_one a ones e
 of_one (a ∷ b ∷ bs) e = absurd (false≢true e)
 
 -- ---- two bytes
@@ -126,7 +126,7 @@ two_in (m ∷ ms) a b all e = elim (either_of (m.0 == a && m.1 == b) (list_any (
   | inr more ↦ two_in ms a b all.1 more
 ]
 
-twos : AllTwo marks_of_two
+twos : AllTwo punctuators_of_two
 unfolding AllTwo IsSpelled
 twos = (
   (fixed.Arrow, refl),
@@ -181,10 +181,10 @@ twos = (
   ),
 )
 
-of_two : (text : List ℕ) → is_mark_of_two text ≡ true → IsSpelled text
+of_two : (text : List ℕ) → is_punctuator_of_two text ≡ true → IsSpelled text
 of_two [] e = absurd (false≢true e)
 of_two (a ∷ []) e = absurd (false≢true e)
-of_two (a ∷ b ∷ []) e = two_in marks_of_two a b twos e
+of_two (a ∷ b ∷ []) e = two_in punctuators_of_two a b twos e
 of_two (a ∷ b ∷ c ∷ bs) e = absurd (false≢true e)
 
 -- ---- three bytes
@@ -204,25 +204,25 @@ three_in (m ∷ ms) a b c all e = elim (either_of (m.0 == a && m.1 == b && m.2 =
   | inr more ↦ three_in ms a b c all.1 more
 ]
 
-threes : AllThree marks_of_three
+threes : AllThree punctuators_of_three
 unfolding AllThree IsSpelled
 threes =
     ((fixed.Ellipsis, refl), ((fixed.LeftShiftAssign, refl), ((fixed.RightShiftAssign, refl), tt)))
 
-of_three : (text : List ℕ) → is_mark_of_three text ≡ true → IsSpelled text
+of_three : (text : List ℕ) → is_punctuator_of_three text ≡ true → IsSpelled text
 of_three [] e = absurd (false≢true e)
 of_three (a ∷ []) e = absurd (false≢true e)
 of_three (a ∷ b ∷ []) e = absurd (false≢true e)
-of_three (a ∷ b ∷ c ∷ []) e = three_in marks_of_three a b c threes e
+of_three (a ∷ b ∷ c ∷ []) e = three_in punctuators_of_three a b c threes e
 of_three (a ∷ b ∷ c ∷ d ∷ bs) e = absurd (false≢true e)
 
-spelled : (text : List ℕ) → is_mark text ≡ true → IsSpelled text
-unfolding is_mark
-spelled text e = elim (either_of (is_mark_of_one text || is_mark_of_two text) (is_mark_of_three text) e) [
-  | inl fewer ↦ elim (either_of (is_mark_of_one text) (is_mark_of_two text) fewer) [ inl one ↦ of_one text one | inr two ↦ of_two text two ]
+spelled : (text : List ℕ) → is_punctuator text ≡ true → IsSpelled text
+unfolding is_punctuator
+spelled text e = elim (either_of (is_punctuator_of_one text || is_punctuator_of_two text) (is_punctuator_of_three text) e) [
+  | inl fewer ↦ elim (either_of (is_punctuator_of_one text) (is_punctuator_of_two text) fewer) [ inl one ↦ of_one text one | inr two ↦ of_two text two ]
   | inr three ↦ of_three text three
 ]
 
-pub mark_is_fixed : (text : List ℕ) → is_mark text ≡ true → (f : Fixed) × (spelling_of f ≡ text)
+pub punctuator_is_fixed : (text : List ℕ) → is_punctuator text ≡ true → (f : Fixed) × (spelling_of f ≡ text)
 unfolding IsSpelled
-mark_is_fixed text e = spelled text e
+punctuator_is_fixed text e = spelled text e

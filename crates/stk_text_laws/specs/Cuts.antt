@@ -1,7 +1,7 @@
--- Laws of the cut of a text into tokens, and of the marks among them.
+-- Laws of the cut of a text into tokens, and of the punctuators among them.
 use Rattle.std.specs.Prelude.{◌≡◌, ℕ, true, List}
 use Rattle.stk_lex.specs.declared.token.Token.{Token}
-use Rattle.stk_lex.specs.Classes.{is_mark}
+use Rattle.stk_lex.specs.Classes.{is_punctuator}
 use Rattle.stk_lex.specs.Cut.{IsCut}
 use Rattle.stk_tree.specs.declared.fixed.Fixed.{Fixed}
 use Rattle.stk_tree.specs.Spelling.{spelling_of}
@@ -10,6 +10,6 @@ use Rattle.stk_tree.specs.Spelling.{spelling_of}
 abbrev pub EachTextHasACut : Type 0
 EachTextHasACut = (text : List ℕ) → (tokens : List Token) × IsCut text tokens
 
--- each punctuator without the digraphs is a mark of the grammar (C11 6.4.6)
-abbrev pub EachMarkIsFixed : Type 0
-EachMarkIsFixed = (text : List ℕ) → is_mark text ≡ true → (f : Fixed) × (spelling_of f ≡ text)
+-- each punctuator without the digraphs is a punctuator of the grammar (C11 6.4.6)
+abbrev pub EachPunctuatorIsFixed : Type 0
+EachPunctuatorIsFixed = (text : List ℕ) → is_punctuator text ≡ true → (f : Fixed) × (spelling_of f ≡ text)

@@ -1,9 +1,18 @@
-//! Laws of the definitions of tokens and of skimming. Each is a function that does nothing, and whose contract is the law;
-//! the program builds none of them.
+//! Laws of texts: of tokens and skimming, of the trees that are read, and of lawful texts of records.
 #![tactic(auto)]
 
 mod cuts;
+mod found;
+mod layouts;
+mod semicolons;
 mod stretches;
+mod texts;
+mod words;
 
-pub use cuts::{each_mark_is_fixed, each_text_has_a_cut};
+pub use cuts::{each_punctuator_is_fixed, each_text_has_a_cut};
+pub use found::nodes_are_found;
+pub use layouts::laid_out_by_its_tokens;
+pub use semicolons::ends_at_the_first_semicolon;
 pub use stretches::{one_skimming, skimming_by_stretches};
+pub use texts::{each_text_has_lawful_records, one_lawful_text};
+pub use words::words_ask_for_one;

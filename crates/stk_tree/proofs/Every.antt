@@ -1,10 +1,10 @@
--- Every reserved word and mark stands in the list of all.
+-- Every reserved word and punctuator stands in the list of all.
 use Rattle.std.proofs.Common.{◌≡◌, ◌<◌, ℕ, length, get_or, refl, arith}
 use Rattle.stk_tree.specs.Spelling.{every}
 use Rattle.stk_tree.specs.declared.fixed.Fixed.{Fixed}
 use Rattle.stk_tree.specs.declared.fixed.Fixed.TheVariants as fixed
 
--- the place of a reserved word or mark
+-- the place of a reserved word or punctuator
 abbrev pub place : Fixed → ℕ
 place fixed.Auto = 0
 place fixed.Break = 1

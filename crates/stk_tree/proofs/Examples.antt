@@ -1,4 +1,5 @@
--- Examples, by which the definitions can be checked: what some trees print, how high they are, where they are well placed, and a function's layout.
+-- Examples, by which the definitions can be checked: what some trees print, how high they are, where they are well
+-- placed, and a function's layout.
 use Rattle.std.proofs.Common.{◌≡◌, ℕ, ◌+◌, true, false, List, [], ◌∷◌, Some, None, refl}
 use Rattle.stk_base.specs.declared.span.Span.{Span}
 use Rattle.stk_base.specs.declared.token.Class.TheVariants.{Word, Number}
@@ -74,7 +75,8 @@ sample_prints : unit_tokens sample ≡
     fixed.Return ∷ Leaf Word (at 70 71) ∷ Token fixed.Semicolon ∷ Token fixed.RightBrace ∷ []
 sample_prints = refl
 
--- 0 is the first `int`, 1 to 3 the parameter, 4 the declarator of f, 5 the second `int`, 6 to 9 the declarator of y, 10 to 15 the `if`, 16 and 17 the last `return`, 18 the block
+-- 0 is the first `int`, 1 to 3 the parameter, 4 the declarator of f, 5 the second `int`, 6 to 9 the declarator of y, 10
+-- to 15 the `if`, 16 and 17 the last `return`, 18 the block
 sample_laid_out : unit_laid_out sample_spans sample ≡
     s.defines (numbered 19 0 74) (s.function None (s.base (numbered 0 0 3) (s.words (fixed.Int ∷ []))) (s.declarator (numbered 4 4 22) 0 (Some (at 4
     5)) (s.with_parameters (s.then_parameter (s.parameter (numbered 3 6 21) (s.base (numbered 1 6 19) (s.words (fixed.Unsigned ∷ fixed.Char ∷ [])))
@@ -229,7 +231,8 @@ section_not_placed = refl
 call_height : expression_height (e (s.call a (s.then_expression b (s.then_expression c s.no_expressions)))) ≡ 2
 call_height = refl
 
--- `**a[1]`: the declarator and the size of its array part; nested are the declarator, two `*`, an array part and its size
+-- `**a[1]`: the declarator and the size of its array part; nested are the declarator, two `*`, an array part and its
+-- size
 stars : DeclrTree
 stars = s.declarator unlaid 2 (Some (at 0 1)) (s.arrays (s.then_dimension (s.sized (e (s.number (at 1 2)))) s.no_dimensions)) s.no_initialiser
 

@@ -1,4 +1,4 @@
--- Which reserved words and marks begin with a byte.
+-- Which reserved words and punctuators begin with a byte.
 use Rattle.std.proofs.Common.{◌≡◌, ◌≢◌, ◌∙◌, ◌<◌, ◌∷◌, ◌||◌, ℕ, zero, suc, Bool, true, false, cond, List, [], Option, Some, None, IfNone, length, get_or, nat_eq, refl, sym, ap, arith}
 use Rattle.std.specs.List.{filter, list_all, list_any}
 use Rattle.std.proofs.lemmas.Bool.{eqb-true, eq-eqb, ne_eqb, and_parts}
@@ -6,14 +6,14 @@ use Rattle.stk_tree.specs.Spelling.{begins, every, spelling_of}
 use Rattle.stk_tree.specs.declared.fixed.Fixed.{Fixed}
 use Rattle.stk_tree.proofs.Every.{place, stands, stands_before}
 
--- the bytes with which words and marks begin
+-- the bytes with which words and punctuators begin
 abbrev firsts : List ℕ
 firsts =
     97 ∷ 98 ∷ 99 ∷ 100 ∷ 101 ∷ 102 ∷ 103 ∷ 105 ∷ 108 ∷ 114 ∷ 115 ∷ 116 ∷ 117 ∷ 118 ∷
     119 ∷ 95 ∷ 91 ∷ 93 ∷ 40 ∷ 41 ∷ 123 ∷ 125 ∷ 46 ∷ 45 ∷ 43 ∷ 38 ∷ 42 ∷ 126 ∷
     33 ∷ 47 ∷ 37 ∷ 60 ∷ 62 ∷ 61 ∷ 94 ∷ 124 ∷ 63 ∷ 58 ∷ 59 ∷ 44 ∷ []
 
--- whether a word or a mark begins with one of these bytes
+-- whether a word or a punctuator begins with one of these bytes
 abbrev starts_in : List ℕ → Fixed → Bool
 starts_in bytes f = list_any (nat_eq (get_or (spelling_of f) 0 0)) bytes
 
@@ -40,7 +40,7 @@ none_kept b (f ∷ fs) apart start =
     let parts = and_parts (starts_in firsts f) (list_all (starts_in firsts) fs) start in
     rw (other b (get_or (spelling_of f) 0 0) firsts apart parts.0) (none_kept b fs apart parts.1)
 
--- no word or mark begins with another byte
+-- no word or punctuator begins with another byte
 pub none_begins : (b : ℕ) → Differs b firsts → [] ≡ filter (begins b) every
 none_begins b apart = none_kept b every apart every_start
 
@@ -58,7 +58,7 @@ kept p [] x k below is passes = absurd (omega (arith, below))
 kept p (y ∷ ys) x zero below is passes = rw is (rw passes (zero, omega arith, refl))
 kept p (y ∷ ys) x (suc k) below is passes = stands_behind p y x (filter p ys) (p y) (kept p ys x k (omega (arith, below)) is passes)
 
--- what none of those that begin with a text's first byte has as its text, no word or mark has
+-- what none of those that begin with a text's first byte has as its text, no word or punctuator has
 pub missed : (list : List Fixed) (text : List ℕ) (r : Option Fixed) → list ≡ filter (begins (get_or text 0 0)) every →
     IfNone r ((k : ℕ) (other : Fixed) → k < length list → spelling_of (get_or list k other) ≢ text) → IfNone r ((f : Fixed) → spelling_of f ≢ text)
 missed list text None e p = λ f q.

@@ -1,5 +1,5 @@
--- Which trees fit the names in force: a word that stands as a typedef name is one, and a word that stands as a name, or as a declared name, is none (C11 6.7.8).
--- Tags, members after `.` and `->`, and members in designators are any words.
+-- Which trees fit the names in force: a word that stands as a typedef name is one, and a word that stands as a name, or
+-- as a declared name, is none (C11 6.7.8). Tags, members after `.` and `->`, and members in designators are any words.
 use Rattle.std.specs.Prelude.{Bool, true, not, ◌&&◌, Option, Some, None}
 use Rattle.stk_base.specs.declared.span.Span.{Span}
 use Rattle.stk_tree.specs.Syntax.{BaseTree, BaseFormTree, MemberTree, MemberTrees, EnumrTree, EnumrTrees, DeclrTree, DeclrTrees, TailTree, DimensionTree, DimensionTrees, ParamTree, ParamTrees, TypeNameTree, InitTree, MaybeInitTree, ItemTree, ItemTrees, DesigTree, DesigTrees, ExprTree, ExprTrees, MaybeExprTree, ExprFormTree}

@@ -1,4 +1,5 @@
--- How high a tree is: a leaf has height 1, and any other node is one higher than the highest of its children; a list, and what else is no node, adds nothing.
+-- How high a tree is: a leaf has height 1, and any other node is one higher than the highest of its children; a list,
+-- and what else is no node, adds nothing.
 use Rattle.std.specs.Prelude.{ℕ, ◌+◌, max}
 use Rattle.stk_tree.specs.Syntax.{BaseTree, BaseFormTree, MemberTree, MemberTrees, EnumrTree, EnumrTrees, DeclrTree, DeclrTrees, TailTree, DimensionTree, DimensionTrees, ParamTree, ParamTrees, TypeNameTree, InitTree, MaybeInitTree, ItemTree, ItemTrees, DesigTree, DesigTrees, ExprTree, ExprTrees, MaybeExprTree, ExprFormTree}
 use Rattle.stk_tree.specs.Syntax.{DeclarationTree, StartTree, LabelTree, LabelTrees, StmtTree, StmtTrees, MaybeStmtTree, StmtFormTree, PartTree, PartTrees, SectionTree, SectionTrees, FunctionTree, UnitTree}

@@ -1,5 +1,6 @@
--- The layout of a tree: the tree with the record of each node set. Nodes are numbered from 0, children from left to right, then their parent.
--- A node covers its tokens, from the first byte of the first to the end of the last; a node that prints no token has the empty span where the next token begins.
+-- The layout of a tree: the tree with the record of each node set. Nodes are numbered from 0, children from left to
+-- right, then their parent. A node covers its tokens, from the first byte of the first to the end of the last; a node
+-- that prints no token has the empty span where the next token begins.
 use Rattle.std.specs.Prelude.{ℕ, zero, suc, ◌+◌, List, get_or, length}
 use Rattle.stk_base.specs.declared.span.Span.{Span}
 use Rattle.stk_tree.specs.declared.node.Node.{Node}
@@ -108,7 +109,8 @@ section_width x = length (section_tokens x)
 abbrev pub function_width : FunctionTree → ℕ
 function_width x = length (function_tokens x)
 
--- In each definition below n is the number of the first free node, and t the first token of the tree. `set` makes the record of a node from its number, its first token and how many tokens it covers.
+-- In each definition below n is the number of the first free node, and t the first token of the tree. `set` makes the
+-- record of a node from its number, its first token and how many tokens it covers.
 module _ (set : ℕ → ℕ → ℕ → Node) where
   abbrev mutual
     pub laid_base : ℕ → ℕ → BaseTree → BaseTree

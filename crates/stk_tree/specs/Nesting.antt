@@ -1,5 +1,6 @@
--- How deep a tree nests, the measure that the limit on trees uses: its height, and a level more for each construct that nests without being a node.
--- Each `*` and each array part of a declarator or a type name, each brace of an initialiser and each designator counts one level, as a node round what it stands on would.
+-- How deep a tree nests, the measure that the limit on trees uses: its height, and a level more for each construct that
+-- nests without being a node. Each `*` and each array part of a declarator or a type name, each brace of an initialiser
+-- and each designator counts one level, as a node round what it stands on would.
 use Rattle.std.specs.Prelude.{ℕ, ◌+◌, max}
 use Rattle.stk_tree.specs.Syntax.{BaseTree, BaseFormTree, MemberTree, MemberTrees, EnumrTree, EnumrTrees, DeclrTree, DeclrTrees, TailTree, DimensionTree, DimensionTrees, ParamTree, ParamTrees, TypeNameTree, InitTree, MaybeInitTree, ItemTree, ItemTrees, DesigTree, DesigTrees, ExprTree, ExprTrees, MaybeExprTree, ExprFormTree}
 use Rattle.stk_tree.specs.Syntax.{DeclarationTree, StartTree, LabelTree, LabelTrees, StmtTree, StmtTrees, MaybeStmtTree, StmtFormTree, PartTree, PartTrees, SectionTree, SectionTrees, FunctionTree, UnitTree}

@@ -1,4 +1,5 @@
--- How many nodes a tree has: a unit, a base, a declarator, a parameter, a type name, an expression, a statement and a section have one each.
+-- How many nodes a tree has: a unit, a base, a declarator, a parameter, a type name, an expression, a statement and a
+-- section have one each.
 use Rattle.std.specs.Prelude.{ℕ, ◌+◌}
 use Rattle.stk_tree.specs.Syntax.{BaseTree, BaseFormTree, MemberTree, MemberTrees, EnumrTree, EnumrTrees, DeclrTree, DeclrTrees, TailTree, DimensionTree, DimensionTrees, ParamTree, ParamTrees, TypeNameTree, InitTree, MaybeInitTree, ItemTree, ItemTrees, DesigTree, DesigTrees, ExprTree, ExprTrees, MaybeExprTree, ExprFormTree}
 use Rattle.stk_tree.specs.Syntax.{DeclarationTree, StartTree, LabelTree, LabelTrees, StmtTree, StmtTrees, MaybeStmtTree, StmtFormTree, PartTree, PartTrees, SectionTree, SectionTrees, FunctionTree, UnitTree}

@@ -1,9 +1,9 @@
--- How each reserved word and each mark is spelled (C11 6.4.1, 6.4.6, and the words that GNU C adds).
+-- How each reserved word and each punctuator is spelled (C11 6.4.1, 6.4.6, and the words that GNU C adds).
 use Rattle.std.specs.Prelude.{ℕ, Bool, List, [], ◌∷◌, codes, get_or, nat_eq}
 use Rattle.stk_tree.specs.declared.fixed.Fixed.{Fixed}
 use Rattle.stk_tree.specs.declared.fixed.Fixed.TheVariants as fixed
 
--- the bytes of a reserved word or a mark
+-- the bytes of a reserved word or a punctuator
 abbrev pub spelling_of : Fixed → List ℕ
 spelling_of fixed.Auto = codes "auto"
 spelling_of fixed.Break = codes "break"
@@ -117,7 +117,7 @@ spelling_of fixed.CaretAssign = codes "^="
 spelling_of fixed.PipeAssign = codes "|="
 spelling_of fixed.Comma = codes ","
 
--- every reserved word and mark, once
+-- every reserved word and punctuator, once
 abbrev pub every : List Fixed
 every =
     fixed.Auto ∷ fixed.Break ∷ fixed.Case ∷ fixed.Char ∷ fixed.Const ∷ fixed.Continue ∷ fixed.Default ∷ fixed.Do ∷
@@ -140,6 +140,6 @@ every =
     fixed.LeftShiftAssign ∷ fixed.RightShiftAssign ∷ fixed.AmpersandAssign ∷ fixed.CaretAssign ∷ fixed.PipeAssign ∷
     fixed.Comma ∷ []
 
--- whether a reserved word or mark begins with a byte
+-- whether a reserved word or punctuator begins with a byte
 abbrev pub begins : ℕ → Fixed → Bool
 begins byte f = nat_eq (get_or (spelling_of f) 0 0) byte

@@ -1,4 +1,5 @@
--- The syntax of C as a tree, without where it lies in memory: a type for each type of the code, and for each list and option of children.
+-- The syntax of C as a tree, without where it lies in memory: a type for each type of the code, and for each list and
+-- option of children.
 use Rattle.std.specs.Prelude.{ℕ, Bool, List, Option}
 use Rattle.stk_base.specs.declared.span.Span.{Span}
 use Rattle.stk_tree.specs.declared.node.Node.{Node}
@@ -15,7 +16,8 @@ mutual
   pub data BaseTree : Type 0 where
     base : Node → BaseFormTree → BaseTree
 
-  -- basic words; `struct tag`; `struct [tag] { members }`; `enum tag`; `enum [tag] { enumerators }`, with whether a comma stands before the brace; a typedef name
+  -- basic words; `struct tag`; `struct [tag] { members }`; `enum tag`; `enum [tag] { enumerators }`, with whether a
+  -- comma stands before the brace; a typedef name
   pub data BaseFormTree : Type 0 where
     words : List Fixed → BaseFormTree
     struct_ref : Span → BaseFormTree

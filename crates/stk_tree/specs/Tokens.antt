@@ -58,50 +58,50 @@ abbrev pub more_tokens : Bool → List Lexeme
 more_tokens true = Token fixed.Comma ∷ Token fixed.Ellipsis ∷ []
 more_tokens false = []
 
--- the mark of a unary operator
-abbrev pub unary_mark : UnaryOp → Fixed
-unary_mark unary.Address = fixed.Ampersand
-unary_mark unary.Deref = fixed.Star
-unary_mark unary.Plus = fixed.Plus
-unary_mark unary.Minus = fixed.Minus
-unary_mark unary.Flip = fixed.Tilde
-unary_mark unary.Not = fixed.Exclamation
+-- the punctuator of a unary operator
+abbrev pub unary_punctuator : UnaryOp → Fixed
+unary_punctuator unary.Address = fixed.Ampersand
+unary_punctuator unary.Deref = fixed.Star
+unary_punctuator unary.Plus = fixed.Plus
+unary_punctuator unary.Minus = fixed.Minus
+unary_punctuator unary.Flip = fixed.Tilde
+unary_punctuator unary.Not = fixed.Exclamation
 
--- the mark of a binary operator
-abbrev pub binary_mark : BinaryOp → Fixed
-binary_mark binary.Comma = fixed.Comma
-binary_mark binary.OrElse = fixed.OrOr
-binary_mark binary.AndAlso = fixed.AndAnd
-binary_mark binary.Or = fixed.Pipe
-binary_mark binary.Xor = fixed.Caret
-binary_mark binary.And = fixed.Ampersand
-binary_mark binary.Eq = fixed.EqualEqual
-binary_mark binary.Ne = fixed.NotEqual
-binary_mark binary.Lt = fixed.Less
-binary_mark binary.Gt = fixed.Greater
-binary_mark binary.Le = fixed.LessEqual
-binary_mark binary.Ge = fixed.GreaterEqual
-binary_mark binary.Left = fixed.LeftShift
-binary_mark binary.Right = fixed.RightShift
-binary_mark binary.Add = fixed.Plus
-binary_mark binary.Sub = fixed.Minus
-binary_mark binary.Mul = fixed.Star
-binary_mark binary.Div = fixed.Slash
-binary_mark binary.Rem = fixed.Percent
+-- the punctuator of a binary operator
+abbrev pub binary_punctuator : BinaryOp → Fixed
+binary_punctuator binary.Comma = fixed.Comma
+binary_punctuator binary.OrElse = fixed.OrOr
+binary_punctuator binary.AndAlso = fixed.AndAnd
+binary_punctuator binary.Or = fixed.Pipe
+binary_punctuator binary.Xor = fixed.Caret
+binary_punctuator binary.And = fixed.Ampersand
+binary_punctuator binary.Eq = fixed.EqualEqual
+binary_punctuator binary.Ne = fixed.NotEqual
+binary_punctuator binary.Lt = fixed.Less
+binary_punctuator binary.Gt = fixed.Greater
+binary_punctuator binary.Le = fixed.LessEqual
+binary_punctuator binary.Ge = fixed.GreaterEqual
+binary_punctuator binary.Left = fixed.LeftShift
+binary_punctuator binary.Right = fixed.RightShift
+binary_punctuator binary.Add = fixed.Plus
+binary_punctuator binary.Sub = fixed.Minus
+binary_punctuator binary.Mul = fixed.Star
+binary_punctuator binary.Div = fixed.Slash
+binary_punctuator binary.Rem = fixed.Percent
 
--- the mark of an assignment operator
-abbrev pub assign_mark : AssignOp → Fixed
-assign_mark assign.Plain = fixed.Assign
-assign_mark assign.Mul = fixed.StarAssign
-assign_mark assign.Div = fixed.SlashAssign
-assign_mark assign.Rem = fixed.PercentAssign
-assign_mark assign.Add = fixed.PlusAssign
-assign_mark assign.Sub = fixed.MinusAssign
-assign_mark assign.Left = fixed.LeftShiftAssign
-assign_mark assign.Right = fixed.RightShiftAssign
-assign_mark assign.And = fixed.AmpersandAssign
-assign_mark assign.Xor = fixed.CaretAssign
-assign_mark assign.Or = fixed.PipeAssign
+-- the punctuator of an assignment operator
+abbrev pub assign_punctuator : AssignOp → Fixed
+assign_punctuator assign.Plain = fixed.Assign
+assign_punctuator assign.Mul = fixed.StarAssign
+assign_punctuator assign.Div = fixed.SlashAssign
+assign_punctuator assign.Rem = fixed.PercentAssign
+assign_punctuator assign.Add = fixed.PlusAssign
+assign_punctuator assign.Sub = fixed.MinusAssign
+assign_punctuator assign.Left = fixed.LeftShiftAssign
+assign_punctuator assign.Right = fixed.RightShiftAssign
+assign_punctuator assign.And = fixed.AmpersandAssign
+assign_punctuator assign.Xor = fixed.CaretAssign
+assign_punctuator assign.Or = fixed.PipeAssign
 
 -- an operand with `++` or `--` before or after it
 abbrev pub step_tokens : StepOp → List Lexeme → List Lexeme
@@ -251,13 +251,13 @@ abbrev mutual
   expression_form_tokens (s.dot e at) = expression_tokens e ++ Token fixed.Dot ∷ word at
   expression_form_tokens (s.arrow e at) = expression_tokens e ++ Token fixed.Arrow ∷ word at
   expression_form_tokens (s.step op e) = step_tokens op (expression_tokens e)
-  expression_form_tokens (s.unary op e) = Token (unary_mark op) ∷ expression_tokens e
+  expression_form_tokens (s.unary op e) = Token (unary_punctuator op) ∷ expression_tokens e
   expression_form_tokens (s.size_expression e) = Token fixed.Sizeof ∷ expression_tokens e
   expression_form_tokens (s.size_name t) = Token fixed.Sizeof ∷ Token fixed.LeftParen ∷ type_name_tokens t ++ Token fixed.RightParen ∷ []
   expression_form_tokens (s.cast t e) = Token fixed.LeftParen ∷ type_name_tokens t ++ Token fixed.RightParen ∷ expression_tokens e
-  expression_form_tokens (s.binary op a b) = expression_tokens a ++ Token (binary_mark op) ∷ expression_tokens b
+  expression_form_tokens (s.binary op a b) = expression_tokens a ++ Token (binary_punctuator op) ∷ expression_tokens b
   expression_form_tokens (s.choice a b c) = expression_tokens a ++ Token fixed.Question ∷ expression_tokens b ++ Token fixed.Colon ∷ expression_tokens c
-  expression_form_tokens (s.assign op a b) = expression_tokens a ++ Token (assign_mark op) ∷ expression_tokens b
+  expression_form_tokens (s.assign op a b) = expression_tokens a ++ Token (assign_punctuator op) ∷ expression_tokens b
 
 -- an expression that may be missing
 abbrev pub optional_tokens : MaybeExprTree → List Lexeme

@@ -21,8 +21,8 @@ pub enum UnaryOp {
     Not,
 }
 
-/// The binary operators from the weakest to the strongest (C11 6.5.5 to 6.5.14, 6.5.17): `,`, `||`, `&&`, `|`, `^`, `&`,
-/// `==`, `!=`, `<`, `>`, `<=`, `>=`, `<<`, `>>`, `+`, `-`, `*`, `/`, `%`.
+/// The binary operators from the weakest to the strongest (C11 6.5.5 to 6.5.14, 6.5.17): `,`, `||`, `&&`, `|`, `^`,
+/// `&`, `==`, `!=`, `<`, `>`, `<=`, `>=`, `<<`, `>>`, `+`, `-`, `*`, `/`, `%`.
 #[derive(Clone, Copy, Debug, PartialEq, Eq)]
 pub enum BinaryOp {
     Comma,

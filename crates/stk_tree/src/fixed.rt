@@ -1,6 +1,6 @@
 use stk_base::{Class, Span};
 
-/// A reserved word or a mark.
+/// A reserved word or a punctuator.
 ///
 /// The keywords of C11 6.4.1 come first, then the words that GNU C adds and that this checker keeps from being names,
 /// then the punctuators of C11 6.4.6 without `#`, `##` and the digraphs. Of a word that GNU C spells in several ways,
@@ -231,7 +231,7 @@ pub enum Fixed {
     Comma,
 }
 
-/// A token as a tree prints it: a reserved word or mark, or a token whose text stands in the input at the span.
+/// A token as a tree prints it: a reserved word or punctuator, or a token whose text stands in the input at the span.
 #[derive(Clone, Copy, Debug, PartialEq, Eq)]
 pub enum Lexeme {
     Fixed(Fixed),

@@ -1,4 +1,4 @@
-//! How each reserved word and each mark is spelled.
+//! How each reserved word and each punctuator is spelled.
 ghost use Rattle.std.specs.Prelude.{◌≡◌, ◌≢◌, ◌<◌, ℕ, IfSome, IfNone, get_or, length};
 ghost use Rattle.std.specs.List.{filter};
 ghost use Rattle.stk_tree.specs.Spelling.{begins, every, spelling_of};
@@ -6,7 +6,8 @@ ghost use Rattle.stk_tree.specs.declared.fixed.Fixed.{Fixed};
 
 use crate::Fixed;
 
-/// The text of a reserved word or a mark, as it stands in an input (C11 6.4.1, 6.4.6, and the words that GNU C adds).
+/// The text of a reserved word or a punctuator, as it stands in an input (C11 6.4.1, 6.4.6, and the words that GNU C
+/// adds).
 pub fn spelling(fixed: Fixed) -> &'static [u8]
     ensures { result.now ≡ spelling_of fixed }
 {
@@ -125,8 +126,8 @@ pub fn spelling(fixed: Fixed) -> &'static [u8]
     }
 }
 
-/// The reserved word or mark with this text. `None` comes exactly where there is none: the text is then a name, a number or
-/// another token of the input.
+/// The reserved word or punctuator with this text. `None` comes exactly where there is none: the text is then a name, a
+/// number or another token of the input.
 pub fn fixed_of(text: &[u8]) -> Option<Fixed>
     ensures found { IfSome result (λ f. spelling_of f ≡ text.now) }
     ensures missing { IfNone result ((f : Fixed) → spelling_of f ≢ text.now) }
@@ -137,7 +138,7 @@ pub fn fixed_of(text: &[u8]) -> Option<Fixed>
     }
 }
 
-/// The reserved words and marks that begin with a byte.
+/// The reserved words and punctuators that begin with a byte.
 fn beginning_with(first: u8) -> &'static [Fixed]
     ensures { result.now ≡ filter (begins first) every }
 {
@@ -238,7 +239,7 @@ fn beginning_with(first: u8) -> &'static [Fixed]
     }
 }
 
-/// The first of these words and marks with this text.
+/// The first of these words and punctuators with this text.
 fn among(list: &[Fixed], text: &[u8]) -> Option<Fixed>
     ensures found { IfSome result (λ f. spelling_of f ≡ text.now) }
     ensures missing { IfNone result ((k : ℕ) (other : Fixed) → k < length list.now → spelling_of (get_or list.now k other) ≢ text.now) }

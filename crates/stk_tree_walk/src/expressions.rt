@@ -7,23 +7,23 @@ ghost use Rattle.stk_tree.specs.Tokens.{expression_form_tokens, expression_token
 ghost use Rattle.stk_tree.specs.View.{view_expression, view_expression_form, view_type_name};
 ghost use Rattle.stk_tree_walk.specs.Waiting.{given, left_of};
 
-use crate::marks::{assign_mark, binary_mark, unary_mark};
+use crate::punctuators::{assign_punctuator, binary_punctuator, unary_punctuator};
 use crate::rows::first_text;
-use crate::waiting::{Waiting, put, put_mark, put_word, word};
+use crate::waiting::{Waiting, put, put_punctuator, put_word, word};
 use stk_base::{Class, NoMemory};
 use stk_tree::{Expr, ExprForm, Fixed, Lexeme, StepOp, TypeName};
 
-// The mark before an operand, and the operand behind it.
+// The punctuator before an operand, and the operand behind it.
 fn open_behind<'a>(
-    mark: Fixed,
+    punctuator: Fixed,
     e: &'a Expr,
     out: &mut Vec<Waiting<'a>>,
 ) -> Result<Option<Lexeme>, NoMemory>
-    ensures left { IfOk result (λ t. given t ++ left_of out.new.items ≡ Token mark ∷ expression_tokens (view_expression e.now) ++ left_of out.old.items) }
+    ensures left { IfOk result (λ t. given t ++ left_of out.new.items ≡ Token punctuator ∷ expression_tokens (view_expression e.now) ++ left_of out.old.items) }
     ensures same { IfOk result (λ t. t ≡ None → out.new.items ≡ out.old.items) }
 {
     put(Waiting::Expression(e), out)?;
-    Ok(Some(Lexeme::Fixed(mark)))
+    Ok(Some(Lexeme::Fixed(punctuator)))
 }
 
 // The parenthesis before an expression in parentheses.
@@ -31,7 +31,7 @@ fn open_paren<'a>(e: &'a Expr, out: &mut Vec<Waiting<'a>>) -> Result<Option<Lexe
     ensures left { IfOk result (λ t. given t ++ left_of out.new.items ≡ (Token fixed.LeftParen ∷ expression_tokens (view_expression e.now) ++ Token fixed.RightParen ∷ []) ++ left_of out.old.items) }
     ensures same { IfOk result (λ t. t ≡ None → out.new.items ≡ out.old.items) }
 {
-    put_mark(Fixed::RightParen, out)?;
+    put_punctuator(Fixed::RightParen, out)?;
     open_behind(Fixed::LeftParen, e, out)
 }
 
@@ -40,9 +40,9 @@ fn open_size<'a>(t: &'a TypeName, out: &mut Vec<Waiting<'a>>) -> Result<Option<L
     ensures left { IfOk result (λ t1. given t1 ++ left_of out.new.items ≡ (Token fixed.Sizeof ∷ Token fixed.LeftParen ∷ type_name_tokens (view_type_name t.now) ++ Token fixed.RightParen ∷ []) ++ left_of out.old.items) }
     ensures same { IfOk result (λ t1. t1 ≡ None → out.new.items ≡ out.old.items) }
 {
-    put_mark(Fixed::RightParen, out)?;
+    put_punctuator(Fixed::RightParen, out)?;
     put(Waiting::Type(t), out)?;
-    put_mark(Fixed::LeftParen, out)?;
+    put_punctuator(Fixed::LeftParen, out)?;
     Ok(Some(Lexeme::Fixed(Fixed::Sizeof)))
 }
 
@@ -56,28 +56,28 @@ fn open_cast<'a>(
     ensures same { IfOk result (λ t1. t1 ≡ None → out.new.items ≡ out.old.items) }
 {
     put(Waiting::Expression(e), out)?;
-    put_mark(Fixed::RightParen, out)?;
+    put_punctuator(Fixed::RightParen, out)?;
     put(Waiting::Type(t), out)?;
     Ok(Some(Lexeme::Fixed(Fixed::LeftParen)))
 }
 
-// The first token of an operand that a mark follows.
+// The first token of an operand that a punctuator follows.
 #[cycle(open)]
 fn open_before<'a>(
     e: &'a Expr,
-    mark: Fixed,
+    punctuator: Fixed,
     out: &mut Vec<Waiting<'a>>,
 ) -> Result<Option<Lexeme>, NoMemory>
-    ensures left { IfOk result (λ t. given t ++ left_of out.new.items ≡ expression_tokens (view_expression e.now) ++ Token mark ∷ left_of out.old.items) }
+    ensures left { IfOk result (λ t. given t ++ left_of out.new.items ≡ expression_tokens (view_expression e.now) ++ Token punctuator ∷ left_of out.old.items) }
     ensures some { IfOk result (λ t. t ≢ None) }
 {
     let waiting = out.len();
-    put(Waiting::Token(Lexeme::Fixed(mark)), out)?;
+    put(Waiting::Token(Lexeme::Fixed(punctuator)), out)?;
     match open_expression(e, out)? {
         Some(token) => Ok(Some(token)),
         None => {
             out.truncate(waiting);
-            Ok(Some(Lexeme::Fixed(mark)))
+            Ok(Some(Lexeme::Fixed(punctuator)))
         }
     }
 }
@@ -107,12 +107,12 @@ fn open_form<'a>(f: &'a ExprForm, out: &mut Vec<Waiting<'a>>) -> Result<Option<L
         ExprForm::Text(parts) => first_text(parts.as_slice(), out),
         ExprForm::Paren(e) => open_paren(e.get(), out),
         ExprForm::Index(a, b) => {
-            put_mark(Fixed::RightBracket, out)?;
+            put_punctuator(Fixed::RightBracket, out)?;
             put(Waiting::Expression(b.get()), out)?;
             open_before(a.get(), Fixed::LeftBracket, out)
         }
         ExprForm::Call(callee, list) => {
-            put_mark(Fixed::RightParen, out)?;
+            put_punctuator(Fixed::RightParen, out)?;
             put(Waiting::Arguments(list.as_slice()), out)?;
             open_before(callee.get(), Fixed::LeftParen, out)
         }
@@ -130,13 +130,13 @@ fn open_form<'a>(f: &'a ExprForm, out: &mut Vec<Waiting<'a>>) -> Result<Option<L
             StepOp::IncAfter => open_before(e.get(), Fixed::PlusPlus, out),
             StepOp::DecAfter => open_before(e.get(), Fixed::MinusMinus, out),
         },
-        ExprForm::Unary(op, e) => open_behind(unary_mark(*op), e.get(), out),
+        ExprForm::Unary(op, e) => open_behind(unary_punctuator(*op), e.get(), out),
         ExprForm::SizeExpr(e) => open_behind(Fixed::Sizeof, e.get(), out),
         ExprForm::SizeName(t) => open_size(t, out),
         ExprForm::Cast(t, e) => open_cast(t, e.get(), out),
         ExprForm::Binary(op, a, b) => {
             put(Waiting::Expression(b.get()), out)?;
-            open_before(a.get(), binary_mark(*op), out)
+            open_before(a.get(), binary_punctuator(*op), out)
         }
         ExprForm::Choice(a, b, c) => {
             put_choices(b.get(), c.get(), out)?;
@@ -144,7 +144,7 @@ fn open_form<'a>(f: &'a ExprForm, out: &mut Vec<Waiting<'a>>) -> Result<Option<L
         }
         ExprForm::Assign(op, a, b) => {
             put(Waiting::Expression(b.get()), out)?;
-            open_before(a.get(), assign_mark(*op), out)
+            open_before(a.get(), assign_punctuator(*op), out)
         }
     }
 }
@@ -154,6 +154,6 @@ fn put_choices<'a>(b: &'a Expr, c: &'a Expr, out: &mut Vec<Waiting<'a>>) -> Resu
     ensures { OnOk result (left_of out.new.items ≡ expression_tokens (view_expression b.now) ++ Token fixed.Colon ∷ expression_tokens (view_expression c.now) ++ left_of out.old.items) }
 {
     put(Waiting::Expression(c), out)?;
-    put_mark(Fixed::Colon, out)?;
+    put_punctuator(Fixed::Colon, out)?;
     put(Waiting::Expression(b), out)
 }

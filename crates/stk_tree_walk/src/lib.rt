@@ -2,9 +2,9 @@
 #![tactic(auto)]
 
 mod expressions;
-mod marks;
 mod parts;
 mod printing;
+mod punctuators;
 mod rows;
 mod types;
 mod waiting;

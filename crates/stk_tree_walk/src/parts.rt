@@ -8,7 +8,7 @@ ghost use Rattle.stk_tree.specs.Tokens.{declarator_tokens, declarators_tokens, d
 ghost use Rattle.stk_tree.specs.View.{declarators, designators, enumerators, expressions, given_expression, items, maybe_initialiser, members, parameters, view_declarator, view_designator, view_dimension, view_enumerator, view_expression, view_initialiser, view_item, view_member, view_parameter, view_type_name};
 ghost use Rattle.stk_tree_walk.specs.Waiting.{heft, left_of};
 
-use crate::waiting::{Waiting, put, put_mark, put_optional_word, put_word};
+use crate::waiting::{Waiting, put, put_optional_word, put_punctuator, put_word};
 use stk_base::{NoMemory, Span};
 use stk_tree::{Declr, Desig, Dimension, Enumr, Expr, Fixed, Init, Item, Member, Param, TypeName};
 
@@ -17,7 +17,7 @@ fn put_last_comma(comma: bool, out: &mut Vec<Waiting>) -> Result<(), NoMemory>
     ensures { OnOk result (left_of out.new.items ≡ last_comma comma ++ left_of out.old.items) }
 {
     if comma {
-        put_mark(Fixed::Comma, out)
+        put_punctuator(Fixed::Comma, out)
     } else {
         Ok(())
     }
@@ -28,8 +28,8 @@ fn put_more(more: bool, out: &mut Vec<Waiting>) -> Result<(), NoMemory>
     ensures { OnOk result (left_of out.new.items ≡ more_tokens more ++ left_of out.old.items) }
 {
     if more {
-        put_mark(Fixed::Ellipsis, out)?;
-        put_mark(Fixed::Comma, out)
+        put_punctuator(Fixed::Ellipsis, out)?;
+        put_punctuator(Fixed::Comma, out)
     } else {
         Ok(())
     }
@@ -42,7 +42,7 @@ fn put_path_end(path: &[Desig], out: &mut Vec<Waiting>) -> Result<(), NoMemory>
 {
     match path {
         [] => Ok(()),
-        [_, _rest @ ..] => put_mark(Fixed::Assign, out),
+        [_, _rest @ ..] => put_punctuator(Fixed::Assign, out),
     }
 }
 
@@ -55,7 +55,7 @@ fn put_value<'a>(value: &'a Option<Expr>, out: &mut Vec<Waiting<'a>>) -> Result<
         None => Ok(()),
         Some(e) => {
             put(Waiting::Expression(e), out)?;
-            put_mark(Fixed::Assign, out)
+            put_punctuator(Fixed::Assign, out)
         }
     }
 }
@@ -69,7 +69,7 @@ fn put_initial<'a>(init: &'a Option<Init>, out: &mut Vec<Waiting<'a>>) -> Result
         None => Ok(()),
         Some(x) => {
             put(Waiting::Initialiser(x), out)?;
-            put_mark(Fixed::Assign, out)
+            put_punctuator(Fixed::Assign, out)
         }
     }
 }
@@ -98,7 +98,7 @@ fn put_member<'a>(m: &'a Member, out: &mut Vec<Waiting<'a>>) -> Result<(), NoMem
     ensures left { OnOk result (left_of out.new.items ≡ member_tokens (view_member m.now) ++ left_of out.old.items) }
     ensures heft { OnOk result (heft out.new.items ≡ 13 + heft out.old.items) }
 {
-    put_mark(Fixed::Semicolon, out)?;
+    put_punctuator(Fixed::Semicolon, out)?;
     put(Waiting::Declarators(m.list.as_slice()), out)?;
     put(Waiting::Base(&m.base), out)
 }
@@ -111,9 +111,9 @@ pub(crate) fn put_struct<'a>(
 ) -> Result<(), NoMemory>
     ensures { OnOk result (left_of out.new.items ≡ (optional_word tag ++ Token fixed.LeftBrace ∷ members_tokens (members (map view_member list.now)) ++ Token fixed.RightBrace ∷ []) ++ left_of out.old.items) }
 {
-    put_mark(Fixed::RightBrace, out)?;
+    put_punctuator(Fixed::RightBrace, out)?;
     put(Waiting::Members(list), out)?;
-    put_mark(Fixed::LeftBrace, out)?;
+    put_punctuator(Fixed::LeftBrace, out)?;
     put_optional_word(tag, out)
 }
 
@@ -126,10 +126,10 @@ pub(crate) fn put_enum<'a>(
 ) -> Result<(), NoMemory>
     ensures { OnOk result (left_of out.new.items ≡ (optional_word tag ++ Token fixed.LeftBrace ∷ enumerators_tokens (enumerators (map view_enumerator list.now)) ++ last_comma comma ++ Token fixed.RightBrace ∷ []) ++ left_of out.old.items) }
 {
-    put_mark(Fixed::RightBrace, out)?;
+    put_punctuator(Fixed::RightBrace, out)?;
     put_last_comma(comma, out)?;
     put(Waiting::Enumerators(list), out)?;
-    put_mark(Fixed::LeftBrace, out)?;
+    put_punctuator(Fixed::LeftBrace, out)?;
     put_optional_word(tag, out)
 }
 
@@ -141,7 +141,7 @@ pub(crate) fn put_some_parameters<'a>(
 ) -> Result<(), NoMemory>
     ensures { OnOk result (left_of out.new.items ≡ (parameters_tokens (parameters (map view_parameter list.now)) ++ more_tokens more ++ Token fixed.RightParen ∷ []) ++ left_of out.old.items) }
 {
-    put_mark(Fixed::RightParen, out)?;
+    put_punctuator(Fixed::RightParen, out)?;
     put_more(more, out)?;
     put(Waiting::Parameters(list), out)
 }
@@ -154,7 +154,7 @@ pub(crate) fn put_braces<'a>(
 ) -> Result<(), NoMemory>
     ensures { OnOk result (left_of out.new.items ≡ (items_tokens (items (map view_item list.now)) ++ last_comma comma ++ Token fixed.RightBrace ∷ []) ++ left_of out.old.items) }
 {
-    put_mark(Fixed::RightBrace, out)?;
+    put_punctuator(Fixed::RightBrace, out)?;
     put_last_comma(comma, out)?;
     put(Waiting::Items(list), out)
 }
@@ -184,7 +184,7 @@ pub(crate) fn put_declarator<'a>(d: &'a Declr, out: &mut Vec<Waiting<'a>>) -> Re
 pub(crate) fn put_size<'a>(d: &'a Dimension, out: &mut Vec<Waiting<'a>>) -> Result<(), NoMemory>
     ensures { OnOk result (Token fixed.LeftBracket ∷ left_of out.new.items ≡ dimension_tokens (view_dimension d.now) ++ left_of out.old.items) }
 {
-    put_mark(Fixed::RightBracket, out)?;
+    put_punctuator(Fixed::RightBracket, out)?;
     match d {
         Dimension::Open => Ok(()),
         Dimension::Sized(e) => put(Waiting::Expression(e), out),

@@ -21,8 +21,8 @@ use std::marker::Model;
 use stk_base::NoMemory;
 use stk_tree::{Expr, Lexeme};
 
-/// What is left to print of an expression, its next token first. Each node is taken apart once, and only as its first token is
-/// asked for: so the first tokens of two large expressions are compared in the time that these tokens take.
+/// What is left to print of an expression, its next token first. Each node is taken apart once, and only as its first
+/// token is asked for: so the first tokens of two large expressions are compared in the time that these tokens take.
 #[derive(Drop)]
 pub struct Printing<'a> {
     waiting: Vec<Waiting<'a>>,
@@ -95,7 +95,7 @@ fn open<'a>(item: Waiting<'a>, out: &mut Vec<Waiting<'a>>) -> Result<Option<Lexe
 }
 
 impl<'a> Printing<'a> {
-    /// All tokens of an expression. The only refusal is want of memory.
+    /// All tokens of an expression.
     pub fn new(alloc: Global, e: &'a Expr) -> Result<Printing<'a>, NoMemory>
         ensures { IfOk result (λ p. p ≡ expression_tokens (view_expression e.now)) }
     {
@@ -104,7 +104,7 @@ impl<'a> Printing<'a> {
         Ok(Printing { waiting })
     }
 
-    /// The next token, which is no longer left; `None` exactly where none is left. The only refusal is want of memory.
+    /// The next token, which is no longer left; `None` exactly where none is left.
     pub fn next(&mut self) -> Result<Option<Lexeme>, NoMemory>
         ensures { IfOk result (λ next. MatchOption next (self.old ≡ []) (λ t. self.old ≡ t ∷ self.new)) }
     {

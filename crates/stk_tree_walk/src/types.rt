@@ -6,7 +6,7 @@ ghost use Rattle.stk_tree.specs.View.{designators, dimensions, view_base, view_d
 ghost use Rattle.stk_tree_walk.specs.Waiting.{given, heft, left_of};
 
 use crate::parts::{put_braces, put_enum, put_size, put_some_parameters, put_struct};
-use crate::waiting::{Waiting, put, put_mark, put_word, word};
+use crate::waiting::{Waiting, put, put_punctuator, put_word, word};
 use stk_base::NoMemory;
 use stk_tree::{Base, BaseForm, Desig, Dimension, Fixed, Init, Lexeme, Tail};
 
@@ -57,12 +57,12 @@ pub(crate) fn open_tail<'a>(
             Ok(None)
         }
         Tail::Unspecified => {
-            put_mark(Fixed::RightParen, out)?;
+            put_punctuator(Fixed::RightParen, out)?;
             Ok(Some(Lexeme::Fixed(Fixed::LeftParen)))
         }
         Tail::NoParams => {
-            put_mark(Fixed::RightParen, out)?;
-            put_mark(Fixed::Void, out)?;
+            put_punctuator(Fixed::RightParen, out)?;
+            put_punctuator(Fixed::Void, out)?;
             Ok(Some(Lexeme::Fixed(Fixed::LeftParen)))
         }
         Tail::Params(list, more) => {
@@ -120,7 +120,7 @@ fn open_designator<'a>(d: &'a Desig, out: &mut Vec<Waiting<'a>>) -> Result<Lexem
             Ok(Lexeme::Fixed(Fixed::Dot))
         }
         Desig::At(e) => {
-            put_mark(Fixed::RightBracket, out)?;
+            put_punctuator(Fixed::RightBracket, out)?;
             put(Waiting::Expression(e), out)?;
             Ok(Lexeme::Fixed(Fixed::LeftBracket))
         }

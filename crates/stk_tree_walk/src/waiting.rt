@@ -12,7 +12,8 @@ use stk_tree::{
     TypeName,
 };
 
-/// What waits to be printed: a token, or a part of a tree. `More` is said of lists before each of whose elements a comma stands.
+/// What waits to be printed: a token, or a part of a tree. `More` is said of lists before each of whose elements a
+/// comma stands.
 #[derive(Clone, Copy)]
 pub(crate) enum Waiting<'a> {
     Token(Lexeme),
@@ -50,12 +51,12 @@ pub(crate) fn put<'a>(item: Waiting<'a>, out: &mut Vec<Waiting<'a>>) -> Result<(
     Ok(())
 }
 
-/// Puts a reserved word or a mark in front of what waits.
-pub(crate) fn put_mark(mark: Fixed, out: &mut Vec<Waiting>) -> Result<(), NoMemory>
-    ensures left { OnOk result (left_of out.new.items ≡ Token mark ∷ left_of out.old.items) }
+/// Puts a reserved word or a punctuator in front of what waits.
+pub(crate) fn put_punctuator(punctuator: Fixed, out: &mut Vec<Waiting>) -> Result<(), NoMemory>
+    ensures left { OnOk result (left_of out.new.items ≡ Token punctuator ∷ left_of out.old.items) }
     ensures heft { OnOk result (heft out.new.items ≡ 1 + heft out.old.items) }
 {
-    put(Waiting::Token(Lexeme::Fixed(mark)), out)
+    put(Waiting::Token(Lexeme::Fixed(punctuator)), out)
 }
 
 /// Puts a word of the input in front of what waits.

@@ -3,9 +3,9 @@ use Rattle.std.specs.Prelude.{ℕ, ◌≡◌, Bool, true, false, not, nat_le, ma
 use Rattle.std.specs.Global.{Vec}
 use Rattle.stk_tree.specs.Syntax.{UnitTree}
 use Rattle.stk_tree.specs.Nodes.{unit_nodes}
-use Rattle.stk_facts.specs.declared.facts.NodeFact.{NodeFact}
-use Rattle.stk_facts.specs.Facts.{Fact, fact_of}
-use Rattle.stk_facts.specs.Outcome.{Outcome, Good, Refused}
+use Rattle.stk_type_rules.specs.declared.facts.NodeFact.{NodeFact}
+use Rattle.stk_type_rules.specs.Facts.{Fact, fact_of}
+use Rattle.stk_type_rules.specs.Outcome.{Outcome, Good, Refused}
 use Rattle.stk_typed.specs.declared.untyped.Untyped.{Untyped}
 use Rattle.stk_typed.specs.declared.untyped.Untyped.TheVariants.{Rule, Nodes, NoMemory}
 
@@ -17,7 +17,8 @@ most_nodes = 20000
 abbrev pub has_many : UnitTree → Bool
 has_many u = not (nat_le (unit_nodes u) most_nodes)
 
--- what comes of a unit with too many nodes or not, with this count, and what typing makes of it. Want of memory is a free answer.
+-- what comes of a unit with too many nodes or not, with this count, and what typing makes of it. Want of memory is a
+-- free answer.
 abbrev pub Answers : {T : Type 0} → Bool → ℕ → Outcome Fact → Result T Untyped → Type 0
 Answers true count o (Ok t) = ⊥
 Answers true count o (Err (Rule n r)) = ⊥

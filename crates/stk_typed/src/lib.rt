@@ -4,5 +4,5 @@
 mod typing;
 mod untyped;
 
-pub use typing::types_of;
+pub use typing::typed_of;
 pub use untyped::Untyped;

@@ -4,23 +4,23 @@ ghost use Rattle.std.specs.Prelude.{◌≡◌, ◌<◌, ◌^◌, IfOk, map};
 ghost use Rattle.stk_ctype.specs.Structs.{structs_of};
 ghost use Rattle.stk_tree.specs.Nodes.{unit_nodes};
 ghost use Rattle.stk_tree.specs.View.{view_function, view_unit};
-ghost use Rattle.stk_facts.specs.Facts.{AreSoundFacts, fact_of};
-ghost use Rattle.stk_taken.specs.Statements.{function_taken};
-ghost use Rattle.stk_bodies.specs.Functions.{function_typed};
+ghost use Rattle.stk_type_rules.specs.Facts.{AreSoundFacts, fact_of};
+ghost use Rattle.stk_address_taken.specs.Statements.{function_taken};
+ghost use Rattle.stk_function_types.specs.Functions.{function_typed};
 ghost use Rattle.stk_function_types.specs.Units.{unit_typed};
 ghost use Rattle.stk_typed.specs.Answering.{Answers, AreFacts, has_many};
 
 use crate::Untyped;
 use std::alloc::Global;
+use stk_address_taken::{NodeSet, taken_in};
 use stk_base::NoMemory;
 use stk_ctype::Names;
 use stk_declarators::File;
-use stk_facts::{NodeFact, Untyped as Refused};
 use stk_function_types::FunctionTypes;
+use stk_nodes::unit_nodes;
 use stk_statements::function;
-use stk_taken::{NodeSet, taken_in};
 use stk_tree::{Function, Unit};
-use stk_tree_nodes::unit_nodes;
+use stk_type_rules::{NodeFact, Untyped as Refused};
 
 // So many nodes a function has at most.
 const MOST_NODES: u32 = 20000;
@@ -74,12 +74,13 @@ fn unit_facts(file: &File, unit: &Unit) -> Result<Vec<NodeFact>, Untyped>
     }
 }
 
-/// Types a function definition of the input, with its head and its body, under the names of file scope that its head has come into
-/// (C11 6.9.1). `Nodes` exactly where the unit has over 20,000 nodes, and nothing is typed then; `Rule` exactly where it hasn't, and
-/// this node is the first in the order of the numbers that a rule of C refuses in this profile, by this lowest rule; else what is
-/// known of each node. Of a unit that is no function definition nothing is known. The names hold the function's name as a function,
-/// and each struct tag of its head; the tree fits the names and is laid out.
-pub fn types_of<'a>(
+/// Types a function definition of the input, with its head and its body, under the names of file scope that its head
+/// has come into (C11 6.9.1). `Nodes` exactly where the unit has over 20,000 nodes, and nothing is typed then; `Rule`
+/// exactly where it hasn't, and this node is the first in the order of the numbers that a rule of C refuses in this
+/// profile, by this lowest rule; else what is known of each node. Of a unit that is no function definition nothing is
+/// known. The names hold the function's name as a function, and each struct tag of its head; the tree fits the names
+/// and is laid out.
+pub fn typed_of<'a>(
     alloc: Global,
     bytes: &'a [u8],
     unit: &'a Unit,

@@ -4,14 +4,14 @@ use Rattle.std.specs.Option.{option_map, option_copied}
 use Rattle.stk_ctype.specs.Types.{SignatureTree, signature_of}
 use Rattle.stk_ctype.specs.declared.ctype.Signature.{Signature}
 use Rattle.stk_tree.specs.Syntax.{ExprTree, ExprTrees, then_expression, DimensionTree, DimensionTrees, then_dimension}
-use Rattle.stk_facts.specs.declared.untyped.Untyped.{Untyped}
-use Rattle.stk_facts.specs.declared.untyped.Untyped.TheVariants.{Rule, NoMemory}
-use Rattle.stk_facts.specs.Facts.{Fact, fact_at, Ruled}
-use Rattle.stk_facts.specs.Outcome.{Outcome, Good, Refused, and_then, finish, IsAt, Gives}
-use Rattle.stk_facts.proofs.Steps.{goes, stops, stays, two, second_stops}
-use Rattle.stk_rules.specs.Types.{decayed, is_scalar, is_struct}
-use Rattle.stk_scope.specs.declared.arrays.Size.{Size}
-use Rattle.stk_scope.specs.Scope.{Scope}
+use Rattle.stk_type_rules.specs.declared.untyped.Untyped.{Untyped}
+use Rattle.stk_type_rules.specs.declared.untyped.Untyped.TheVariants.{Rule, NoMemory}
+use Rattle.stk_type_rules.specs.Facts.{Fact, fact_at, Ruled}
+use Rattle.stk_type_rules.specs.Outcome.{Outcome, Good, Refused, and_then, finish, IsAt, Gives}
+use Rattle.stk_type_rules.proofs.Steps.{goes, stops, stays, two, second_stops}
+use Rattle.stk_type_rules.specs.Types.{decayed, is_scalar, is_struct}
+use Rattle.stk_typing.specs.declared.arrays.Size.{Size}
+use Rattle.stk_typing.specs.Scope.{Scope}
 use Rattle.stk_typing.specs.declared.calls.Arguments.{Arguments}
 use Rattle.stk_typing.specs.Calls.{no_argument, with_argument, behind, call_rule}
 use Rattle.stk_typing.specs.Typing.{expression_typed, arguments_typed, dimension_typed, dimensions_typed}

@@ -5,10 +5,10 @@ use Rattle.stk_base.specs.Text.{text_of}
 use Rattle.stk_ctype.specs.Types.{SignatureTree, signature, TypeTrees, no_types, then_type}
 use Rattle.stk_tree.specs.Syntax.{ExprFormTree}
 use Rattle.stk_tree.specs.Syntax as s
-use Rattle.stk_facts.specs.Facts.{Fact, Ruled, Breaks, Fits, value}
-use Rattle.stk_facts.specs.Outcome.{Outcome, Good, and_then, finish}
-use Rattle.stk_rules.specs.Types.{decayed, is_scalar, is_struct}
-use Rattle.stk_scope.specs.Scope.{Scope, callee_rule, signature_named}
+use Rattle.stk_type_rules.specs.Facts.{Fact, Ruled, Breaks, Fits, value}
+use Rattle.stk_type_rules.specs.Outcome.{Outcome, Good, and_then, finish}
+use Rattle.stk_type_rules.specs.Types.{decayed, is_scalar, is_struct}
+use Rattle.stk_typing.specs.Scope.{Scope, callee_rule, signature_named}
 use Rattle.stk_typing.specs.declared.calls.Arguments.{Arguments}
 
 -- no argument

@@ -3,11 +3,11 @@ use Rattle.stk_base.specs.Text.{text_of}
 use Rattle.stk_ctype.specs.Structs.{Structs, structs_of}
 use Rattle.stk_tree.specs.Syntax.{ExprFormTree}
 use Rattle.stk_tree.specs.Syntax as s
-use Rattle.stk_facts.specs.Facts.{Fact, Ruled, Breaks}
-use Rattle.stk_rules.specs.Rules.{paren_rule, dot_rule, arrow_rule, step_rule, unary_rule, index_rule, binary_rule, assign_rule}
-use Rattle.stk_scope.specs.Scope.{Scope}
-use Rattle.stk_scope.specs.Literals.{number_rule, character_rule, text_rule}
-use Rattle.stk_scope.specs.Scope.{name_rule}
+use Rattle.stk_type_rules.specs.Facts.{Fact, Ruled, Breaks}
+use Rattle.stk_type_rules.specs.Rules.{paren_rule, dot_rule, arrow_rule, step_rule, unary_rule, index_rule, binary_rule, assign_rule}
+use Rattle.stk_typing.specs.Scope.{Scope}
+use Rattle.stk_typing.specs.Literals.{number_rule, character_rule, text_rule}
+use Rattle.stk_typing.specs.Scope.{name_rule}
 
 -- the structs that names have
 abbrev pub structs_in : Scope → Structs

@@ -1,3 +1,13 @@
+pub mod Locals
+pub mod Places
+pub mod Scope
+pub mod Literals
+pub mod Specifiers
+pub mod Bases
+pub mod Arrays
 pub mod Calls
 pub mod Forms
 pub mod Typing
+pub mod Leaves
+pub mod InitialiserTyping
+pub mod Fitting

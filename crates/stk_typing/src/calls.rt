@@ -5,17 +5,16 @@ ghost use Rattle.std.specs.Option.{option_map, option_copied};
 ghost use Rattle.stk_ctype.specs.Types.{type_of, signature_of, row_of};
 ghost use Rattle.stk_ctype.specs.Structs.{Structs};
 ghost use Rattle.stk_ctype.specs.Sound.{IsSound, IsSoundSignature};
-ghost use Rattle.stk_facts.specs.Facts.{fact_of};
-ghost use Rattle.stk_facts.specs.Outcome.{MakesFact};
+ghost use Rattle.stk_type_rules.specs.Facts.{fact_of};
+ghost use Rattle.stk_type_rules.specs.Outcome.{MakesFact};
 ghost use Rattle.stk_typing.specs.Calls.{no_argument, behind, takes, call_result, call_rule};
 
 use std::alloc::Global;
 use stk_ctype::Signature;
-use stk_facts::{Broken, NodeFact};
-use stk_rules::{is_struct, reads_scalar};
+use stk_type_rules::{Broken, NodeFact, is_struct, reads_scalar};
 
-/// What is known of the arguments of a call: how many they are, whether one is neither a scalar nor a struct, and whether one
-/// is a struct.
+/// What is known of the arguments of a call: how many they are, whether one is neither a scalar nor a struct, and
+/// whether one is a struct.
 #[derive(Clone, Copy, Debug, PartialEq, Eq)]
 pub struct Arguments {
     pub count: usize,
@@ -76,9 +75,9 @@ fn call_result(alloc: Global, f: &Signature, a: Arguments) -> Result<NodeFact, B
     Ok(NodeFact::value(ty))
 }
 
-/// A call (C11 6.5.2.2), of a function or of what is none, with these arguments. Rule 6 refuses an argument that is neither a
-/// scalar nor a struct, rule 8 what is no function and a wrong number of arguments, rule 9 a struct as an argument or as the
-/// result.
+/// A call (C11 6.5.2.2), of a function or of what is none, with these arguments. Rule 6 refuses an argument that is
+/// neither a scalar nor a struct, rule 8 what is no function and a wrong number of arguments, rule 9 a struct as an
+/// argument or as the result.
 pub(crate) fn call_rule(
     alloc: Global,
     f: Option<&Signature>,

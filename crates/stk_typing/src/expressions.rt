@@ -6,9 +6,9 @@ ghost use Rattle.stk_ctype.specs.Types.{signature_of};
 ghost use Rattle.stk_ctype.specs.Structs.{structs_of};
 ghost use Rattle.stk_ctype.specs.Sound.{IsSoundSignature};
 ghost use Rattle.stk_tree.specs.View.{view_expression, view_type_name, view_base, view_dimension, view_expression_form, expressions, dimensions};
-ghost use Rattle.stk_facts.specs.Facts.{AreSoundFacts, fact_of};
-ghost use Rattle.stk_facts.specs.Outcome.{Gives, IsAt};
-ghost use Rattle.stk_scope.specs.Scope.{IsSoundScope, scope_of, unevaluated};
+ghost use Rattle.stk_type_rules.specs.Facts.{AreSoundFacts, fact_of};
+ghost use Rattle.stk_type_rules.specs.Outcome.{Gives, IsAt};
+ghost use Rattle.stk_typing.specs.Scope.{IsSoundScope, scope_of, unevaluated};
 ghost use Rattle.stk_typing.specs.Calls.{name_in};
 ghost use Rattle.stk_typing.specs.Typing.{expression_typed, callee_typed, arguments_typed, type_name_typed, dimension_typed, dimensions_typed, base_typed};
 
@@ -17,11 +17,12 @@ use crate::leaves::{
     by_base, by_call, by_callee, by_cast, by_choice, by_leaf, by_pair, by_single, by_size,
     by_type_name, by_type_size,
 };
+use crate::scope::signature_of_name;
+use crate::{Scoped, Size};
 use stk_base::Span;
 use stk_ctype::Signature;
-use stk_facts::{NodeFact, Untyped, fact};
-use stk_scope::{Scoped, Size, signature_of_name};
 use stk_tree::{Base, Dimension, Expr, ExprForm, TypeName};
+use stk_type_rules::{NodeFact, Untyped, fact};
 
 /// The same names, where nothing is evaluated.
 pub fn unevaluated<'a>(s: &Scoped<'a>) -> Scoped<'a>
@@ -31,8 +32,8 @@ pub fn unevaluated<'a>(s: &Scoped<'a>) -> Scoped<'a>
     Scoped { own: None, ..*s }
 }
 
-/// Types an expression (C11 6.5): a fact for each of its nodes is put behind the others, its own last. The answer is the place
-/// of its own fact; or the first node that a rule refuses, by the lowest rule that does.
+/// Types an expression (C11 6.5): a fact for each of its nodes is put behind the others, its own last. The answer is
+/// the place of its own fact; or the first node that a rule refuses, by the lowest rule that does.
 #[cycle(expression)]
 pub fn expression(s: &Scoped, facts: &mut Vec<NodeFact>, e: &Expr) -> Result<usize, Untyped>
     requires scope { IsSoundScope (scope_of s.now) }
@@ -151,8 +152,8 @@ fn arguments(s: &Scoped, facts: &mut Vec<NodeFact>, list: &[Expr]) -> Result<Arg
     Ok(all)
 }
 
-/// Types a type name (C11 6.7.7): its base, the sizes of its array parts, which aren't evaluated, and itself. The answer is the
-/// place of its own fact, whose type is the one that it names; or the first node that a rule refuses.
+/// Types a type name (C11 6.7.7): its base, the sizes of its array parts, which aren't evaluated, and itself. The
+/// answer is the place of its own fact, whose type is the one that it names; or the first node that a rule refuses.
 #[cycle(expression)]
 pub fn type_name(s: &Scoped, facts: &mut Vec<NodeFact>, t: &TypeName) -> Result<usize, Untyped>
     requires scope { IsSoundScope (scope_of s.now) }
@@ -165,8 +166,8 @@ pub fn type_name(s: &Scoped, facts: &mut Vec<NodeFact>, t: &TypeName) -> Result<
     by_type_name(s, facts, t.node.number, t.stars, sizes.as_slice(), i)
 }
 
-/// Types a base without braces (C11 6.7.2). The answer is the place of its fact, whose type is the one that it names; or that a
-/// rule refuses it.
+/// Types a base without braces (C11 6.7.2). The answer is the place of its fact, whose type is the one that it names;
+/// or that a rule refuses it.
 pub fn base(s: &Scoped, facts: &mut Vec<NodeFact>, b: &Base) -> Result<usize, Untyped>
     requires scope { IsSoundScope (scope_of s.now) }
     requires sound { AreSoundFacts (structs_of s.now.names.now) (map fact_of facts.old.items) }
@@ -193,8 +194,8 @@ fn dimension(s: &Scoped, facts: &mut Vec<NodeFact>, d: &Dimension) -> Result<Siz
     }
 }
 
-/// Types array parts, one after the other (C11 6.7.6.2). The answer says of each what its size is; or it is the first node that a
-/// rule refuses.
+/// Types array parts, one after the other (C11 6.7.6.2). The answer says of each what its size is; or it is the first
+/// node that a rule refuses.
 #[cycle(expression)]
 pub fn dimensions(
     s: &Scoped,

@@ -7,28 +7,27 @@ ghost use Rattle.stk_ctype.specs.Types.{type_of, signature_of};
 ghost use Rattle.stk_ctype.specs.Structs.{structs_of};
 ghost use Rattle.stk_ctype.specs.Sound.{IsSound, IsSoundSignature};
 ghost use Rattle.stk_tree.specs.View.{view_expression_form, view_base_form};
-ghost use Rattle.stk_facts.specs.Facts.{AreSoundFacts, fact_of, fact_at};
-ghost use Rattle.stk_facts.specs.Outcome.{Gives, IsAt, MakesFact, finish};
-ghost use Rattle.stk_rules.specs.Rules.{size_rule, type_size_rule, cast_rule, choice_rule};
-ghost use Rattle.stk_scope.specs.Scope.{IsSoundScope, scope_of, callee_rule};
-ghost use Rattle.stk_scope.specs.Bases.{base_rule};
-ghost use Rattle.stk_scope.specs.Arrays.{starred, sized_type};
+ghost use Rattle.stk_type_rules.specs.Facts.{AreSoundFacts, fact_of, fact_at};
+ghost use Rattle.stk_type_rules.specs.Outcome.{Gives, IsAt, MakesFact, finish};
+ghost use Rattle.stk_type_rules.specs.Rules.{size_rule, type_size_rule, cast_rule, choice_rule};
+ghost use Rattle.stk_typing.specs.Scope.{IsSoundScope, scope_of, callee_rule};
+ghost use Rattle.stk_typing.specs.Bases.{base_rule};
+ghost use Rattle.stk_typing.specs.Arrays.{starred, sized_type};
 ghost use Rattle.stk_typing.specs.Calls.{call_rule};
 ghost use Rattle.stk_typing.specs.Forms.{structs_in, leaf_rule, single_rule, pair_rule};
 
+use crate::arrays::sized_type;
 use crate::calls::{Arguments, call_rule};
+use crate::literals::{character_rule, number_rule, text_rule};
+use crate::scope::{callee_rule, name_rule};
+use crate::{Scoped, Size, base_rule, starred};
 use stk_base::Span;
 use stk_ctype::Signature;
-use stk_facts::{Broken, NodeFact, Untyped, fact, own};
-use stk_rules::{
-    arrow_rule, assign_rule, binary_rule, cast_rule, choice_rule, dot_rule, index_rule, paren_rule,
-    size_rule, step_rule, type_size_rule, unary_rule,
-};
-use stk_scope::{
-    Scoped, Size, base_rule, callee_rule, character_rule, name_rule, number_rule, sized_type,
-    starred, text_rule,
-};
 use stk_tree::{BaseForm, ExprForm};
+use stk_type_rules::{
+    Broken, NodeFact, Untyped, arrow_rule, assign_rule, binary_rule, cast_rule, choice_rule,
+    dot_rule, fact, index_rule, own, paren_rule, size_rule, step_rule, type_size_rule, unary_rule,
+};
 
 // What a form without operands is.
 fn leaf(s: &Scoped, form: &ExprForm) -> Result<NodeFact, Broken>

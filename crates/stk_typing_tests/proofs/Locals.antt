@@ -7,9 +7,9 @@ use Rattle.stk_ctype.specs.declared.kind.IntKind.TheVariants as kind
 use Rattle.stk_ctype.specs.Types.{TypeTree, integer_type, array_type, type_of}
 use Rattle.stk_ctype.specs.Structs.{Structs}
 use Rattle.stk_ctype.specs.Sound.{IsSound}
-use Rattle.stk_facts.specs.Facts.{AreSoundFacts}
-use Rattle.stk_scope.specs.declared.locals.LocalName.{LocalName}
-use Rattle.stk_scope.specs.Locals.{Local, AreSoundLocals, local_of}
+use Rattle.stk_type_rules.specs.Facts.{AreSoundFacts}
+use Rattle.stk_typing.specs.declared.locals.LocalName.{LocalName}
+use Rattle.stk_typing.specs.Locals.{Local, AreSoundLocals, local_of}
 
 pub no_facts : (structs : Structs) → AreSoundFacts structs []
 no_facts structs i = tt

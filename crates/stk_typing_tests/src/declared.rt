@@ -2,21 +2,20 @@
 
 ghost use Rattle.std.specs.Prelude.{◌≡◌, [], map};
 ghost use Rattle.stk_ctype.specs.Structs.{structs_of};
-ghost use Rattle.stk_facts.specs.Facts.{AreSoundFacts, fact_of};
-ghost use Rattle.stk_scope.specs.Locals.{AreSoundLocals, local_of};
+ghost use Rattle.stk_type_rules.specs.Facts.{AreSoundFacts, fact_of};
+ghost use Rattle.stk_typing.specs.Locals.{AreSoundLocals, local_of};
 
-use crate::typed::{add_rule, add_type};
+use crate::typed_texts::{add_rule, add_type};
 use std::alloc::Global;
-use stk_agree::{Agreement, agree};
 use stk_base::NoMemory;
+use stk_compatible::{Agreement, agree};
 use stk_ctype::{CType, Names};
 use stk_decl::decl;
 use stk_declarators::{File, Tailed, are_scalars, given_count, scope, tail, tail_type};
-use stk_facts::{NodeFact, Untyped, fact, own};
 use stk_lex::lex;
-use stk_scope::{Locals, starred};
 use stk_tree::{Base, Declr, Init};
-use stk_typing::base;
+use stk_type_rules::{NodeFact, Untyped, fact, own};
+use stk_typing::{Locals, base, starred};
 
 // How many elements an initialiser counts for what follows the name.
 fn count_for(f: &File, t: &Tailed, ty: &CType, i: &Option<Init>) -> Result<Option<u64>, NoMemory> {

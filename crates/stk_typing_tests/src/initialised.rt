@@ -2,16 +2,15 @@
 
 ghost use Rattle.std.specs.Prelude.{◌≡◌, []};
 
-use crate::typed::{add, add_rule, locals, type_at};
+use crate::typed_texts::{add, add_rule, locals, type_at};
 use std::alloc::Global;
 use stk_base::NoMemory;
 use stk_ctype::{CType, IntKind, Names, SharedType};
 use stk_decl::decl;
-use stk_facts::Untyped;
-use stk_initialisers::{initial_refused, initialiser};
 use stk_lex::lex;
-use stk_scope::Scoped;
 use stk_tree::{Declaration, Init};
+use stk_type_rules::Untyped;
+use stk_typing::{Scoped, initial_refused, initialiser};
 
 /// The number of the type of an array of three characters; those below are the types of the locals.
 pub(crate) const CHARACTERS: u32 = 7;
@@ -73,8 +72,8 @@ fn first_refused(
     Ok(None)
 }
 
-/// The rule that the initialiser that a text is breaks, for an object of the type with this number; nothing where it breaks
-/// none, and `no tree` where the text is no initialiser.
+/// The rule that the initialiser that a text is breaks, for an object of the type with this number; nothing where it
+/// breaks none, and `no tree` where the text is no initialiser.
 pub(crate) fn initialised(alloc: Global, object: u32, text: &str) -> Result<Vec<u8>, NoMemory> {
     let mut bytes = Vec::new(alloc);
     add(&mut bytes, b"int z = ");

@@ -1,8 +1,19 @@
-//! Tests of the types of expressions, initialisers and declarators, over texts.
+//! Tests of numbers, constants and types: of expressions, initialisers, declarators and function bodies.
 #![tactic(auto)]
 
-mod declared;
-mod initialised;
 #[cfg(test)]
-mod tests;
-mod typed;
+mod address_taken;
+#[cfg(test)]
+mod constants;
+mod declared;
+#[cfg(test)]
+mod expressions;
+#[cfg(test)]
+mod function_rows;
+#[cfg(test)]
+mod functions;
+mod initialised;
+mod names_taken;
+#[cfg(test)]
+mod numbers;
+mod typed_texts;

@@ -5,12 +5,12 @@ use Rattle.stk_ctype.specs.declared.symbol.NameEntry.{NameEntry}
 use Rattle.stk_tree.specs.Syntax as s
 use Rattle.stk_numbers.specs.declared.conditions.Candidate.{Candidate}
 use Rattle.stk_numbers.specs.declared.conditions.Kinds.{Kinds}
-use Rattle.stk_runs.specs.Lists.{candidates}
-use Rattle.stk_findings.specs.declared.finding.Finding.{Finding}
-use Rattle.stk_findings.specs.declared.finding.Finding.TheVariants.{Clear, Unstable, Undecided}
-use Rattle.stk_findings.specs.Findings.{Subject, AreLawful}
-use Rattle.stk_finding_laws.proofs.Sites.{few_candidates}
-use Rattle.stk_lines.specs.declared.counts.Counts.{Counts}
+use Rattle.stk_meaning.specs.Lists.{candidates}
+use Rattle.stk_meaning.specs.declared.finding.Finding.{Finding}
+use Rattle.stk_meaning.specs.declared.finding.Finding.TheVariants.{Clear, Unstable, Undecided}
+use Rattle.stk_meaning.specs.Findings.{Subject, AreLawful}
+use Rattle.stk_finding_laws.proofs.Visits.{few_candidates}
+use Rattle.stk_records.specs.declared.counts.Counts.{Counts}
 use Rattle.stk_unit_lines.specs.Functions.{unit_typing}
 use Rattle.stk_unit_lines.specs.UnitLines.{unstable_count, undecided_count, IsUnitLines, accepted, refused, unjudged, judged}
 use Rattle.stk_unit_lines.proofs.Measures.{small}

@@ -5,16 +5,16 @@ use Rattle.stk_ctype.specs.declared.symbol.NameEntry.{NameEntry}
 use Rattle.stk_tree.specs.Syntax.{UnitTree}
 use Rattle.stk_tree.specs.Syntax as s
 use Rattle.stk_numbers.specs.declared.conditions.Kinds.{Kinds}
-use Rattle.stk_runs.specs.Keys.{keys_of, input_bits}
-use Rattle.stk_runs.specs.Weights.{weight}
-use Rattle.stk_runs.specs.Lists.{candidates}
+use Rattle.stk_meaning.specs.Keys.{keys_of, input_bits}
+use Rattle.stk_meaning.specs.Weights.{weight}
+use Rattle.stk_meaning.specs.Lists.{candidates}
 use Rattle.stk_accept.specs.Accepting.{Accepts}
 use Rattle.stk_accept.proofs.Exists.{settled, is_accepted, is_refused}
-use Rattle.stk_lines.specs.declared.counts.Counts.{Counts}
-use Rattle.stk_lines.specs.declared.line.Cause.{Cause}
-use Rattle.stk_lines.specs.declared.line.Line.{Line}
-use Rattle.stk_lines.specs.Counts.{nothing_counted}
-use Rattle.stk_declare_laws.specs.Orderly.{AreOrderly}
+use Rattle.stk_records.specs.declared.counts.Counts.{Counts}
+use Rattle.stk_records.specs.declared.line.Cause.{Cause}
+use Rattle.stk_records.specs.declared.line.Line.{Line}
+use Rattle.stk_records.specs.Counts.{nothing_counted}
+use Rattle.stk_type_laws.specs.Orderly.{AreOrderly}
 use Rattle.stk_finding_laws.proofs.Paths.{path_findings}
 use Rattle.stk_unit_lines.specs.Functions.{unit_typing}
 use Rattle.stk_unit_lines.specs.Causes.{cause_of, body_cause}

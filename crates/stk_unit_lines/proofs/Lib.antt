@@ -1,3 +1,5 @@
+pub mod Naming
+pub mod Telling
 pub mod Measures
 pub mod Typed
 pub mod Made

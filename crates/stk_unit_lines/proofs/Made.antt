@@ -1,7 +1,7 @@
 -- The lines of a unit, from what is known of its parts.
 use Rattle.std.proofs.Common.{◌≡◌, ℕ, ◌<◌, ◌≤◌, ◌+◌, ◌^◌, Bool, false, List, [], ◌∷◌, ◌++◌, length, take, drop, get_or, Option, Some, None, Result, Ok, Err, IfOk, refl, sym, ap, subst, ◌∙◌, arith}
 use Rattle.stk_lex.specs.declared.token.Token.{Token}
-use Rattle.stk_lexeme.specs.Lexemes.{lexeme_of, spans_of}
+use Rattle.stk_grammar.specs.Lexemes.{lexeme_of, spans_of}
 use Rattle.std.proofs.lemmas.List.{length-map, take_more}
 use Rattle.stk_ctype.specs.declared.symbol.NameEntry.{NameEntry}
 use Rattle.stk_tree.specs.declared.node.Node.{Node}
@@ -10,26 +10,26 @@ use Rattle.stk_tree.specs.Syntax as s
 use Rattle.stk_tree.specs.Nodes.{unit_nodes}
 use Rattle.stk_tree.specs.Unlaid.{unlaid_unit}
 use Rattle.stk_tree.specs.View.{view_unit}
-use Rattle.stk_tree_layout.proofs.Few.{unit_tokens-few}
+use Rattle.stk_nodes.proofs.Few.{unit_tokens-few}
 use Rattle.stk_numbers.specs.declared.conditions.Kinds.{Kinds}
-use Rattle.stk_findings.specs.declared.finding.Finding.{Finding}
-use Rattle.stk_findings.specs.declared.finding.Finding.TheVariants.{Clear, Unstable, Undecided}
+use Rattle.stk_meaning.specs.declared.finding.Finding.{Finding}
+use Rattle.stk_meaning.specs.declared.finding.Finding.TheVariants.{Clear, Unstable, Undecided}
 use Rattle.stk_accept.specs.declared.accepting.Refusal.{Refusal}
 use Rattle.stk_accept.specs.declared.accepting.Accepted.{Accepted}
 use Rattle.stk_accept.specs.declared.accepting.Accepted.TheVariants as answers
 use Rattle.stk_accept.specs.Accepting.{IsTree, IsAnswered, Accepts, Refuses}
-use Rattle.stk_lines.specs.declared.counts.Counts.{Counts}
-use Rattle.stk_lines.specs.declared.line.Cause.{Cause}
-use Rattle.stk_lines.specs.declared.line.Line.{Line}
-use Rattle.stk_lines.specs.Counts.{nothing_counted}
+use Rattle.stk_records.specs.declared.counts.Counts.{Counts}
+use Rattle.stk_records.specs.declared.line.Cause.{Cause}
+use Rattle.stk_records.specs.declared.line.Line.{Line}
+use Rattle.stk_records.specs.Counts.{nothing_counted}
 use Rattle.std.proofs.Common.{suc, drop-cons, append_assoc}
 use Rattle.std.proofs.lemmas.List.{append-nil}
 use Rattle.stk_numbers.specs.declared.conditions.Candidate.{Candidate}
-use Rattle.stk_runs.specs.Typings.{Typing}
+use Rattle.stk_meaning.specs.Typings.{Typing}
 use Rattle.stk_function_types.specs.Units.{TypedUnit}
-use Rattle.stk_settings.specs.Settings.{FunctionPlaces}
-use Rattle.stk_key_texts.specs.Placed.{Placed}
-use Rattle.stk_finding_lines.specs.Lines.{finding_lines, findings_lines}
+use Rattle.stk_function_env.specs.Settings.{FunctionPlaces}
+use Rattle.stk_unit_lines.specs.Placed.{Placed}
+use Rattle.stk_unit_lines.specs.Lines.{finding_lines, findings_lines}
 use Rattle.stk_unit_lines.specs.Functions.{is_definition, IsDefinition}
 use Rattle.stk_unit_lines.specs.Causes.{cause_of, body_cause}
 use Rattle.stk_unit_lines.specs.UnitLines.{unstable_count, undecided_count, one_skipped, skip_line, IsUnitLines, accepted, refused, unjudged, judged}

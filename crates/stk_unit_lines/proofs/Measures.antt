@@ -8,28 +8,28 @@ use Rattle.stk_tree.specs.Syntax.{UnitTree, FunctionTree}
 use Rattle.stk_tree.specs.Nodes.{unit_nodes}
 use Rattle.stk_tree.specs.View.{view_unit}
 use Rattle.stk_numbers.specs.declared.conditions.Kinds.{Kinds}
-use Rattle.stk_facts.specs.Facts.{Fact}
-use Rattle.stk_facts.specs.Outcome.{Outcome, Good, Refused}
-use Rattle.stk_runs.specs.Typings.{Typing}
-use Rattle.stk_runs.specs.Keys.{body_of, keys_of, input_bits, setting_of}
-use Rattle.stk_runs.specs.Weights.{weight, most_weight}
-use Rattle.stk_run_laws.specs.Sites.{IsNumbered}
-use Rattle.stk_numbering.proofs.Numbered.{what_is_laid_out_is_numbered}
-use Rattle.stk_findings.specs.PathFindings.{most_bits}
+use Rattle.stk_type_rules.specs.Facts.{Fact}
+use Rattle.stk_type_rules.specs.Outcome.{Outcome, Good, Refused}
+use Rattle.stk_meaning.specs.Typings.{Typing}
+use Rattle.stk_meaning.specs.Keys.{body_of, keys_of, input_bits, setting_of}
+use Rattle.stk_meaning.specs.Weights.{weight, most_weight}
+use Rattle.stk_run_laws.specs.Visits.{IsNumbered}
+use Rattle.stk_run_laws.proofs.Numbered.{what_is_laid_out_is_numbered}
+use Rattle.stk_meaning.specs.PathFindings.{most_bits}
 use Rattle.stk_function_types.specs.Units.{TypedUnit, unit_typed}
 use Rattle.stk_function_types.specs.Nodes.{typing_in}
-use Rattle.stk_settings.specs.Settings.{FunctionPlaces, setting_in}
-use Rattle.stk_evaluating.specs.Loops.{EachLoop}
-use Rattle.stk_loop_rows.specs.Rows.{Tables, Knows}
-use Rattle.stk_function_findings.specs.Tables.{AreTablesOf}
+use Rattle.stk_function_env.specs.Settings.{FunctionPlaces, setting_in}
+use Rattle.stk_eval_expr.specs.Loops.{EachLoop}
+use Rattle.stk_path_runs.specs.Rows.{Tables, Knows}
+use Rattle.stk_judge.specs.PathTables.{AreTablesOf}
 use Rattle.stk_weights.specs.Units.{IsSettingOf, IsSettingOfFunction, IsWhole}
 use Rattle.stk_typed.specs.declared.untyped.Untyped.{Untyped}
 use Rattle.stk_typed.specs.declared.untyped.Untyped.TheVariants as untyped
 use Rattle.stk_typed.specs.Answering.{Answers, has_many, most_nodes}
-use Rattle.stk_lines.specs.declared.line.Cause.{Cause}
-use Rattle.stk_lines.specs.declared.line.Cause.TheVariants.{Nodes}
-use Rattle.stk_lines.specs.declared.line.Line.{Line}
-use Rattle.stk_lines.specs.declared.counts.Counts.{Counts}
+use Rattle.stk_records.specs.declared.line.Cause.{Cause}
+use Rattle.stk_records.specs.declared.line.Cause.TheVariants.{Nodes}
+use Rattle.stk_records.specs.declared.line.Line.{Line}
+use Rattle.stk_records.specs.declared.counts.Counts.{Counts}
 use Rattle.stk_unit_lines.specs.Functions.{unit_typing, IsDefinition, IsLaidOut}
 use Rattle.stk_unit_lines.specs.Causes.{refused_cause, sized_cause, measured_cause, first_cause, body_cause}
 use Rattle.stk_unit_lines.specs.Parts.{IsSkipLine, IsFunctionLines, IsUntypedLine}

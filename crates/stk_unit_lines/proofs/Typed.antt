@@ -1,8 +1,9 @@
--- The trees of accepted functions are typed, so what suffices in path runs suffices in every execution; and units leave orderly names.
+-- The trees of accepted functions are typed, so what suffices in path runs suffices in every execution; and units leave
+-- orderly names.
 use Rattle.std.proofs.Common.{ℕ, ◌≤◌, Bool, List, [], ◌∷◌, take, Option, Some, None, refl, sym, ap, subst}
 use Rattle.std.proofs.lemmas.Bool.{le-leb}
 use Rattle.stk_lex.specs.declared.token.Token.{Token}
-use Rattle.stk_lexeme.specs.Lexemes.{spans_of}
+use Rattle.stk_grammar.specs.Lexemes.{spans_of}
 use Rattle.stk_ctype.specs.declared.symbol.NameEntry.{NameEntry}
 use Rattle.stk_tree.specs.declared.node.Node.{Node}
 use Rattle.stk_tree.specs.Syntax.{UnitTree, FunctionTree}
@@ -10,23 +11,23 @@ use Rattle.stk_tree.specs.Syntax as s
 use Rattle.stk_tree.specs.Unlaid.{unlaid_unit}
 use Rattle.stk_numbers.specs.declared.conditions.Candidate.{Candidate}
 use Rattle.stk_numbers.specs.declared.conditions.Kinds.{Kinds}
-use Rattle.stk_taken.specs.Statements.{function_taken}
-use Rattle.stk_declare_laws.specs.Orderly.{AreOrderly}
-use Rattle.stk_declare_laws.proofs.Kept.{units_keep_order}
-use Rattle.stk_runs.specs.Typings.{Typing, typing_of}
-use Rattle.stk_runs.specs.Keys.{keys_of, input_bits}
-use Rattle.stk_gathering.specs.TypedTree.{IsTypedTree}
-use Rattle.stk_gathering.proofs.Laws.{what_suffices_in_paths_suffices}
-use Rattle.stk_typed_trees.proofs.Whole.{accepted_trees_are_typed}
+use Rattle.stk_address_taken.specs.Statements.{function_taken}
+use Rattle.stk_type_laws.specs.Orderly.{AreOrderly}
+use Rattle.stk_type_laws.proofs.Kept.{units_keep_order}
+use Rattle.stk_meaning.specs.Typings.{Typing, typing_of}
+use Rattle.stk_meaning.specs.Keys.{keys_of, input_bits}
+use Rattle.stk_run_laws.specs.TypedTree.{IsTypedTree}
+use Rattle.stk_run_laws.proofs.GatheredLaws.{what_suffices_in_paths_suffices}
+use Rattle.stk_type_laws.proofs.Whole.{accepted_trees_are_typed}
 use Rattle.stk_function_types.specs.Units.{facts_in}
-use Rattle.stk_findings.specs.declared.finding.Finding.{Finding}
-use Rattle.stk_findings.specs.Findings.{IsLawful, AreLawful}
-use Rattle.stk_findings.specs.PathFindings.{function_subject}
-use Rattle.stk_path_findings.specs.PathSubjects.{path_subject}
-use Rattle.stk_path_findings.proofs.Agreeing.{Agrees, lawful}
+use Rattle.stk_meaning.specs.declared.finding.Finding.{Finding}
+use Rattle.stk_meaning.specs.Findings.{IsLawful, AreLawful}
+use Rattle.stk_meaning.specs.PathFindings.{function_subject}
+use Rattle.stk_judge.specs.PathSubjects.{path_subject}
+use Rattle.stk_judge.proofs.Agreeing.{Agrees, lawful}
 use Rattle.stk_accept.specs.Accepting.{Accepts, Leaves, LeavesHead, no_head, refused_head, declared_head}
-use Rattle.stk_lines.specs.declared.counts.Counts.{Counts}
-use Rattle.stk_lines.specs.declared.line.Line.{Line}
+use Rattle.stk_records.specs.declared.counts.Counts.{Counts}
+use Rattle.stk_records.specs.declared.line.Line.{Line}
 use Rattle.stk_unit_lines.specs.Functions.{IsDefinition}
 use Rattle.stk_unit_lines.specs.UnitLines.{never_spent, IsUnitLines, accepted, refused, unjudged, judged}
 use Rattle.stk_unit_lines.specs.Parts.{IsTypedWell}

@@ -3,22 +3,22 @@ use Rattle.std.specs.Prelude.{ℕ, ◌-◌, ◌^◌, min, nat_lt, if◌then◌el
 use Rattle.stk_ctype.specs.declared.symbol.NameEntry.{NameEntry}
 use Rattle.stk_tree.specs.Syntax.{UnitTree, empty_unit, declares, defines}
 use Rattle.stk_tree.specs.Nodes.{unit_nodes}
-use Rattle.stk_tree_nodes.specs.Rows.{unit_row}
+use Rattle.stk_nodes.specs.Rows.{unit_row}
 use Rattle.stk_numbers.specs.declared.conditions.Kinds.{Kinds}
-use Rattle.stk_facts.specs.Facts.{Fact}
-use Rattle.stk_facts.specs.Outcome.{Outcome, Good, Refused}
-use Rattle.stk_runs.specs.Typings.{Typing}
-use Rattle.stk_runs.specs.Keys.{keys_of, input_bits}
-use Rattle.stk_runs.specs.Weights.{weight, most_weight}
-use Rattle.stk_findings.specs.PathFindings.{most_bits}
+use Rattle.stk_type_rules.specs.Facts.{Fact}
+use Rattle.stk_type_rules.specs.Outcome.{Outcome, Good, Refused}
+use Rattle.stk_meaning.specs.Typings.{Typing}
+use Rattle.stk_meaning.specs.Keys.{keys_of, input_bits}
+use Rattle.stk_meaning.specs.Weights.{weight, most_weight}
+use Rattle.stk_meaning.specs.PathFindings.{most_bits}
 use Rattle.stk_function_types.specs.Units.{unit_typed}
 use Rattle.stk_typed.specs.Answering.{has_many}
 use Rattle.stk_accept.specs.declared.accepting.Refusal.{Refusal}
 use Rattle.stk_accept.specs.declared.accepting.Refusal.TheVariants as refusal
 use Rattle.stk_accept.specs.Accepting.{beginning}
-use Rattle.stk_lines.specs.declared.line.Cause.{Cause}
-use Rattle.stk_lines.specs.declared.line.Cause.TheVariants.{NoTree, Rule, Nodes, Weight, Bits}
-use Rattle.stk_finding_lines.specs.Lines.{spot_at}
+use Rattle.stk_records.specs.declared.line.Cause.{Cause}
+use Rattle.stk_records.specs.declared.line.Cause.TheVariants.{NoTree, Rule, Nodes, Weight, Bits}
+use Rattle.stk_unit_lines.specs.Lines.{spot_at}
 use Rattle.stk_unit_lines.specs.Functions.{unit_typing}
 
 -- why a unit is skipped that isn't accepted
@@ -45,8 +45,9 @@ abbrev pub first_cause : Option Cause → Option Cause → Option Cause
 first_cause (Some cause) other = Some cause
 first_cause None other = other
 
--- A function that is accepted by its head is skipped where it has too many nodes; or else where a rule refuses a node of it, under the names
--- that its head leaves; or else where it is too heavy; or else where it has too many input bits. No other unit has a cause.
+-- A function that is accepted by its head is skipped where it has too many nodes; or else where a rule refuses a node
+-- of it, under the names that its head leaves; or else where it is too heavy; or else where it has too many input bits.
+-- No other unit has a cause.
 abbrev pub body_cause : List ℕ → Kinds → List NameEntry → UnitTree → Option Cause
 body_cause bytes without now u =
     if has_many u then Some (Nodes (unit_nodes u)) else first_cause (refused_cause bytes u (unit_typed bytes now u)) (measured_cause (unit_typing bytes now u) without u)

@@ -5,14 +5,14 @@ use Rattle.stk_ctype.specs.declared.symbol.NameEntry.{NameEntry}
 use Rattle.stk_tree.specs.declared.node.Node.{Node}
 use Rattle.stk_tree.specs.Syntax.{UnitTree, FunctionTree, empty_unit, declares, defines}
 use Rattle.stk_tree.specs.Layout.{unit_laid_out}
-use Rattle.stk_tree_nodes.specs.Rows.{unit_row}
+use Rattle.stk_nodes.specs.Rows.{unit_row}
 use Rattle.stk_numbers.specs.declared.conditions.Kinds.{Kinds}
-use Rattle.stk_runs.specs.Typings.{Typing, typing_of}
-use Rattle.stk_runs.specs.Keys.{keys_of}
+use Rattle.stk_meaning.specs.Typings.{Typing, typing_of}
+use Rattle.stk_meaning.specs.Keys.{keys_of}
 use Rattle.stk_function_types.specs.Units.{unit_typed, unit_taken, facts_in}
-use Rattle.stk_key_texts.specs.Placed.{Placed}
-use Rattle.stk_key_texts.specs.Named.{names_of}
-use Rattle.stk_key_texts.specs.Texts.{key_text}
+use Rattle.stk_unit_lines.specs.Placed.{Placed}
+use Rattle.stk_unit_lines.specs.Named.{names_of}
+use Rattle.stk_unit_lines.specs.Texts.{key_text}
 
 -- what runs ask of the types of a unit, under these names in force
 abbrev pub unit_typing : List ℕ → List NameEntry → UnitTree → Typing

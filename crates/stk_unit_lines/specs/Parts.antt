@@ -6,22 +6,22 @@ use Rattle.stk_tree.specs.Syntax.{UnitTree, FunctionTree}
 use Rattle.stk_tree.specs.Nodes.{unit_nodes}
 use Rattle.stk_tree.specs.View.{view_unit}
 use Rattle.stk_numbers.specs.declared.conditions.Kinds.{Kinds}
-use Rattle.stk_facts.specs.Facts.{Fact}
-use Rattle.stk_facts.specs.Outcome.{Good}
-use Rattle.stk_gathering.specs.TypedTree.{IsTypedTree}
-use Rattle.stk_findings.specs.declared.finding.Finding.{Finding}
+use Rattle.stk_type_rules.specs.Facts.{Fact}
+use Rattle.stk_type_rules.specs.Outcome.{Good}
+use Rattle.stk_run_laws.specs.TypedTree.{IsTypedTree}
+use Rattle.stk_meaning.specs.declared.finding.Finding.{Finding}
 use Rattle.stk_function_types.specs.Units.{unit_typed}
 use Rattle.stk_accept.specs.declared.accepting.Accepted.{Accepted}
 use Rattle.stk_accept.specs.declared.accepting.Accepted.TheVariants as accepted
 use Rattle.stk_accept.specs.Accepting.{beginning}
-use Rattle.stk_tree_nodes.specs.Rows.{unit_row}
+use Rattle.stk_nodes.specs.Rows.{unit_row}
 use Rattle.stk_typed.specs.declared.untyped.Untyped.{Untyped}
 use Rattle.stk_typed.specs.declared.untyped.Untyped.TheVariants as untyped
-use Rattle.stk_finding_lines.specs.Lines.{spot_at}
-use Rattle.stk_lines.specs.declared.counts.Counts.{Counts}
-use Rattle.stk_lines.specs.declared.line.Cause.{Cause}
-use Rattle.stk_lines.specs.declared.line.Cause.TheVariants.{Rule, Nodes}
-use Rattle.stk_lines.specs.declared.line.Line.{Line}
+use Rattle.stk_unit_lines.specs.Lines.{spot_at}
+use Rattle.stk_records.specs.declared.counts.Counts.{Counts}
+use Rattle.stk_records.specs.declared.line.Cause.{Cause}
+use Rattle.stk_records.specs.declared.line.Cause.TheVariants.{Rule, Nodes}
+use Rattle.stk_records.specs.declared.line.Line.{Line}
 use Rattle.stk_unit_lines.specs.Functions.{unit_typing, IsLaidOut}
 use Rattle.stk_unit_lines.specs.UnitLines.{one_skipped, one_judged, skip_line, function_lines, AreFindingsOf}
 

@@ -7,19 +7,19 @@ use Rattle.stk_tree.specs.Syntax.{UnitTree, FunctionTree, defines}
 use Rattle.stk_numbers.specs.declared.conditions.Candidate.{Candidate}
 use Rattle.stk_numbers.specs.declared.conditions.Condition.{Condition}
 use Rattle.stk_numbers.specs.declared.conditions.Kinds.{Kinds}
-use Rattle.stk_runs.specs.Lists.{candidates}
-use Rattle.stk_findings.specs.declared.finding.Finding.{Finding}
-use Rattle.stk_findings.specs.declared.finding.Finding.TheVariants.{Clear, Unstable, Undecided}
-use Rattle.stk_findings.specs.Findings.{AreLawful}
-use Rattle.stk_findings.specs.PathFindings.{function_subject}
+use Rattle.stk_meaning.specs.Lists.{candidates}
+use Rattle.stk_meaning.specs.declared.finding.Finding.{Finding}
+use Rattle.stk_meaning.specs.declared.finding.Finding.TheVariants.{Clear, Unstable, Undecided}
+use Rattle.stk_meaning.specs.Findings.{AreLawful}
+use Rattle.stk_meaning.specs.PathFindings.{function_subject}
 use Rattle.stk_accept.specs.declared.accepting.Refusal.{Refusal}
 use Rattle.stk_accept.specs.Accepting.{Accepts, Refuses}
-use Rattle.stk_lines.specs.declared.counts.Counts.{Counts}
-use Rattle.stk_lines.specs.declared.line.Cause.{Cause}
-use Rattle.stk_lines.specs.declared.line.Line.{Line}
-use Rattle.stk_lines.specs.declared.line.Line.TheVariants.{Skipped}
-use Rattle.stk_lines.specs.Counts.{nothing_counted}
-use Rattle.stk_finding_lines.specs.Lines.{spot_at, findings_lines}
+use Rattle.stk_records.specs.declared.counts.Counts.{Counts}
+use Rattle.stk_records.specs.declared.line.Cause.{Cause}
+use Rattle.stk_records.specs.declared.line.Line.{Line}
+use Rattle.stk_records.specs.declared.line.Line.TheVariants.{Skipped}
+use Rattle.stk_records.specs.Counts.{nothing_counted}
+use Rattle.stk_unit_lines.specs.Lines.{spot_at, findings_lines}
 use Rattle.stk_unit_lines.specs.Functions.{unit_typing, unit_placed, function_keys, is_definition}
 use Rattle.stk_unit_lines.specs.Causes.{cause_of, body_cause}
 
@@ -59,18 +59,18 @@ function_lines bytes without now u f findings =
 abbrev pub never_spent : Candidate → List Condition → Type 0
 never_spent c set = ⊥
 
--- A function has these lawful findings, one for each of its candidates in order, with these kinds of conditions taken out: each set that is reported suffices in
--- path runs and in every execution.
+-- A function has these lawful findings, one for each of its candidates in order, with these kinds of conditions taken
+-- out: each set that is reported suffices in path runs and in every execution.
 abbrev pub AreFindingsOf : List ℕ → Kinds → List NameEntry → UnitTree → FunctionTree → List Finding → Type 0
 AreFindingsOf bytes without now u f findings =
     let ty = unit_typing bytes now u in
     AreLawful (function_subject ty without f never_spent) (candidates ty f) findings
 
--- The lines of a unit of these tokens, what it counts for, and the names that it leaves in force, where these are in force before it:
--- an empty unit and a declaration that are accepted have none;
--- a unit that isn't accepted has a line with the cause at its first token;
--- so has a function that is accepted and has too many nodes, a body that a rule refuses, too much weight or too many input bits;
--- and every other function has the lines of lawful findings, one for each candidate in order.
+-- The lines of a unit of these tokens, what it counts for, and the names that it leaves in force, where these are in
+-- force before it: an empty unit and a declaration that are accepted have none; a unit that isn't accepted has a line
+-- with the cause at its first token; so has a function that is accepted and has too many nodes, a body that a rule
+-- refuses, too much weight or too many input bits; and every other function has the lines of lawful findings, one for
+-- each candidate in order.
 pub data IsUnitLines (bytes : List ℕ) (without : Kinds) (mark : Bool) (es : List NameEntry) (body : Option ℕ) : List Token → List Line → Counts → List NameEntry → Type 0 where
   accepted : {tokens : List Token} {now : List NameEntry} (u : UnitTree) → Accepts bytes mark es tokens u now → is_definition u ≡ false → IsUnitLines bytes without mark es body tokens [] nothing_counted now
   refused : {first : Token} {others : List Token} {now : List NameEntry} (cause : Refusal) → Refuses bytes mark es (first ∷ others) body cause now

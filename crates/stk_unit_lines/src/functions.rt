@@ -2,35 +2,34 @@
 
 ghost use Rattle.std.specs.Prelude.{◌≡◌, ◌≤◌, ◌∷◌, [], IfOk, map, true};
 ghost use Rattle.stk_tree.specs.View.{view_function, view_unit};
-ghost use Rattle.stk_runs.specs.Keys.{function_visits, input_bits};
-ghost use Rattle.stk_run_laws.specs.Sites.{IsNumbered};
-ghost use Rattle.stk_gathering.specs.TypedTree.{IsTypedTree};
-ghost use Rattle.stk_findings.specs.Findings.{AreLawful};
+ghost use Rattle.stk_meaning.specs.Keys.{function_visits, input_bits};
+ghost use Rattle.stk_run_laws.specs.Visits.{IsNumbered};
+ghost use Rattle.stk_run_laws.specs.TypedTree.{IsTypedTree};
+ghost use Rattle.stk_meaning.specs.Findings.{AreLawful};
 ghost use Rattle.stk_function_types.specs.Nodes.{typing_in};
-ghost use Rattle.stk_sites.specs.Sites.{met_of, met_in};
-ghost use Rattle.stk_path_findings.specs.PathSubjects.{path_subject};
+ghost use Rattle.stk_function_types.specs.Visits.{marked_visit, marked_visits};
+ghost use Rattle.stk_judge.specs.PathSubjects.{path_subject};
 ghost use Rattle.stk_weights.specs.Units.{IsSettingOfFunction};
-ghost use Rattle.stk_key_texts.specs.Placed.{placed_in};
-ghost use Rattle.stk_finding_lines.specs.Lines.{findings_lines};
+ghost use Rattle.stk_unit_lines.specs.Placed.{placed_in};
+ghost use Rattle.stk_unit_lines.specs.Lines.{findings_lines};
 ghost use Rattle.stk_unit_lines.specs.Functions.{function_keys};
 ghost use Rattle.stk_unit_lines.specs.UnitLines.{unstable_count, undecided_count, one_judged};
 ghost use Rattle.stk_unit_lines.specs.Parts.{IsJudged};
 
+use crate::lines::{Told, push_finding};
 use crate::units::UnitLines;
+use crate::{key_texts, names_of};
 use std::alloc::Global;
 use stk_base::NoMemory;
-use stk_candidates::candidates;
-use stk_conditions::conditions;
-use stk_finding_lines::{Told, push_finding};
-use stk_findings::Finding;
-use stk_function_findings::findings_of;
-use stk_key_texts::{key_texts, names_of};
+use stk_cands::{candidates, conditions};
+use stk_function_env::Setting;
+use stk_function_types::function_visits;
+use stk_judge::judge;
 use stk_lex::Places;
-use stk_lines::{Counts, Line};
-use stk_loop_rows::FunctionTables;
+use stk_meaning::Finding;
 use stk_numbers::Candidate;
-use stk_settings::Setting;
-use stk_sites::function_sites;
+use stk_path_runs::FunctionTables;
+use stk_records::{Counts, Line};
 use stk_tree::Function;
 
 // The findings of a function's candidates.
@@ -47,7 +46,7 @@ fn findings_in(
 {
     let tables = FunctionTables::new(alloc, setting, f)?;
     let all = conditions(alloc, setting.types(), setting.without(), f)?;
-    findings_of(alloc, &tables, f, list, all.as_slice())
+    judge(alloc, &tables, f, list, all.as_slice())
 }
 
 // The lines of findings for candidates.
@@ -58,7 +57,7 @@ fn lines_of(
     findings: &[Finding],
 ) -> Result<Vec<Line>, NoMemory>
     requires input { told.now.input.now ≡ told.now.types.now.bytes }
-    requires sites { map met_of told.now.sites.now ≡ met_in true (function_visits (typing_in told.now.types.now) (view_function told.now.function.now)) }
+    requires visits { map marked_visit told.now.visits.now ≡ marked_visits true (function_visits (typing_in told.now.types.now) (view_function told.now.function.now)) }
     ensures { IfOk result (λ lines. lines.items ≡ findings_lines (placed_in told.now.types.now) (typing_in told.now.types.now) (view_function told.now.function.now) told.now.keys.now list.now findings.now) }
 {
     let mut lines = Vec::new(alloc);
@@ -89,12 +88,12 @@ fn lines_in(
     let types = setting.types();
     let names = names_of(alloc, types, f)?;
     let keys = key_texts(alloc, input, types, names.as_slice(), setting.keys())?;
-    let sites = function_sites(alloc, types, f)?;
+    let visits = function_visits(alloc, types, f)?;
     let told = Told {
         input,
         types,
         function: f,
-        sites: sites.as_slice(),
+        visits: visits.as_slice(),
         keys: keys.as_slice(),
     };
     lines_of(alloc, &told, list, findings)

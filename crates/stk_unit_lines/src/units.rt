@@ -6,10 +6,10 @@ ghost use Rattle.stk_tree.specs.Nodes.{unit_nodes};
 ghost use Rattle.stk_tree.specs.View.{view_function, view_unit};
 ghost use Rattle.stk_ctype.specs.declared.symbol.NameEntry.{NameEntry};
 ghost use Rattle.stk_function_types.specs.Nodes.{typing_in};
-ghost use Rattle.stk_declare_laws.specs.Orderly.{AreOrderly};
-ghost use Rattle.stk_gathering.specs.TypedTree.{IsTypedTree};
+ghost use Rattle.stk_type_laws.specs.Orderly.{AreOrderly};
+ghost use Rattle.stk_run_laws.specs.TypedTree.{IsTypedTree};
 ghost use Rattle.stk_accept.specs.Accepting.{Accepts, IsAnswered};
-ghost use Rattle.stk_lines.specs.Counts.{nothing_counted};
+ghost use Rattle.stk_records.specs.Counts.{nothing_counted};
 ghost use Rattle.stk_unit_lines.specs.Functions.{IsDefinition};
 ghost use Rattle.stk_unit_lines.specs.Causes.{cause_of, body_cause, measured_cause};
 ghost use Rattle.stk_unit_lines.specs.UnitLines.{IsUnitLines};
@@ -17,18 +17,18 @@ ghost use Rattle.stk_unit_lines.specs.Parts.{IsSkipLine, IsFunctionLines, IsUnty
 
 use crate::causes::{cause_of, measured_cause, rule_cause};
 use crate::functions::judged;
+use crate::lines::spot_at;
 use std::alloc::Global;
 use stk_accept::{Accepted, accept};
 use stk_base::NoMemory;
 use stk_ctype::Names;
-use stk_finding_lines::spot_at;
+use stk_function_env::Setting;
 use stk_function_types::FunctionTypes;
 use stk_lex::{Places, Token};
-use stk_lines::{Cause, Counts, Line};
 use stk_numbers::Kinds;
-use stk_settings::Setting;
+use stk_records::{Cause, Counts, Line};
 use stk_tree::{Function, Unit};
-use stk_typed::{Untyped, types_of};
+use stk_typed::{Untyped, typed_of};
 
 /// The lines of a unit, and what it counts for.
 #[derive(Debug, Drop)]
@@ -126,7 +126,7 @@ fn function_lines(
     requires read { IsReadWell (view_unit unit.now) }
     ensures { IsTypedWell input.now without names.now (view_unit unit.now) (view_function f.now) → IfOk result (λ x. IsFunctionLines input.now without names.now tokens.now (view_unit unit.now) (view_function f.now) (body_cause input.now without names.now (view_unit unit.now)) x.lines.items x.counts) }
 {
-    match types_of(alloc, input.bytes(), unit, names) {
+    match typed_of(alloc, input.bytes(), unit, names) {
         Ok(types) => typed_lines(alloc, input, without, tokens, &types, f),
         Err(untyped) => untyped_lines(alloc, input, tokens, unit, untyped),
     }
@@ -174,11 +174,12 @@ fn lines_of_answer(
     }
 }
 
-/// The lines of a unit of these tokens, of which there is at least one, with these kinds of conditions taken out: none of an empty unit and of a
-/// declaration that are accepted; a line with the cause where no tree is the tokens, where a rule refuses the unit, and where it defines a function of
-/// over 20,000 nodes, of a weight over 8,000,000, or of over 16 input bits; and else the lines of the function's findings. The names are those that the
-/// unit leaves in force; `body` says how many of its tokens stand before a body, and `mark` that it is marked as one of functions that don't return.
-/// The names before it are orderly, as units leave them (C11 6.7p7, 6.7.2.1). The only refusal is want of memory.
+/// The lines of a unit of these tokens, of which there is at least one, with these kinds of conditions taken out: none
+/// of an empty unit and of a declaration that are accepted; a line with the cause where no tree is the tokens, where a
+/// rule refuses the unit, and where it defines a function of over 20,000 nodes, of a weight over 8,000,000, or of over
+/// 16 input bits; and else the lines of the function's findings. The names are those that the unit leaves in force;
+/// `body` says how many of its tokens stand before a body, and `mark` that it is marked as one of functions that
+/// don't return. The names before it are orderly, as units leave them (C11 6.7p7, 6.7.2.1).
 pub fn unit_lines(
     alloc: Global,
     input: &Places,

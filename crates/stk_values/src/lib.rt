@@ -1,5 +1,5 @@
-//! Values of a run of C, by one trait: a store for one input map, whose values are numbers, stands in this crate, and the walk over a function is
-//! written once, over any store.
+//! Values of a run of C, by one trait: a store for one input map, whose values are numbers, stands in this crate, and
+//! the walk over a function is written once, over any store.
 #![tactic(auto)]
 
 mod numbers;

@@ -8,8 +8,8 @@ use stk_base::NoMemory;
 use stk_numbers as table;
 use stk_numbers::{ArithOp, CompareOp, Inputs, IntKind, ShiftOp, UbKind};
 
-/// The store of values for one input map: a value is its number. It needs no memory, so no call answers `NoMemory`, and nothing in it costs anything.
-/// Contracts see it as the map's numbers.
+/// The store of values for one input map: a value is its number. It needs no memory, so no call answers `NoMemory`, and
+/// nothing in it costs anything. Contracts see it as the map's numbers.
 #[derive(Debug, Drop)]
 pub struct Numbers {
     inputs: Inputs,

@@ -11,16 +11,18 @@ ghost use Rattle.stk_values.specs.Keeping.{Keeps, truth};
 use stk_base::NoMemory;
 use stk_numbers::{ArithOp, CompareOp, IntKind, ShiftOp, UbKind};
 
-/// A store of values. Under each input map that the store serves, a value has one number, which is in the range of its kind. An input map is a list of
-/// numbers, one for each key of a function.
+/// A store of values. Under each input map that the store serves, a value has one number, which is in the range of its
+/// kind. An input map is a list of numbers, one for each key of a function.
 ///
-/// Each call answers a value whose number, under each map, is that of the operation for the numbers of its operands, also where its behaviour is undefined.
-/// What was made before keeps its numbers, and each call raises the store's cost by at most its charge; all that also after `NoMemory`. `NoMemory` comes only
-/// from stores that need memory. A test is a value of kind `Int` that is 0 or 1. Addresses have kind `ULong`.
+/// Each call answers a value whose number, under each map, is that of the operation for the numbers of its operands,
+/// also where its behaviour is undefined. What was made before keeps its numbers, and each call raises the store's cost
+/// by at most its charge; all that also after `NoMemory`. A store that needs no memory never answers it. A test is
+/// a value of kind `Int` that is 0 or 1. Addresses have kind `ULong`.
 ///
-/// The conditions of library calls are composed of these calls. The absolute value of x overflows where x equals the least number of its kind, by `compare`; the value
-/// is chosen by `choose` between x and the difference of 0 and x, by `compare` with 0. A copy overlaps where the distance of the addresses is below the count: by `choose` between the two
-/// differences, by `compare` of the addresses, and `compare` with the count.
+/// The conditions of library calls are composed of these calls. The absolute value of x overflows where x equals the
+/// least number of its kind, by `compare`; the value is chosen by `choose` between x and the difference of 0 and x, by
+/// `compare` with 0. A copy overlaps where the distance of the addresses is below the count: by `choose` between the
+/// two differences, by `compare` of the addresses, and `compare` with the count.
 pub trait Values {
     type Value: Copy;
 
@@ -226,7 +228,8 @@ pub trait Values {
         ensures charge { cost self.new ≤ cost self.old + 10 * wider kind count_kind }
         ensures memory { OnErr result needs_memory };
 
-    /// Whether a moved address leaves the address space, as a test: the exact one is below 0 or above 2^64 - 1 (C11 6.5.6p8).
+    /// Whether a moved address leaves the address space, as a test: the exact one is below 0 or above 2^64 - 1 (C11
+    /// 6.5.6p8).
     fn breaks_move(
         &mut self,
         base: Self::Value,

@@ -2,8 +2,8 @@
 use stk_base::List;
 use stk_numbers::Condition;
 
-/// A step of a walk: a condition that is violated, or a candidate, by its position in the list of candidates, that is hit, each where its
-/// value, a test, is 1.
+/// A step of a walk: a condition that is violated, or a candidate, by its position in the list of candidates, that is
+/// hit, each where its value, a test, is 1.
 #[derive(Clone, Copy, Debug, PartialEq, Eq)]
 pub enum Step<T> {
     Broken(Condition, T),

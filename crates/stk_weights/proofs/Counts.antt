@@ -5,20 +5,20 @@ use Rattle.std.specs.Option.{is_some}
 use Rattle.stk_base.specs.declared.span.Span.{Span}
 use Rattle.stk_base.specs.Text.{text_of}
 use Rattle.stk_ctype.specs.Types.{TypeTree}
-use Rattle.stk_rules.specs.Types.{is_void}
+use Rattle.stk_type_rules.specs.Types.{is_void}
 use Rattle.stk_tree.specs.declared.expression.UnaryOp.{UnaryOp}
 use Rattle.stk_tree.specs.declared.expression.UnaryOp.TheVariants as unary
 use Rattle.stk_tree.specs.Syntax.{ExprFormTree, TailTree, ParamTree, ParamTrees, DeclrTree, MaybeInitTree, FunctionTree}
 use Rattle.stk_tree.specs.Syntax as s
 use Rattle.stk_tree.specs.Nodes.{declarator_nodes, tail_nodes, parameters_nodes, function_nodes}
 use Rattle.stk_numbers.specs.declared.conditions.Kinds.{Kinds}
-use Rattle.stk_runs.specs.Typings.{Typing, declarator_node}
-use Rattle.stk_runs.specs.Libraries.{Library}
-use Rattle.stk_runs.specs.Places.{Setting, mentioned_in, Target, in_register, in_kept, in_object, unnamed, target_at}
-use Rattle.stk_runs.specs.Visits.{Role, Site, at_expression, at_declarator, at_statement, at_section, Visits, no_visit, visit, both_visits, scope, unevaluated, collected}
-use Rattle.stk_runs.specs.Changes.{assigned_in}
-use Rattle.stk_runs.specs.Keys.{KeyInfo, parameter_declarators, tail_parameters, head_parameters, parameters_of, function_visits, is_register, site_registers, registers_of, names_outside, is_node, address_info, load_keys, mention_keys, name_keys, result_keys, unary_keys, form_keys, declarator_keys, loop_keys, site_keys, parameter_info, memory_info, register_parameters, memory_parameters, key_objects, objects_in, first_setting, objects_of}
-use Rattle.stk_weights.specs.Loads.{site_load, load}
+use Rattle.stk_meaning.specs.Typings.{Typing, declarator_node}
+use Rattle.stk_meaning.specs.Libraries.{Library}
+use Rattle.stk_meaning.specs.Places.{Setting, mentioned_in, Target, in_register, in_kept, in_object, unnamed, target_at}
+use Rattle.stk_meaning.specs.Visits.{Role, Visit, at_expression, at_declarator, at_statement, at_section, Visits, no_visit, one_visit, both_visits, scope, unevaluated, collected}
+use Rattle.stk_meaning.specs.Changes.{assigned_in}
+use Rattle.stk_meaning.specs.Keys.{KeyInfo, parameter_declarators, tail_parameters, head_parameters, parameters_of, function_visits, fits_register, visit_registers, registers_of, names_outside, is_node, address_info, load_keys, mention_keys, name_keys, result_keys, unary_keys, form_keys, declarator_keys, loop_keys, visit_keys, parameter_info, memory_info, register_parameters, memory_parameters, key_objects, objects_in, first_setting, objects_of}
+use Rattle.stk_weights.specs.Loads.{visit_load, load}
 use Rattle.stk_weights.proofs.Loads.{function_few}
 
 if-few : {A : Type 0} (b : Bool) (x : A) (xs : List A) (n : ℕ) → length xs ≤ n → length (if b then x ∷ xs else xs) ≤ n + 1
@@ -33,15 +33,15 @@ one_if-few : {A : Type 0} (b : Bool) (x : A) → length (if b then x ∷ [] else
 one_if-few true x = omega arith
 one_if-few false x = omega arith
 
-load-positive : (x : Site) → 1 ≤ site_load x
+load-positive : (x : Visit) → 1 ≤ visit_load x
 load-positive (at_expression k role f) = omega arith
 load-positive (at_declarator k static at init) = omega arith
 load-positive (at_statement k arm f) = omega arith
 load-positive (at_section k ls) = omega arith
 
-collected-few : {A : Type 0} (f : Site → List A) → ((x : Site) → length (f x) ≤ 1) → (v : Visits) → length (collected f v) ≤ load v
+collected-few : {A : Type 0} (f : Visit → List A) → ((x : Visit) → length (f x) ≤ 1) → (v : Visits) → length (collected f v) ≤ load v
 collected-few f h no_visit = omega arith
-collected-few f h (visit x) = omega (arith, h x, load-positive x)
+collected-few f h (one_visit x) = omega (arith, h x, load-positive x)
 collected-few f h (both_visits a b) = simp length-append (omega (arith, collected-few f h a, collected-few f h b))
 collected-few f h (scope ks a) = collected-few f h a
 collected-few f h (unevaluated a) = omega arith
@@ -64,11 +64,11 @@ function-few : (f : FunctionTree) → length (parameters_of f) ≤ function_node
 function-few (s.function word b d body) = omega (arith, head-few d)
 
 -- ---- registers
-site-registers : (ty : Typing) (x : Site) → length (site_registers ty x) ≤ 1
-site-registers ty (at_expression k role f) = omega arith
-site-registers ty (at_declarator k static at init) = one_if-few (not static && is_register ty k) k
-site-registers ty (at_statement k arm f) = omega arith
-site-registers ty (at_section k ls) = omega arith
+visit-registers : (ty : Typing) (x : Visit) → length (visit_registers ty x) ≤ 1
+visit-registers ty (at_expression k role f) = omega arith
+visit-registers ty (at_declarator k static at init) = one_if-few (not static && fits_register ty k) k
+visit-registers ty (at_statement k arm f) = omega arith
+visit-registers ty (at_section k ls) = omega arith
 
 mapped : {A B : Type 0} (f : A → B) (xs : List A) → length (map f xs) ≡ length xs
 mapped f [] = refl
@@ -77,7 +77,7 @@ mapped f (x ∷ xs) = omega (arith, mapped f xs)
 pub registers_few : (ty : Typing) (f : FunctionTree) → length (registers_of ty f) ≤ 3 * function_nodes f
 registers_few ty f =
     let params = map declarator_node (parameters_of f) in
-    omega (arith, length-append (filter (λ k. is_register ty k) params) (collected (site_registers ty) (function_visits ty f)), length-filter (λ k. is_register ty k) params, mapped declarator_node (parameters_of f), function-few f, collected-few (site_registers ty) (site-registers ty) (function_visits ty f), function_few ty f)
+    omega (arith, length-append (filter (λ k. fits_register ty k) params) (collected (visit_registers ty) (function_visits ty f)), length-filter (λ k. fits_register ty k) params, mapped declarator_node (parameters_of f), function-few f, collected-few (visit_registers ty) (visit-registers ty) (function_visits ty f), function_few ty f)
 
 -- ---- objects
 objects-append : (ty : Typing) (a b : List KeyInfo) → length (objects_in ty (a ++ b)) ≡ length (objects_in ty a) + length (objects_in ty b)
@@ -152,16 +152,16 @@ loop-objects : (ty : Typing) (g : Setting) (k : ℕ) (js : List ℕ) → length 
 loop-objects ty g k [] = refl
 loop-objects ty g k (j ∷ js) = loop-objects ty g k js
 
-site-objects : (ty : Typing) (g : Setting) (x : Site) → length (objects_in ty (site_keys g x)) ≤ 1
-site-objects ty g (at_expression k role f) = form-objects ty g k role f
-site-objects ty g (at_declarator k static at init) = declarator-objects ty g k at init (target_at g k)
-site-objects ty g (at_statement k arm f) = omega (arith, loop-objects ty g k (assigned_in g f))
-site-objects ty g (at_section k ls) = omega arith
+visit-objects : (ty : Typing) (g : Setting) (x : Visit) → length (objects_in ty (visit_keys g x)) ≤ 1
+visit-objects ty g (at_expression k role f) = form-objects ty g k role f
+visit-objects ty g (at_declarator k static at init) = declarator-objects ty g k at init (target_at g k)
+visit-objects ty g (at_statement k arm f) = omega (arith, loop-objects ty g k (assigned_in g f))
+visit-objects ty g (at_section k ls) = omega arith
 
-keys-objects : (ty : Typing) (g : Setting) (v : Visits) → length (objects_in ty (collected (site_keys g) v)) ≤ load v
+keys-objects : (ty : Typing) (g : Setting) (v : Visits) → length (objects_in ty (collected (visit_keys g) v)) ≤ load v
 keys-objects ty g no_visit = omega arith
-keys-objects ty g (visit x) = omega (arith, site-objects ty g x, load-positive x)
-keys-objects ty g (both_visits a b) = omega (arith, objects-append ty (collected (site_keys g) a) (collected (site_keys g) b), keys-objects ty g a, keys-objects ty g b)
+keys-objects ty g (one_visit x) = omega (arith, visit-objects ty g x, load-positive x)
+keys-objects ty g (both_visits a b) = omega (arith, objects-append ty (collected (visit_keys g) a) (collected (visit_keys g) b), keys-objects ty g a, keys-objects ty g b)
 keys-objects ty g (scope ks a) = keys-objects ty g a
 keys-objects ty g (unevaluated a) = omega arith
 
@@ -178,5 +178,5 @@ objects_few ty without f =
     let g = first_setting ty without f in
     let a = map (parameter_info ty) (register_parameters ty f) in
     let b = map (memory_info ty) (memory_parameters ty f) in
-    let c = collected (site_keys g) (function_visits ty f) in
-    omega (arith, objects-append ty a (b ++ c), objects-append ty b c, parameter-objects ty ty (register_parameters ty f), memory-objects ty ty (memory_parameters ty f), length-filter (λ d. not (is_register ty (declarator_node d))) (parameters_of f), function-few f, keys-objects ty g (function_visits ty f), function_few ty f)
+    let c = collected (visit_keys g) (function_visits ty f) in
+    omega (arith, objects-append ty a (b ++ c), objects-append ty b c, parameter-objects ty ty (register_parameters ty f), memory-objects ty ty (memory_parameters ty f), length-filter (λ d. not (fits_register ty (declarator_node d))) (parameters_of f), function-few f, keys-objects ty g (function_visits ty f), function_few ty f)

@@ -1,6 +1,6 @@
 pub mod Widths
 pub mod Capping
-pub mod Marking
+pub mod TraitsShown
 pub mod Passing
 pub mod Uncounted
 pub mod Assigned

@@ -2,7 +2,7 @@
 use Rattle.std.proofs.Common.{◌*◌, ◌≤◌, arith}
 use Rattle.stk_tree.specs.Syntax.{LabelTree, LabelTrees}
 use Rattle.stk_tree.specs.Syntax as s
-use Rattle.stk_runs.specs.Weights.{label_weight, labels_weight}
+use Rattle.stk_meaning.specs.Weights.{label_weight, labels_weight}
 use Rattle.stk_weights.specs.Loads.{cases_at, cases_in}
 
 label_few : (l : LabelTree) → label_weight l ≤ 1024 * cases_at l

@@ -1,6 +1,6 @@
 -- What is passed between the beginning and the end of a part.
 use Rattle.std.proofs.Common.{ℕ, ◌≡◌, ◌+◌, ◌-◌, ◌≤◌, ◌==◌, min, Bool, true, false, ◌||◌, List, [], ◌∷◌, ◌++◌, map, refl, sym, ap, ◌∙◌, arith, append_assoc}
-use Rattle.stk_taken.specs.Sets.{is_listed}
+use Rattle.stk_address_taken.specs.Sets.{is_listed}
 use Rattle.stk_weights.specs.declared.events.Event.{Event}
 use Rattle.stk_weights.specs.declared.events.Event.TheVariants as event
 use Rattle.stk_weights.specs.Events.{Stand, stepped, passed, one_where}

@@ -116,10 +116,10 @@ stand d m s = record { depth = d; marked = m; sum = s }
 stand_same : (d m n s t : ℕ) → m ≡ n → s ≡ t → stand d m s ≡ stand d n t
 stand_same d m n s t e f = rw (e, f) refl
 
-abbrev mark_if : Bool → ℕ → ℕ → ℕ
-mark_if b d m = if b then d else m
+abbrev traits_if : Bool → ℕ → ℕ → ℕ
+traits_if b d m = if b then d else m
 
-one_assigned : (k r d s : ℕ) (marked : ℕ → ℕ) (b : Bool) → (r == k) ≡ b → stepped r (event.Assigns k) (stand d (marked r) s) ≡ stand d (mark_if (r == k) d (marked r)) (s + gain_if (r == k) (d - marked k))
+one_assigned : (k r d s : ℕ) (marked : ℕ → ℕ) (b : Bool) → (r == k) ≡ b → stepped r (event.Assigns k) (stand d (marked r) s) ≡ stand d (traits_if (r == k) d (marked r)) (s + gain_if (r == k) (d - marked k))
 one_assigned k r d s marked true e =
     let same : r ≡ k = eqb-true r k e in
     rw e (stand_same d d d (s + (d - marked r)) (s + (d - marked k)) refl (ap (λ j. s + (d - marked j)) same))
@@ -135,7 +135,7 @@ row_same rows k r place e h = ap (λ j. get_or (set rows k (row_at rows k place)
 row_other : (rows : List Register) (k r place : ℕ) → (r == k) ≡ false → get_or (set rows k (row_at rows k place)) r nothing ≡ get_or rows r nothing
 row_other rows k r place e = get_or-set_other rows k r (row_at rows k place) nothing (eqb-false r k e)
 
-marked_row : (rows : List Register) (xs : List ℕ) (k r place m : ℕ) (b : Bool) → (r == k) ≡ b → r < length rows → ((j : ℕ) → j < length xs → get_or xs j 0 ≤ place) → IsMarked xs (last_in rows r) m → IsMarked xs (last_in (set rows k (row_at rows k place)) r) (mark_if (r == k) (length xs) m)
+marked_row : (rows : List Register) (xs : List ℕ) (k r place m : ℕ) (b : Bool) → (r == k) ≡ b → r < length rows → ((j : ℕ) → j < length xs → get_or xs j 0 ≤ place) → IsMarked xs (last_in rows r) m → IsMarked xs (last_in (set rows k (row_at rows k place)) r) (traits_if (r == k) (length xs) m)
 marked_row rows xs k r place m true e h opened old =
     rw (ap (λ (x : Register). x.last) (row_same rows k r place (eqb-true r k e) h), e) (all_marked xs place opened)
 marked_row rows xs k r place m false e h opened old =
@@ -163,7 +163,7 @@ assigned rs es rest k place rows xs sum more h known unknown =
     let gain = length xs - h.marked k in
     record {
       each = λ r. h.each r + gain_if (r == k) gain;
-      marked = λ r. mark_if (r == k) (length xs) (h.marked r);
+      marked = λ r. traits_if (r == k) (length xs) (h.marked r);
       ahead = λ r e. h.ahead r (omega (arith, e, size)) ∙ ap (λ x. passed r rest x) (one_assigned k r (length xs) (h.each r) h.marked (r == k) refl);
       stands = λ r e. marked_row rows xs k r place (h.marked r) (r == k) refl (omega (arith, e, size)) h.opened (h.stands r (omega (arith, e, size)));
       past = λ r e. past_row rows k r place (r == k) refl (omega (arith, e, size)) (h.past r (omega (arith, e, size)));
@@ -186,7 +186,7 @@ pub assigned_slice : (rs : List ℕ) (es rest : List Event) (k place : ℕ) (row
     → ((m : ℕ) → k < length rows → IsMarked ys (last_in rows k) m → more ≡ capped (count_in rows k * (length ys - m))) → (length rows ≤ k → more ≡ 0)
     → IsCounting rs es rest (place + 1) (set rows k (row_at rows k place)) xs (min (sum + more) (2 ^ 64 - 1))
 assigned_slice rs es rest k place rows xs ys sum more e h known unknown =
-    assigned rs es rest k place rows xs sum more h (λ m there marks. subst (λ zs. more ≡ capped (count_in rows k * (length zs - m))) e (known m there (subst (λ zs. IsMarked zs (last_in rows k) m) (sym e) marks))) unknown
+    assigned rs es rest k place rows xs sum more h (λ m there traits. subst (λ zs. more ≡ capped (count_in rows k * (length zs - m))) e (known m there (subst (λ zs. IsMarked zs (last_in rows k) m) (sym e) traits))) unknown
 
 -- ---- the beginning and the end of a walk
 pub none_passed : (rs : List ℕ) (es : List Event) (rows : List Register) → ((r : ℕ) → count_in rows r ≡ times_in r rs) → ((r : ℕ) → last_in rows r ≡ 0) → AllBelow (length rows) rs → IsCounting rs es es 0 rows [] 0

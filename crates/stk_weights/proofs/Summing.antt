@@ -1,17 +1,18 @@
--- The weight of a function is that of its sites in order, and 256 for each register and each branch or loop in which it is assigned.
+-- The weight of a function is that of its visits in order, and 256 for each register and each branch or loop in which
+-- it is assigned.
 use Rattle.std.proofs.Common.{ℕ, ◌≡◌, ◌+◌, ◌*◌, Bool, false, List, [], ◌∷◌, ◌++◌, arith}
 use Rattle.stk_tree.specs.Syntax.{StmtFormTree}
 use Rattle.stk_tree.specs.Syntax as s
-use Rattle.stk_runs.specs.Places.{Setting}
-use Rattle.stk_runs.specs.Visits.{Site, at_expression, at_declarator, at_statement, at_section, Visits, no_visit, visit, both_visits, scope, unevaluated}
-use Rattle.stk_runs.specs.Weights.{visits_weight, site_weight, statement_weight}
-use Rattle.stk_sites.specs.Sites.{Met, met_in}
-use Rattle.stk_weights.specs.Met.{own_statement_weight, own_weight, mets_weight}
-use Rattle.stk_weights.specs.Events.{site_counts, counts}
+use Rattle.stk_meaning.specs.Places.{Setting}
+use Rattle.stk_meaning.specs.Visits.{Visit, at_expression, at_declarator, at_statement, at_section, Visits, no_visit, one_visit, both_visits, scope, unevaluated}
+use Rattle.stk_meaning.specs.Weights.{visits_weight, visit_weight, statement_weight}
+use Rattle.stk_function_types.specs.Visits.{MarkedVisit, marked_visits}
+use Rattle.stk_weights.specs.MarkedVisit.{own_statement_weight, own_weight, marked_weight}
+use Rattle.stk_weights.specs.Events.{visit_counts, counts}
 use Rattle.stk_weights.specs.Counting.{total}
 use Rattle.stk_weights.proofs.Totals.{branch_total, total_none, total_both}
 
-weight-append : (g : Setting) (a b : List Met) → mets_weight g (a ++ b) ≡ mets_weight g a + mets_weight g b
+weight-append : (g : Setting) (a b : List MarkedVisit) → marked_weight g (a ++ b) ≡ marked_weight g a + marked_weight g b
 weight-append g [] b = omega arith
 weight-append g (m ∷ a) b = omega (arith, weight-append g a b)
 
@@ -19,8 +20,8 @@ weight-append g (m ∷ a) b = omega (arith, weight-append g a b)
 abbrev all : Setting → Visits → ℕ
 all g v = total (λ r. counts g r v) g.registers
 
-abbrev all_at : Setting → Site → ℕ
-all_at g x = total (λ r. site_counts g r x) g.registers
+abbrev all_at : Setting → Visit → ℕ
+all_at g x = total (λ r. visit_counts g r x) g.registers
 
 statement_parts : (g : Setting) (k : ℕ) (arm : Bool) (f : StmtFormTree) → statement_weight g f ≡ own_statement_weight g f + 256 * all_at g (at_statement k arm f)
 statement_parts g k arm (s.block ps) = omega (arith, total_none g.registers)
@@ -34,15 +35,15 @@ statement_parts g k arm s.break_statement = omega (arith, total_none g.registers
 statement_parts g k arm s.continue_statement = omega (arith, total_none g.registers)
 statement_parts g k arm (s.return_statement e) = omega (arith, total_none g.registers)
 
-site_parts : (g : Setting) (evaluated : Bool) (x : Site) → site_weight g evaluated x ≡ own_weight g evaluated x + 256 * all_at g x
-site_parts g evaluated (at_expression k role f) = omega (arith, total_none g.registers)
-site_parts g evaluated (at_declarator k static at init) = omega (arith, total_none g.registers)
-site_parts g evaluated (at_statement k arm f) = statement_parts g k arm f
-site_parts g evaluated (at_section k ls) = omega (arith, total_none g.registers)
+visit_parts : (g : Setting) (evaluated : Bool) (x : Visit) → visit_weight g evaluated x ≡ own_weight g evaluated x + 256 * all_at g x
+visit_parts g evaluated (at_expression k role f) = omega (arith, total_none g.registers)
+visit_parts g evaluated (at_declarator k static at init) = omega (arith, total_none g.registers)
+visit_parts g evaluated (at_statement k arm f) = statement_parts g k arm f
+visit_parts g evaluated (at_section k ls) = omega (arith, total_none g.registers)
 
-pub weight_parts : (g : Setting) (evaluated : Bool) (v : Visits) → visits_weight g evaluated v ≡ mets_weight g (met_in evaluated v) + 256 * total (λ r. counts g r v) g.registers
+pub weight_parts : (g : Setting) (evaluated : Bool) (v : Visits) → visits_weight g evaluated v ≡ marked_weight g (marked_visits evaluated v) + 256 * total (λ r. counts g r v) g.registers
 weight_parts g evaluated no_visit = omega (arith, total_none g.registers)
-weight_parts g evaluated (visit x) = omega (arith, site_parts g evaluated x)
-weight_parts g evaluated (both_visits a b) = omega (arith, weight-append g (met_in evaluated a) (met_in evaluated b), weight_parts g evaluated a, weight_parts g evaluated b, total_both (λ r. counts g r a) (λ r. counts g r b) g.registers)
+weight_parts g evaluated (one_visit x) = omega (arith, visit_parts g evaluated x)
+weight_parts g evaluated (both_visits a b) = omega (arith, weight-append g (marked_visits evaluated a) (marked_visits evaluated b), weight_parts g evaluated a, weight_parts g evaluated b, total_both (λ r. counts g r a) (λ r. counts g r b) g.registers)
 weight_parts g evaluated (scope ks a) = weight_parts g evaluated a
 weight_parts g evaluated (unevaluated a) = weight_parts g false a

@@ -3,14 +3,14 @@ use Rattle.std.proofs.Common.{ℕ, suc, ◌≡◌, ◌+◌, ◌*◌, ◌≤◌, 
 use Rattle.std.specs.Prelude.{filter}
 use Rattle.stk_tree.specs.Syntax.{StmtFormTree, FunctionTree}
 use Rattle.stk_tree.specs.Syntax as s
-use Rattle.stk_taken.specs.Sets.{is_listed}
-use Rattle.stk_runs.specs.Places.{Setting}
-use Rattle.stk_runs.specs.Visits.{Site, at_expression, at_declarator, at_statement, at_section, Visits, no_visit, visit, both_visits, scope, unevaluated, head_visits, statement_form_visits}
-use Rattle.stk_runs.specs.Keys.{body_of, function_visits}
-use Rattle.stk_runs.specs.Weights.{assigned_under}
-use Rattle.stk_weights.specs.Events.{Stand, assigned_in, statement_events, is_branching, one_where, passed, site_counts, counts}
+use Rattle.stk_address_taken.specs.Sets.{is_listed}
+use Rattle.stk_meaning.specs.Places.{Setting}
+use Rattle.stk_meaning.specs.Visits.{Visit, at_expression, at_declarator, at_statement, at_section, Visits, no_visit, one_visit, both_visits, scope, unevaluated, head_visits, statement_form_visits}
+use Rattle.stk_meaning.specs.Keys.{body_of, function_visits}
+use Rattle.stk_meaning.specs.Weights.{assigned_under}
+use Rattle.stk_weights.specs.Events.{Stand, assigned_in, statement_events, is_branching, one_where, passed, visit_counts, counts}
 use Rattle.stk_weights.specs.Counting.{begun, passed_sum, total}
-use Rattle.stk_weights.specs.Loads.{site_load, load}
+use Rattle.stk_weights.specs.Loads.{visit_load, load}
 use Rattle.stk_weights.proofs.Passing.{gained_by}
 use Rattle.stk_weights.proofs.Uncounted.{head_none}
 use Rattle.stk_weights.proofs.Assigned.{assigned_counted}
@@ -70,15 +70,15 @@ if_few : (b c : Bool) → (if b then one_where c else 0) ≤ 1
 if_few true c = one_few c
 if_few false c = omega arith
 
-site_few : (g : Setting) (r : ℕ) (x : Site) → site_counts g r x ≤ site_load x
-site_few g r (at_expression k role f) = omega arith
-site_few g r (at_declarator k static at init) = omega arith
-site_few g r (at_statement k arm f) = if_few (is_branching f) (is_listed r (assigned_in g (statement_form_visits g.typing f)))
-site_few g r (at_section k ls) = omega arith
+visit_few : (g : Setting) (r : ℕ) (x : Visit) → visit_counts g r x ≤ visit_load x
+visit_few g r (at_expression k role f) = omega arith
+visit_few g r (at_declarator k static at init) = omega arith
+visit_few g r (at_statement k arm f) = if_few (is_branching f) (is_listed r (assigned_in g (statement_form_visits g.typing f)))
+visit_few g r (at_section k ls) = omega arith
 
 counts_few : (g : Setting) (r : ℕ) (v : Visits) → counts g r v ≤ load v
 counts_few g r no_visit = omega arith
-counts_few g r (visit x) = site_few g r x
+counts_few g r (one_visit x) = visit_few g r x
 counts_few g r (both_visits a b) = omega (arith, counts_few g r a, counts_few g r b)
 counts_few g r (scope ks a) = counts_few g r a
 counts_few g r (unevaluated a) = counts_few g r a

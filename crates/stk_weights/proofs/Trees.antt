@@ -3,14 +3,14 @@ use Rattle.std.proofs.Common.{ℕ, ◌≡◌, ◌+◌, Bool, true, false, ◌||�
 use Rattle.std.proofs.lemmas.List.{map-append}
 use Rattle.stk_tree.specs.Syntax.{ExprTree, MaybeExprTree, DeclarationTree, StartTree, LabelTrees, StmtTree, StmtTrees, MaybeStmtTree, StmtFormTree, PartTree, PartTrees, SectionTree, SectionTrees, FunctionTree}
 use Rattle.stk_tree.specs.Syntax as s
-use Rattle.stk_taken.specs.Sets.{is_listed}
-use Rattle.stk_runs.specs.Places.{Setting, Target, in_register, in_kept, in_object, unnamed}
-use Rattle.stk_runs.specs.Weights.{site_assigns}
-use Rattle.stk_runs.specs.Visits.{Role, Visits, no_visit, visit, both_visits, scope, unevaluated, at_statement, at_section, reading, as_test, expression_visits, maybe_visits, declaration_visits, start_visits, labels_visits, statement_visits, statement_form_visits, maybe_statement_visits, statements_visits, parts_visits, part_visits, sections_visits, section_visits}
+use Rattle.stk_address_taken.specs.Sets.{is_listed}
+use Rattle.stk_meaning.specs.Places.{Setting, Target, in_register, in_kept, in_object, unnamed}
+use Rattle.stk_meaning.specs.Weights.{visit_assigns}
+use Rattle.stk_meaning.specs.Visits.{Role, Visits, no_visit, one_visit, both_visits, scope, unevaluated, at_statement, at_section, reading, as_test, expression_visits, maybe_visits, declaration_visits, start_visits, labels_visits, statement_visits, statement_form_visits, maybe_statement_visits, statements_visits, parts_visits, part_visits, sections_visits, section_visits}
 use Rattle.stk_weights.specs.declared.events.Event.{Event}
 use Rattle.stk_weights.specs.declared.events.Event.TheVariants as event
-use Rattle.stk_weights.specs.Met.{registers_among}
-use Rattle.stk_weights.specs.Events.{assigned_in, targets_events, noted, is_branching, bracketed, statement_events, form_events, maybe_statement_events, statements_events, parts_events, part_events, sections_events, section_events, one_where, counts, site_counts}
+use Rattle.stk_weights.specs.MarkedVisit.{registers_among}
+use Rattle.stk_weights.specs.Events.{assigned_in, targets_events, noted, is_branching, bracketed, statement_events, form_events, maybe_statement_events, statements_events, parts_events, part_events, sections_events, section_events, one_where, counts, visit_counts}
 use Rattle.stk_weights.proofs.Passing.{Adds, adds_none, adds_both, adds_bracketed, adds_assigned, listed-append}
 use Rattle.stk_weights.proofs.Uncounted.{expression_none, maybe_none, declaration_none, start_none, labels_none}
 
@@ -24,7 +24,7 @@ targets_are (unnamed ∷ ts) = targets_are ts
 -- the assignments in a part are those of its registers
 noted_is : (g : Setting) (v : Visits) → noted g v ≡ map event.Assigns (assigned_in g v)
 noted_is g no_visit = refl
-noted_is g (visit x) = targets_are (site_assigns g x)
+noted_is g (one_visit x) = targets_are (visit_assigns g x)
 noted_is g (both_visits a b) =
     ap (λ es. es ++ noted g b) (noted_is g a) ∙ ap (λ es. map event.Assigns (assigned_in g a) ++ es) (noted_is g b) ∙ sym (map-append event.Assigns (assigned_in g a) (assigned_in g b))
 noted_is g (scope ks a) = noted_is g a
@@ -52,14 +52,14 @@ module _ (g : Setting) (r : ℕ) where
   with_none : (xs : List ℕ) → is_listed r (xs ++ []) ≡ is_listed r xs
   with_none xs = listed-append r xs [] ∙ or-none (is_listed r xs)
 
-  closing : (es : List Event) (n : ℕ) (arm : Bool) (f : StmtFormTree) (b : Bool) → is_branching f ≡ b → Is es (statement_form_visits g.typing f) → Is (bracketed b es) (both_visits (statement_form_visits g.typing f) (visit (at_statement n arm f)))
+  closing : (es : List Event) (n : ℕ) (arm : Bool) (f : StmtFormTree) (b : Bool) → is_branching f ≡ b → Is es (statement_form_visits g.typing f) → Is (bracketed b es) (both_visits (statement_form_visits g.typing f) (one_visit (at_statement n arm f)))
   closing es n arm f true e h =
       let xs = assigned_in g (statement_form_visits g.typing f) in
-      let more : counts g r (statement_form_visits g.typing f) + one_where (is_listed r xs) ≡ counts g r (statement_form_visits g.typing f) + site_counts g r (at_statement n arm f) = rw e refl in
+      let more : counts g r (statement_form_visits g.typing f) + one_where (is_listed r xs) ≡ counts g r (statement_form_visits g.typing f) + visit_counts g r (at_statement n arm f) = rw e refl in
       turned _ _ _ _ _ (sym (with_none xs)) more (adds_bracketed r es (is_listed r xs) (counts g r (statement_form_visits g.typing f)) h)
   closing es n arm f false e h =
       let xs = assigned_in g (statement_form_visits g.typing f) in
-      let more : counts g r (statement_form_visits g.typing f) ≡ counts g r (statement_form_visits g.typing f) + site_counts g r (at_statement n arm f) = rw e (omega arith) in
+      let more : counts g r (statement_form_visits g.typing f) ≡ counts g r (statement_form_visits g.typing f) + visit_counts g r (at_statement n arm f) = rw e (omega arith) in
       turned es _ _ _ _ (sym (with_none xs)) more h
 
   unlisted : (ls : LabelTrees) → assigned_in g (labels_visits g.typing ls) ≡ []
@@ -67,7 +67,7 @@ module _ (g : Setting) (r : ℕ) where
   unlisted (s.then_label s.default_label ls) = unlisted ls
   unlisted (s.then_label (s.case_label e) ls) = unlisted ls
 
-  labelled : (es : List Event) (n : ℕ) (ls : LabelTrees) (v : Visits) → Is es v → Is es (both_visits (labels_visits g.typing ls) (both_visits v (visit (at_section n ls))))
+  labelled : (es : List Event) (n : ℕ) (ls : LabelTrees) (v : Visits) → Is es v → Is es (both_visits (labels_visits g.typing ls) (both_visits v (one_visit (at_section n ls))))
   labelled es n ls v h =
       let xs = assigned_in g v in
       turned es _ _ _ _ (sym (ap (λ ks. is_listed r (ks ++ (xs ++ []))) (unlisted ls) ∙ with_none xs)) (omega (arith, labels_none g r g.typing ls)) h

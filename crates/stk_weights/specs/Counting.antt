@@ -1,4 +1,5 @@
--- How often registers count behind a part of a walk: what is kept of each register, and of the branches and loops that are open.
+-- How often registers count behind a part of a walk: what is kept of each register, and of the branches and loops that
+-- are open.
 use Rattle.std.specs.Prelude.{ℕ, ◌≡◌, ◌+◌, ◌≤◌, ◌<◌, ◌==◌, List, [], ◌∷◌, length, filter, get_or}
 use Rattle.stk_weights.specs.declared.events.Event.{Event}
 use Rattle.stk_weights.specs.declared.counting.Register.{Register}
@@ -37,8 +38,8 @@ begun = record { depth = 0; marked = 0; sum = 0 }
 abbrev pub passed_sum : List Event → ℕ → ℕ
 passed_sum es r = (passed r es begun).sum
 
--- of the branches and loops that are open, by the places where they began, the first m began before the last assignment of a register,
--- and the others behind it
+-- of the branches and loops that are open, by the places where they began, the first m began before the last assignment
+-- of a register, and the others behind it
 pub record IsMarked (begins : List ℕ) (last m : ℕ) : Type 0 where
   pub few : m ≤ length begins
   pub before : (j : ℕ) → j < m → get_or begins j 0 < last

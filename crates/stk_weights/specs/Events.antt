@@ -1,15 +1,15 @@
--- What a walk over a function passes: where its branches and loops begin and end, and the registers that are assigned, in order; and how often
--- a register counts: once for each branch and loop in which it is assigned anywhere.
+-- What a walk over a function passes: where its branches and loops begin and end, and the registers that are assigned,
+-- in order; and how often a register counts: once for each branch and loop in which it is assigned anywhere.
 use Rattle.std.specs.Prelude.{ℕ, ◌+◌, ◌-◌, ◌==◌, min, Bool, true, false, if◌then◌else◌, List, [], ◌∷◌, ◌++◌}
 use Rattle.stk_tree.specs.Syntax.{ExprTree, MaybeExprTree, DeclarationTree, StartTree, StmtTree, StmtTrees, MaybeStmtTree, StmtFormTree, PartTree, PartTrees, SectionTree, SectionTrees}
 use Rattle.stk_tree.specs.Syntax as s
-use Rattle.stk_taken.specs.Sets.{is_listed}
-use Rattle.stk_runs.specs.Places.{Setting, Target, in_register, in_kept, in_object, unnamed}
-use Rattle.stk_runs.specs.Weights.{site_assigns}
-use Rattle.stk_runs.specs.Visits.{Site, at_expression, at_declarator, at_statement, at_section, Visits, no_visit, visit, both_visits, scope, unevaluated, collected, reading, as_test, expression_visits, maybe_visits, declaration_visits, start_visits, statement_form_visits}
+use Rattle.stk_address_taken.specs.Sets.{is_listed}
+use Rattle.stk_meaning.specs.Places.{Setting, Target, in_register, in_kept, in_object, unnamed}
+use Rattle.stk_meaning.specs.Weights.{visit_assigns}
+use Rattle.stk_meaning.specs.Visits.{Visit, at_expression, at_declarator, at_statement, at_section, Visits, no_visit, one_visit, both_visits, scope, unevaluated, collected, reading, as_test, expression_visits, maybe_visits, declaration_visits, start_visits, statement_form_visits}
 use Rattle.stk_weights.specs.declared.events.Event.{Event}
 use Rattle.stk_weights.specs.declared.events.Event.TheVariants as event
-use Rattle.stk_weights.specs.Met.{registers_assigned}
+use Rattle.stk_weights.specs.MarkedVisit.{registers_assigned}
 
 -- the registers that are assigned in a part, in order
 abbrev pub assigned_in : Setting → Visits → List ℕ
@@ -29,11 +29,11 @@ targets_events (in_kept q ∷ ts) = targets_events ts
 targets_events (in_object o ∷ ts) = targets_events ts
 targets_events (unnamed ∷ ts) = targets_events ts
 
-abbrev pub site_events : Setting → Site → List Event
-site_events g x = targets_events (site_assigns g x)
+abbrev pub visit_events : Setting → Visit → List Event
+visit_events g x = targets_events (visit_assigns g x)
 
 abbrev pub noted : Setting → Visits → List Event
-noted g v = collected (site_events g) v
+noted g v = collected (visit_events g) v
 
 -- whether a statement is a branch or a loop
 abbrev pub is_branching : StmtFormTree → Bool
@@ -95,8 +95,8 @@ abbrev mutual
 
 -- ---- how often a register counts
 
--- how a register stands in a walk: how many branches and loops are open, in how many of them it was assigned, which are the outermost ones, and
--- how often it counts so far
+-- how a register stands in a walk: how many branches and loops are open, in how many of them it was assigned, which are
+-- the outermost ones, and how often it counts so far
 pub record Stand : Type 0 where
   pub depth : ℕ
   pub marked : ℕ
@@ -117,15 +117,15 @@ one_where true = 1
 one_where false = 0
 
 -- in how many branches and loops among visits a register is assigned
-abbrev pub site_counts : Setting → ℕ → Site → ℕ
-site_counts g r (at_expression k role f) = 0
-site_counts g r (at_declarator k static at init) = 0
-site_counts g r (at_statement k arm f) = if is_branching f then one_where (is_listed r (assigned_in g (statement_form_visits g.typing f))) else 0
-site_counts g r (at_section k ls) = 0
+abbrev pub visit_counts : Setting → ℕ → Visit → ℕ
+visit_counts g r (at_expression k role f) = 0
+visit_counts g r (at_declarator k static at init) = 0
+visit_counts g r (at_statement k arm f) = if is_branching f then one_where (is_listed r (assigned_in g (statement_form_visits g.typing f))) else 0
+visit_counts g r (at_section k ls) = 0
 
 abbrev pub counts : Setting → ℕ → Visits → ℕ
 counts g r no_visit = 0
-counts g r (visit x) = site_counts g r x
+counts g r (one_visit x) = visit_counts g r x
 counts g r (both_visits a b) = counts g r a + counts g r b
 counts g r (scope ks a) = counts g r a
 counts g r (unevaluated a) = counts g r a

@@ -1,7 +1,7 @@
 pub mod Sums
-pub mod Met
+pub mod MarkedVisit
 pub mod Events
 pub mod Counting
 pub mod Loads
-pub mod Marks
+pub mod Traits
 pub mod Units

@@ -4,11 +4,11 @@ use Rattle.stk_tree.specs.Syntax.{FunctionTree, UnitTree}
 use Rattle.stk_tree.specs.Syntax as s
 use Rattle.stk_tree.specs.View.{view_unit}
 use Rattle.stk_numbers.specs.declared.conditions.Kinds.{Kinds}
-use Rattle.stk_runs.specs.Typings.{Typing}
-use Rattle.stk_runs.specs.Keys.{setting_of, keys_of}
-use Rattle.stk_runs.specs.Weights.{weight}
+use Rattle.stk_meaning.specs.Typings.{Typing}
+use Rattle.stk_meaning.specs.Keys.{setting_of, keys_of}
+use Rattle.stk_meaning.specs.Weights.{weight}
 use Rattle.stk_function_types.specs.Nodes.{typing_in}
-use Rattle.stk_settings.specs.Settings.{FunctionPlaces, setting_in}
+use Rattle.stk_function_env.specs.Settings.{FunctionPlaces, setting_in}
 
 -- a unit that defines no function has none
 abbrev pub unit_weight : Typing → Kinds → UnitTree → ℕ

@@ -9,7 +9,8 @@ use crate::events::Event;
 use std::alloc::Global;
 use stk_base::NoMemory;
 
-/// How a node stands: how often it is among the registers of a function, and the place behind its last assignment, 0 before the first.
+/// How a node stands: how often it is among the registers of a function, and the place behind its last assignment, 0
+/// before the first.
 #[derive(Clone, Copy, Debug, PartialEq, Eq)]
 pub(crate) struct Register {
     pub(crate) count: u64,
@@ -126,8 +127,8 @@ fn pass(
     }
 }
 
-/// How often registers count in a walk, all together, or 2^64 - 1 where that is more: each once for each branch and loop in which it is
-/// assigned. It takes as much memory as the greatest register says. The only refusal is want of memory.
+/// How often registers count in a walk, all together, or 2^64 - 1 where that is more: each once for each branch and
+/// loop in which it is assigned. It takes as much memory as the greatest register says.
 pub(crate) fn counted(alloc: Global, registers: &[u32], events: &[Event]) -> Result<u64, NoMemory>
     ensures { IfOk result (λ n. n ≡ capped (total (passed_sum events.now) registers.now)) }
 {

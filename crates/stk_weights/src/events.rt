@@ -4,22 +4,24 @@ ghost use Rattle.std.specs.Prelude.{◌≡◌, ◌++◌, IfOk, OnOk, map, true};
 ghost use Rattle.std.specs.Option.{option_map};
 ghost use Rattle.stk_tree.specs.View.{given_expression, view_declaration, view_expression, view_expression_form, view_function, view_part, view_section, view_start, view_statement, view_statement_form, maybe_statement, parts, sections, statements};
 ghost use Rattle.stk_function_types.specs.Nodes.{typing_in};
-ghost use Rattle.stk_runs.specs.Visits.{declaration_visits, expression_visits, maybe_visits, start_visits};
-ghost use Rattle.stk_runs.specs.Keys.{body_of};
-ghost use Rattle.stk_runs.specs.Weights.{form_assigns};
-ghost use Rattle.stk_sites.specs.Sites.{met_of, role_in};
-ghost use Rattle.stk_sites.specs.Gathered.{given, gathered};
-ghost use Rattle.stk_settings.specs.Settings.{setting_in, target_in};
-ghost use Rattle.stk_weights.specs.Events.{target_events, targets_events, site_events, noted, is_branching, statement_events, form_events, maybe_statement_events, statements_events, parts_events, part_events, sections_events, section_events};
+ghost use Rattle.stk_meaning.specs.Visits.{declaration_visits, expression_visits, maybe_visits, start_visits};
+ghost use Rattle.stk_meaning.specs.Keys.{body_of};
+ghost use Rattle.stk_meaning.specs.Weights.{form_assigns};
+ghost use Rattle.stk_function_types.specs.Visits.{marked_visit, role_in};
+ghost use Rattle.stk_function_types.specs.Gathered.{given, gathered};
+ghost use Rattle.stk_function_env.specs.Settings.{setting_in};
+ghost use Rattle.stk_operators.specs.Targets.{target_shown};
+ghost use Rattle.stk_weights.specs.Events.{target_events, targets_events, visit_events, noted, is_branching, statement_events, form_events, maybe_statement_events, statements_events, parts_events, part_events, sections_events, section_events};
 
 use std::alloc::Global;
 use stk_base::{Boxed, NoMemory};
-use stk_settings::{Setting, Target};
-use stk_sites::{Role, Site, SiteForm, declaration_sites, expression_sites};
+use stk_function_env::Setting;
+use stk_function_types::{Role, Visit, VisitForm, declaration_visits, expression_visits};
+use stk_operators::Target;
 use stk_tree::{Declaration, Expr, ExprForm, Function, Part, Section, Start, Stmt, StmtForm};
 
-/// What a walk over a function passes, in order: the beginning of a branch or a loop, an assignment of a register, and the end of the
-/// branch or loop that began last.
+/// What a walk over a function passes, in order: the beginning of a branch or a loop, an assignment of a register, and
+/// the end of the branch or loop that began last.
 #[derive(Clone, Copy, Debug, PartialEq, Eq)]
 pub(crate) enum Event {
     Begins,
@@ -29,7 +31,7 @@ pub(crate) enum Event {
 
 // Notes a store to a place, where it is a register.
 fn target_events(place: Target, out: &mut Vec<Event>) -> Result<(), NoMemory>
-    ensures { OnOk result (out.new.items ≡ out.old.items ++ target_events (target_in place)) }
+    ensures { OnOk result (out.new.items ≡ out.old.items ++ target_events (target_shown place)) }
 {
     match place {
         Target::Register(k) => out.push(Event::Assigns(k))?,
@@ -64,25 +66,27 @@ fn assigned_events(setting: &Setting, f: &ExprForm, out: &mut Vec<Event>) -> Res
     }
 }
 
-// Notes the register that a site assigns, where it is evaluated.
-fn site_events(setting: &Setting, site: &Site, out: &mut Vec<Event>) -> Result<(), NoMemory>
-    ensures { OnOk result (out.new.items ≡ out.old.items ++ given (site_events (setting_in setting.now)) (met_of site.now)) }
+// Notes the register that a visit assigns, where it is evaluated.
+fn visit_events(setting: &Setting, visit: &Visit, out: &mut Vec<Event>) -> Result<(), NoMemory>
+    ensures { OnOk result (out.new.items ≡ out.old.items ++ given (visit_events (setting_in setting.now)) (marked_visit visit.now)) }
 {
-    if !site.is_evaluated {
+    if !visit.is_evaluated {
         return Ok(());
     }
-    match site.form {
-        SiteForm::Expression(_, f) => assigned_events(setting, f, out),
-        SiteForm::Declarator(_, _, _) | SiteForm::Statement(_, _) | SiteForm::Section(_) => Ok(()),
+    match visit.form {
+        VisitForm::Expression(_, f) => assigned_events(setting, f, out),
+        VisitForm::Declarator(_, _, _) | VisitForm::Statement(_, _) | VisitForm::Section(_) => Ok(
+            (),
+        ),
     }
 }
 
-// Notes the registers that sites assign.
-fn sites_events(setting: &Setting, sites: &[Site], out: &mut Vec<Event>) -> Result<(), NoMemory>
-    ensures { OnOk result (out.new.items ≡ out.old.items ++ gathered (site_events (setting_in setting.now)) (map met_of sites.now)) }
+// Notes the registers that visits assign.
+fn visits_events(setting: &Setting, visits: &[Visit], out: &mut Vec<Event>) -> Result<(), NoMemory>
+    ensures { OnOk result (out.new.items ≡ out.old.items ++ gathered (visit_events (setting_in setting.now)) (map marked_visit visits.now)) }
 {
-    for site in sites {
-        site_events(setting, site, out)?;
+    for visit in visits {
+        visit_events(setting, visit, out)?;
     }
     Ok(())
 }
@@ -97,9 +101,9 @@ fn expression_events(
 ) -> Result<(), NoMemory>
     ensures { OnOk result (out.new.items ≡ out.old.items ++ noted (setting_in setting.now) (expression_visits (typing_in setting.now.types) (role_in role) (view_expression e.now))) }
 {
-    let mut sites = Vec::new(alloc);
-    expression_sites(e, setting.types(), true, role, &mut sites)?;
-    sites_events(setting, sites.as_slice(), out)
+    let mut visits = Vec::new(alloc);
+    expression_visits(e, setting.types(), true, role, &mut visits)?;
+    visits_events(setting, visits.as_slice(), out)
 }
 
 // Notes what an expression assigns that may be missing.
@@ -127,9 +131,9 @@ fn declaration_events(
 ) -> Result<(), NoMemory>
     ensures { OnOk result (out.new.items ≡ out.old.items ++ noted (setting_in setting.now) (declaration_visits (typing_in setting.now.types) (view_declaration d.now))) }
 {
-    let mut sites = Vec::new(alloc);
-    declaration_sites(d, setting.types(), &mut sites)?;
-    sites_events(setting, sites.as_slice(), out)
+    let mut visits = Vec::new(alloc);
+    declaration_visits(d, setting.types(), &mut visits)?;
+    visits_events(setting, visits.as_slice(), out)
 }
 
 // Notes what the first part of a `for` assigns.
@@ -320,7 +324,7 @@ fn section_events(
     statements_events(x.body.as_slice(), alloc, setting, out)
 }
 
-/// What a walk over the body of a function passes, in order. The only refusal is want of memory.
+/// What a walk over the body of a function passes, in order.
 pub(crate) fn function_events(
     alloc: Global,
     setting: &Setting,

@@ -4,11 +4,11 @@ ghost use Rattle.std.specs.Prelude.{◌≡◌, ◌≤◌, ◌+◌, ◌*◌, ℕ,
 ghost use Rattle.std.specs.Option.{option_map};
 ghost use Rattle.stk_tree.specs.View.{view_expression, view_expression_form};
 ghost use Rattle.stk_function_types.specs.Nodes.{typing_in};
-ghost use Rattle.stk_operating.specs.Shown.{operator_shown, operation_shown};
-ghost use Rattle.stk_runs.specs.Typings.{type_in, stride_in};
-ghost use Rattle.stk_runs.specs.Operations.{operates, operation_of, sort_of, step_operation};
-ghost use Rattle.stk_runs.specs.Replacements.{replacement};
-ghost use Rattle.stk_runs.specs.Weights.{bits_in, greatest_bits, operation_bits, step_weight, comparison_weight, binary_weight, assigned_weight, form_weight};
+ghost use Rattle.stk_operators.specs.Shown.{operator_shown, operation_shown};
+ghost use Rattle.stk_meaning.specs.Typings.{type_in, stride_in};
+ghost use Rattle.stk_meaning.specs.Operations.{operates, operation_of, sort_of, step_operation};
+ghost use Rattle.stk_meaning.specs.Replacements.{replacement};
+ghost use Rattle.stk_meaning.specs.Weights.{bits_in, greatest_bits, operation_bits, step_weight, comparison_weight, binary_weight, assigned_weight, form_weight};
 
 use crate::operations::{
     bits_in, greater, library_weight, move_weight, operation_bits, operation_weight, step_weight,
@@ -16,15 +16,15 @@ use crate::operations::{
 };
 use std::alloc::Global;
 use stk_base::NoMemory;
-use stk_conditions::stride_of;
+use stk_cands::stride_of;
 use stk_ctype::CType;
+use stk_function_env::called_library;
 use stk_function_types::FunctionTypes;
 use stk_numbers::IntKind;
-use stk_operating::{
-    Operation, Operator, Sort, assigned_operator, operation_of, sort_of, step_operator,
+use stk_operators::{
+    BinarySort, Operation, Operator, assigned_operator, operation_of, sort_of, step_operator,
 };
 use stk_replacements::replacement;
-use stk_settings::called_library;
 use stk_tree::{BinaryOp, Expr, ExprForm, StepOp};
 
 // The bits of the type of a node.
@@ -139,9 +139,9 @@ fn binary_weight(
 {
     let bits = bits_at(types, node);
     match sort_of(op) {
-        Sort::Operates(op) => operator_weight(alloc, types, bits, op, a, b),
-        Sort::Joins => Ok(0),
-        Sort::OrElse | Sort::AndAlso => Ok(32 * greatest_bits(types, a, b, bits)),
+        BinarySort::Operates(op) => operator_weight(alloc, types, bits, op, a, b),
+        BinarySort::Joins => Ok(0),
+        BinarySort::OrElse | BinarySort::AndAlso => Ok(32 * greatest_bits(types, a, b, bits)),
     }
 }
 
@@ -187,7 +187,7 @@ fn choice_weight(types: &FunctionTypes, bits: u64, a: &Expr, b: &Expr, c: &Expr)
     32 * greater(bits_of(types, a), greatest_bits(types, b, c, bits))
 }
 
-/// What an expression of this form adds to its node. The only refusal is want of memory.
+/// What an expression of this form adds to its node.
 pub(crate) fn form_weight(
     alloc: Global,
     types: &FunctionTypes,

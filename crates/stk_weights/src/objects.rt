@@ -2,27 +2,27 @@
 
 ghost use Rattle.std.specs.Prelude.{◌≡◌, ◌+◌, ◌<◌, ◌^◌, ◌++◌, IfOk, OnOk, map};
 ghost use Rattle.stk_function_types.specs.Nodes.{typing_in};
-ghost use Rattle.stk_runs.specs.Typings.{is_among};
-ghost use Rattle.stk_runs.specs.Keys.{key_objects, objects_in};
-ghost use Rattle.stk_settings.specs.Infos.{info_in};
+ghost use Rattle.stk_meaning.specs.Typings.{is_among};
+ghost use Rattle.stk_meaning.specs.Keys.{key_objects, objects_in};
+ghost use Rattle.stk_function_env.specs.Infos.{info_in};
 ghost use Rattle.stk_weights.specs.Sums.{capped};
-ghost use Rattle.stk_weights.specs.Marks.{mark_of, pairs_of, one_where, pairs_with, counts_before, counts_of};
+ghost use Rattle.stk_weights.specs.Traits.{traits_of, pairs_of, one_where, pairs_with, counts_before, counts_of};
 
 use std::alloc::Global;
 use stk_base::NoMemory;
+use stk_function_env::{Key, KeyInfo};
 use stk_function_types::FunctionTypes;
-use stk_rules::{is_scalar, is_struct};
-use stk_settings::{Key, KeyInfo};
+use stk_type_rules::{is_scalar, is_struct};
 
 /// What a pair asks of a memory object: whether it is kept, and whether it has a name and a scalar or struct type.
 #[derive(Clone, Copy)]
-pub(crate) struct Mark {
+pub(crate) struct ObjectTraits {
     is_kept: bool,
     is_plain: bool,
 }
 
-/// Counts of objects: those that are kept, those that have a name and a scalar or struct type, those that are either, and the pairs
-/// among them.
+/// Counts of objects: those that are kept, those that have a name and a scalar or struct type, those that are either,
+/// and the pairs among them.
 #[derive(Clone, Copy)]
 struct Counts {
     kept: u64,
@@ -48,16 +48,16 @@ fn note_object(
     types: &FunctionTypes,
     kept: &[u32],
     info: &KeyInfo,
-    out: &mut Vec<Mark>,
+    out: &mut Vec<ObjectTraits>,
 ) -> Result<(), NoMemory>
-    ensures { OnOk result (out.new.items ≡ out.old.items ++ map (mark_of kept.now) (key_objects (typing_in types.now) (info_in info.now).name (info_in info.now).size (info_in info.now).key)) }
+    ensures { OnOk result (out.new.items ≡ out.old.items ++ map (traits_of kept.now) (key_objects (typing_in types.now) (info_in info.now).name (info_in info.now).size (info_in info.now).key)) }
 {
     match info.key {
         Key::Address(node) => {
             let ty = types.type_at(node);
             let is_kept = is_among(node, kept);
             let is_plain = info.name.is_some() && (is_scalar(ty) || is_struct(ty));
-            out.push(Mark { is_kept, is_plain })?;
+            out.push(ObjectTraits { is_kept, is_plain })?;
             Ok(())
         }
         Key::Parameter(_) | Key::Unset(_) | Key::Load(_) | Key::Call(_) | Key::Loop(_, _) => Ok(()),
@@ -65,14 +65,14 @@ fn note_object(
 }
 
 /// The memory objects among keys, in order, where these are kept.
-#[tactic(auto, using(crate::proofs::Marking::map_append))]
+#[tactic(auto, using(crate::proofs::TraitsShown::map_append))]
 pub(crate) fn objects_among(
     alloc: Global,
     types: &FunctionTypes,
     kept: &[u32],
     keys: &[KeyInfo],
-) -> Result<Vec<Mark>, NoMemory>
-    ensures { IfOk result (λ out. out.items ≡ map (mark_of kept.now) (objects_in (typing_in types.now) (map info_in keys.now))) }
+) -> Result<Vec<ObjectTraits>, NoMemory>
+    ensures { IfOk result (λ out. out.items ≡ map (traits_of kept.now) (objects_in (typing_in types.now) (map info_in keys.now))) }
 {
     let mut out = Vec::new(alloc);
     for info in keys {
@@ -101,23 +101,25 @@ fn pairs_with(is_kept: bool, is_plain: bool, counts: &Counts) -> u64
 }
 
 // The counts with one object more in front.
-fn counts_before(mark: Mark, counts: Counts) -> Counts
+fn counts_before(object_traits: ObjectTraits, counts: Counts) -> Counts
     requires kept { counts.kept + 1 < 2 ^ 64 }
     requires plain { counts.plain + 1 < 2 ^ 64 }
     requires either { counts.either + 1 < 2 ^ 64 }
-    ensures { result ≡ counts_before mark counts }
+    ensures { result ≡ counts_before object_traits counts }
 {
     Counts {
-        kept: one_where(mark.is_kept) + counts.kept,
-        plain: one_where(mark.is_plain) + counts.plain,
-        either: one_where(mark.is_kept || mark.is_plain) + counts.either,
-        pairs: pairs_with(mark.is_kept, mark.is_plain, &counts).saturating_add(counts.pairs),
+        kept: one_where(object_traits.is_kept) + counts.kept,
+        plain: one_where(object_traits.is_plain) + counts.plain,
+        either: one_where(object_traits.is_kept || object_traits.is_plain) + counts.either,
+        pairs: pairs_with(object_traits.is_kept, object_traits.is_plain, &counts).saturating_add(
+            counts.pairs,
+        ),
     }
 }
 
-/// The pairs of a kept object and another one with a name and a scalar or struct type, each counted once, or 2^64 - 1 where there are
-/// more. It goes through the objects once, from the back.
-pub(crate) fn pairs_among(list: &[Mark]) -> u64
+/// The pairs of a kept object and another one with a name and a scalar or struct type, each counted once, or 2^64 - 1
+/// where there are more. It goes through the objects once, from the back.
+pub(crate) fn pairs_among(list: &[ObjectTraits]) -> u64
     ensures { result ≡ capped (pairs_of list.now) }
 {
     let mut counts = Counts {

@@ -4,12 +4,12 @@ ghost use Rattle.std.specs.Prelude.{◌≡◌, ◌≤◌, ◌+◌, ◌*◌, ◌=
 ghost use Rattle.std.specs.Option.{option_map};
 ghost use Rattle.stk_ctype.specs.Types.{type_of};
 ghost use Rattle.stk_numbers.specs.Kinds.{width_of};
-ghost use Rattle.stk_operating.specs.Shown.{operation_shown, library_shown};
-ghost use Rattle.stk_runs.specs.Weights.{bits_in, operation_bits, is_product, operation_weight, step_weight, unary_weight, library_weight};
+ghost use Rattle.stk_operators.specs.Shown.{operation_shown, library_shown};
+ghost use Rattle.stk_meaning.specs.Weights.{bits_in, operation_bits, is_product, operation_weight, step_weight, unary_weight, library_weight};
 
 use stk_ctype::CType;
 use stk_numbers::{ArithOp, IntKind, width};
-use stk_operating::{Library, Operation, Stride};
+use stk_operators::{Library, Operation, Stride};
 use stk_tree::UnaryOp;
 
 // The bits of a kind.

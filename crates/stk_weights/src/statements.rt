@@ -5,19 +5,19 @@ ghost use Rattle.std.specs.Option.{option_map};
 ghost use Rattle.stk_ctype.specs.Types.{type_of};
 ghost use Rattle.stk_tree.specs.View.{given_expression, view_initialiser, view_statement_form, view_label, labels, maybe_initialiser};
 ghost use Rattle.stk_function_types.specs.Nodes.{typing_in};
-ghost use Rattle.stk_runs.specs.Weights.{scalar_weight, initial_weight, test_weight, label_weight, labels_weight};
-ghost use Rattle.stk_settings.specs.Settings.{setting_in};
-ghost use Rattle.stk_weights.specs.Met.{own_statement_weight};
+ghost use Rattle.stk_meaning.specs.Weights.{scalar_weight, initial_weight, test_weight, label_weight, labels_weight};
+ghost use Rattle.stk_function_env.specs.Settings.{setting_in};
+ghost use Rattle.stk_weights.specs.MarkedVisit.{own_statement_weight};
 ghost use Rattle.stk_weights.specs.Sums.{capped};
 
 use crate::forms::bits_of;
 use crate::operations::{bits_in, greater};
 use crate::storing::{kept_count, store_weight};
 use stk_ctype::CType;
+use stk_function_env::Setting;
 use stk_function_types::FunctionTypes;
-use stk_rules::is_scalar;
-use stk_settings::Setting;
 use stk_tree::{Expr, Init, Label, StmtForm};
+use stk_type_rules::is_scalar;
 
 // What the initialiser of a scalar of a type adds: 32 a bit of the object and of the expression.
 fn scalar_weight(types: &FunctionTypes, ty: &CType, init: &Init) -> u64

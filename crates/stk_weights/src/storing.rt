@@ -3,17 +3,18 @@
 ghost use Rattle.std.specs.Prelude.{◌≡◌, ◌≤◌, length};
 ghost use Rattle.stk_tree.specs.View.{view_expression, view_expression_form};
 ghost use Rattle.stk_function_types.specs.Nodes.{typing_in};
-ghost use Rattle.stk_runs.specs.Typings.{type_in};
-ghost use Rattle.stk_runs.specs.Places.{target_of};
-ghost use Rattle.stk_runs.specs.Weights.{bits_in, read_weight, store_weight, kept_weight};
-ghost use Rattle.stk_sites.specs.Sites.{role_in, use_in};
-ghost use Rattle.stk_settings.specs.Settings.{setting_in, target_in};
+ghost use Rattle.stk_meaning.specs.Typings.{type_in};
+ghost use Rattle.stk_meaning.specs.Places.{target_of};
+ghost use Rattle.stk_meaning.specs.Weights.{bits_in, read_weight, store_weight, kept_weight};
+ghost use Rattle.stk_function_types.specs.Visits.{role_in, use_in};
+ghost use Rattle.stk_function_env.specs.Settings.{setting_in};
+ghost use Rattle.stk_operators.specs.Targets.{target_shown};
 
 use crate::forms::bits_of;
 use crate::operations::bits_in;
-use stk_function_types::FunctionTypes;
-use stk_settings::{Setting, Target};
-use stk_sites::{Role, Use};
+use stk_function_env::Setting;
+use stk_function_types::{FunctionTypes, Role, Use};
+use stk_operators::Target;
 use stk_tree::{Expr, ExprForm};
 
 /// How many kept objects there are.
@@ -26,7 +27,7 @@ pub(crate) fn kept_count(setting: &Setting) -> u64
 
 // What a read of a place that is used so adds at a node.
 fn read_weight(types: &FunctionTypes, node: u32, used: Use, place: Target) -> u64
-    ensures is { result ≡ read_weight (typing_in types.now) node (use_in used) (target_in place) }
+    ensures is { result ≡ read_weight (typing_in types.now) node (use_in used) (target_shown place) }
     ensures few { result ≤ 2048 }
 {
     match used {
@@ -38,12 +39,12 @@ fn read_weight(types: &FunctionTypes, node: u32, used: Use, place: Target) -> u6
     }
 }
 
-/// What a store of so many bits to a place adds, where so many objects are kept: by name to a kept object 16 a bit; one that isn't by
-/// name 16 for each kept object.
+/// What a store of so many bits to a place adds, where so many objects are kept: by name to a kept object 16 a bit; one
+/// that isn't by name 16 for each kept object.
 pub(crate) fn store_weight(kept: u64, w: u64, place: Target) -> u64
     requires kept { kept ≤ 32 }
     requires bits { w ≤ 64 }
-    ensures is { result ≡ store_weight kept w (target_in place) }
+    ensures is { result ≡ store_weight kept w (target_shown place) }
     ensures few { result ≤ 1024 }
 {
     match place {

@@ -4,25 +4,25 @@ ghost use Rattle.std.specs.Prelude.{◌≡◌, ◌≤◌, ◌+◌, ◌*◌, ◌-
 ghost use Rattle.stk_tree.specs.Nodes.{function_nodes, unit_nodes};
 ghost use Rattle.stk_tree.specs.View.{view_function, view_unit};
 ghost use Rattle.stk_function_types.specs.Nodes.{typing_in};
-ghost use Rattle.stk_runs.specs.Keys.{function_visits, objects_in};
-ghost use Rattle.stk_runs.specs.Weights.{visits_weight, pairs_among, weight};
-ghost use Rattle.stk_settings.specs.Settings.{setting_in};
+ghost use Rattle.stk_meaning.specs.Keys.{function_visits, objects_in};
+ghost use Rattle.stk_meaning.specs.Weights.{visits_weight, pairs_among, weight};
+ghost use Rattle.stk_function_env.specs.Settings.{setting_in};
 ghost use Rattle.stk_weights.specs.Sums.{capped};
 ghost use Rattle.stk_weights.specs.Events.{counts};
 ghost use Rattle.stk_weights.specs.Counting.{total};
-ghost use Rattle.stk_weights.specs.Loads.{load, site_limit};
+ghost use Rattle.stk_weights.specs.Loads.{load, visit_limit};
 ghost use Rattle.stk_weights.specs.Units.{unit_weight, IsSettingOfFunction, IsWhole};
 
 use crate::counting::counted;
 use crate::events::function_events;
 use crate::objects::{objects_among, pairs_among};
-use crate::sites::sites_weight;
+use crate::visits::visits_weight;
 use std::alloc::Global;
 use stk_base::NoMemory;
-use stk_settings::Setting;
-use stk_sites::function_sites;
+use stk_function_env::Setting;
+use stk_function_types::function_visits;
+use stk_nodes::unit_nodes;
 use stk_tree::{Function, Unit};
-use stk_tree_nodes::unit_nodes;
 
 // 128 for each node of a unit, or 2^64 - 1 where that is more.
 fn nodes_weight(alloc: Global, unit: &Unit) -> Result<u64, NoMemory>
@@ -42,8 +42,8 @@ fn function_counts(alloc: Global, setting: &Setting, f: &Function) -> Result<u64
     Ok(count)
 }
 
-// What sites add, and 256 for each time that a register counts, or 2^64 - 1 where that is more.
-fn sum_of_sites(own: u64, count: u64) -> u64
+// What visits add, and 256 for each time that a register counts, or 2^64 - 1 where that is more.
+fn sum_of_visits(own: u64, count: u64) -> u64
     ensures { (m n : ℕ) → own ≡ capped m → count ≡ capped n → result ≡ capped (m + 256 * n) }
 {
     own.saturating_add(count.saturating_mul(256))
@@ -52,12 +52,12 @@ fn sum_of_sites(own: u64, count: u64) -> u64
 // What the nodes of a function add to 128 each, or 2^64 - 1 where that is more.
 fn function_weight(alloc: Global, setting: &Setting, f: &Function) -> Result<u64, NoMemory>
     ensures is { IfOk result (λ n. n ≡ capped (visits_weight (setting_in setting.now) true (function_visits (setting_in setting.now).typing (view_function f.now)))) }
-    ensures limited { let visits = function_visits (setting_in setting.now).typing (view_function f.now) in IfOk result (λ n. visits_weight (setting_in setting.now) true visits ≤ site_limit (setting_in setting.now) * load visits) }
+    ensures limited { let all_visits = function_visits (setting_in setting.now).typing (view_function f.now) in IfOk result (λ n. visits_weight (setting_in setting.now) true all_visits ≤ visit_limit (setting_in setting.now) * load all_visits) }
 {
-    let sites = function_sites(alloc, setting.types(), f)?;
-    let own = sites_weight(alloc, setting, sites.as_slice())?;
+    let visits = function_visits(alloc, setting.types(), f)?;
+    let own = visits_weight(alloc, setting, visits.as_slice())?;
     let count = function_counts(alloc, setting, f)?;
-    Ok(sum_of_sites(own, count))
+    Ok(sum_of_visits(own, count))
 }
 
 // 2,048 for each of so many objects and pairs, or 2^64 - 1 where that is more.
@@ -104,10 +104,10 @@ fn defined_weight(
     Ok(sum_of_three(nodes, own, objects))
 }
 
-/// The weight of the function that a setting is of, by the unit that its types are of: 128 for each node, what the table of weights adds
-/// to the nodes, 2,048 for each memory object, and as much for each pair of a kept object and another one that has a name and a scalar or
-/// struct type; or 2^64 - 1 where that is more, which it isn't where the unit has at most 20,000 nodes. A unit that defines no function
-/// has none. The only refusal is want of memory.
+/// The weight of the function that a setting is of, by the unit that its types are of: 128 for each node, what the
+/// table of weights adds to the nodes, 2,048 for each memory object, and as much for each pair of a kept object and
+/// another one that has a name and a scalar or struct type; or 2^64 - 1 where that is more, which it isn't where the
+/// unit has at most 20,000 nodes. A unit that defines no function has none.
 ///
 /// The setting is that of the function, as `Setting::new` makes it.
 pub fn weight_of(alloc: Global, setting: &Setting) -> Result<u64, NoMemory>

@@ -1,5 +1,5 @@
-//! The checker as a program, as in stk_prog. The gate runs it with a word on its command line, which it refuses with status 3
-//! before it reads or writes anything.
+//! The checker as a program, as in stk_prog. The gate runs it with a word on its command line, which it refuses with
+//! status 3 before it reads or writes anything.
 #![tactic(auto)]
 
 use std::process::ExitCode;

@@ -2,7 +2,7 @@ use Rattle.std.proofs.Common.{◌≡◌, List, Ok, Err, subst, sym}
 use Rattle.stk_ctype.specs.declared.symbol.NameEntry.{NameEntry}
 use Rattle.stk_tree.specs.declared.unit.Unit.{Unit as UnitCode}
 use Rattle.stk_tree.specs.View.{view_unit}
-use Rattle.stk_facts.specs.declared.untyped.Untyped.{Untyped}
+use Rattle.stk_type_rules.specs.declared.untyped.Untyped.{Untyped}
 use Rattle.stk_declare.specs.Answers.{Answers}
 use Rattle.stk_declare.specs.Declaring.{unit_declared}
 use Rattle.stk_accept.specs.Accepting.{LeavesHead, declared_head, no_head, refused_head}

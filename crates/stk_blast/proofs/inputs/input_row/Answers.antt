@@ -1,7 +1,7 @@
 use Rattle.std.proofs.Common.{◌+◌, length, get_or, sym, ap, subst, ◌∙◌, arith}
 use Rattle.std.proofs.lemmas.List.Sums.{sum_by_more_le}
 use Rattle.stk_arith.specs.Rows.{number, AreEdges}
-use Rattle.stk_bitwise.specs.Words.{row_from}
+use Rattle.stk_arith.specs.Words.{row_from}
 use Rattle.stk_blast.proofs.Residues.{length-row_from, edges_from, residue_at}
 use Rattle.stk_blast.proofs.inputs.input_row.Goals as goal
 

@@ -2,7 +2,7 @@ use Rattle.std.proofs.Common.{◌+◌, length, map, refl, sym, ◌∙◌}
 use Rattle.std.proofs.lemmas.Result.{err_from_is_err_and}
 use Rattle.stk_tree.specs.Syntax as s
 use Rattle.stk_tree.specs.View.{view_member}
-use Rattle.stk_decl_grammar.specs.Reading.{full_base_at, member_at, members_at, more_members_at}
+use Rattle.stk_grammar.specs.DeclarationReading.{full_base_at, member_at, members_at, more_members_at}
 use Rattle.stk_ctype.specs.Named.{named}
 use Rattle.stk_expr.proofs.Rows.{map_push}
 use Rattle.stk_decl.proofs.Rows.{first_begins, member_end, member_more, members_first, members_row, pushed_first, row_ends, row_fails, row_more, row_spent}

@@ -1,7 +1,7 @@
 use Rattle.std.proofs.Common.{◌≡◌, ◌+◌, ◌*◌, ◌-◌, map}
 use Rattle.stk_tree.specs.Syntax as s
 use Rattle.stk_tree.specs.View.{view_member}
-use Rattle.stk_decl_grammar.specs.Reading.{full_base_at, member_at, members_at, more_members_at}
+use Rattle.stk_grammar.specs.DeclarationReading.{full_base_at, member_at, members_at, more_members_at}
 use Rattle.stk_expr.specs.Fronts.{in_front}
 use Rattle.stk_ctype.specs.Named.{named}
 use Rattle.stk_decl.proofs.bases.+base.Given as goal

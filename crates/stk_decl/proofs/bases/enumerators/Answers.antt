@@ -2,7 +2,7 @@ use Rattle.std.proofs.Common.{◌+◌, length, map, refl, sym, ◌∙◌}
 use Rattle.std.proofs.lemmas.Result.{err_from_is_err_and}
 use Rattle.stk_tree.specs.Syntax as s
 use Rattle.stk_tree.specs.View.{view_enumerator}
-use Rattle.stk_decl_grammar.specs.Reading.{enumerator_at, enumerators_at, more_enumerators_at}
+use Rattle.stk_grammar.specs.DeclarationReading.{enumerator_at, enumerators_at, more_enumerators_at}
 use Rattle.stk_ctype.specs.Named.{named}
 use Rattle.stk_expr.proofs.Rows.{map_push}
 use Rattle.stk_decl.specs.Rows.{paired}

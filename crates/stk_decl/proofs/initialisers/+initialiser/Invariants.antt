@@ -1,7 +1,7 @@
 use Rattle.std.proofs.Common.{◌≡◌, ◌+◌, ◌*◌, ◌-◌, map}
 use Rattle.stk_tree.specs.Syntax as s
 use Rattle.stk_tree.specs.View.{view_item}
-use Rattle.stk_decl_grammar.specs.Reading.{initialiser_at, item_at, items_at, more_items_at, path_at}
+use Rattle.stk_grammar.specs.DeclarationReading.{initialiser_at, item_at, items_at, more_items_at, path_at}
 use Rattle.stk_expr.specs.Fronts.{in_front}
 use Rattle.stk_ctype.specs.Named.{named}
 use Rattle.stk_decl.specs.Rows.{paired}

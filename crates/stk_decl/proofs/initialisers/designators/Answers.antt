@@ -2,7 +2,7 @@ use Rattle.std.proofs.Common.{suc, ◌+◌, length, map, refl, sym, ◌∙◌, a
 use Rattle.std.proofs.lemmas.Result.{err_from_is_err_and}
 use Rattle.stk_tree.specs.View.{view_designator}
 use Rattle.stk_tree.specs.Syntax as s
-use Rattle.stk_decl_grammar.specs.Reading.{designator_at, designators_at}
+use Rattle.stk_grammar.specs.DeclarationReading.{designator_at, designators_at}
 use Rattle.stk_ctype.specs.Named.{named}
 use Rattle.stk_expr.proofs.Rows.{map_push, pushed_size}
 use Rattle.stk_decl.proofs.Rows.{designator_end, designator_more, designators_nesting-items, designators_row, none_begins, row_ends, row_fails, row_more, row_spent}

@@ -2,7 +2,7 @@ use Rattle.std.proofs.Common.{◌≡◌, ◌-◌, suc, length, map}
 use Rattle.stk_tree.specs.Nesting.{designators_nesting}
 use Rattle.stk_tree.specs.Syntax as s
 use Rattle.stk_tree.specs.View.{designators, view_designator}
-use Rattle.stk_decl_grammar.specs.Reading.{designator_at, designators_at}
+use Rattle.stk_grammar.specs.DeclarationReading.{designator_at, designators_at}
 use Rattle.stk_expr.specs.Fronts.{in_front}
 use Rattle.stk_ctype.specs.Named.{named}
 use Rattle.stk_decl.proofs.initialisers.designators.Given as goal

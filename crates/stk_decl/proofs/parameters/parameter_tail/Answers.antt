@@ -2,7 +2,7 @@ use Rattle.std.proofs.Common.{Bool, sym, ap, ◌∙◌}
 use Rattle.std.proofs.lemmas.Result.{err_from_is_err_and}
 use Rattle.stk_tree.specs.Syntax.{ParamTrees}
 use Rattle.stk_grammar.specs.Reading.{◌>>=◌, Found}
-use Rattle.stk_decl_grammar.specs.Reading.{parameter_at}
+use Rattle.stk_grammar.specs.DeclarationReading.{parameter_at}
 use Rattle.stk_ctype.specs.Named.{named}
 use Rattle.stk_decl.proofs.Steps.{Fails_along, Fails_behind, parameters_here}
 use Rattle.stk_decl.proofs.Rows.{as_tail}

@@ -2,7 +2,7 @@ use Rattle.std.proofs.Common.{◌≡◌, ◌-◌, ◌≤◌, map}
 use Rattle.stk_tree.specs.Nesting.{parameters_nesting}
 use Rattle.stk_tree.specs.Syntax as s
 use Rattle.stk_tree.specs.View.{parameters, view_parameter}
-use Rattle.stk_decl_grammar.specs.Reading.{more_parameters_at, parameter_at}
+use Rattle.stk_grammar.specs.DeclarationReading.{more_parameters_at, parameter_at}
 use Rattle.stk_expr.specs.Fronts.{in_front}
 use Rattle.stk_ctype.specs.Named.{named}
 use Rattle.stk_decl.specs.Rows.{first_of, paired}

@@ -3,9 +3,9 @@ use Rattle.std.proofs.lemmas.Result.{err_from_is_err_and}
 use Rattle.std.proofs.lemmas.List.{length-map}
 use Rattle.stk_tree.specs.Layout.{laid_declaration, unnumbered_at}
 use Rattle.stk_tree.specs.View.{view_declaration}
-use Rattle.stk_tree_layout.proofs.Few.{declaration_tokens-few}
-use Rattle.stk_lexeme.specs.Lexemes.{lexeme_of, lexemes_of, spans_of}
-use Rattle.stk_decl_grammar.specs.Declarations.{IsFront}
+use Rattle.stk_nodes.proofs.Few.{declaration_tokens-few}
+use Rattle.stk_grammar.specs.Lexemes.{lexeme_of, lexemes_of, spans_of}
+use Rattle.stk_grammar.specs.Declarations.{IsFront}
 use Rattle.stk_expr.specs.declared.parse.Parse.TheVariants as parse
 use Rattle.stk_ctype.specs.Named.{named}
 use Rattle.stk_decl.proofs.Placing.{laid_unlaid, laid_front_is, front_width_of}

@@ -1,9 +1,9 @@
 use Rattle.std.proofs.Common.{drop, sym, ◌∙◌, arith}
 use Rattle.std.proofs.lemmas.Result.{err_from_is_err_and}
 use Rattle.stk_tree.specs.View.{view_declaration}
-use Rattle.stk_decl_grammar.specs.Declarations.{front_tokens}
-use Rattle.stk_decl_grammar.proofs.Declarations.{front_sound}
-use Rattle.stk_decl_grammar.proofs.Laws.{front_found_unlaid, front_of_found, no_front_of_none}
+use Rattle.stk_grammar.specs.Declarations.{front_tokens}
+use Rattle.stk_grammar.proofs.Declarations.{front_sound}
+use Rattle.stk_grammar.proofs.DeclarationLaws.{front_found_unlaid, front_of_found, no_front_of_none}
 use Rattle.stk_ctype.specs.Named.{named}
 use Rattle.stk_expr.proofs.Rows.{none_of_fails}
 use Rattle.stk_decl.proofs.Leading.{rest_within}

@@ -1,8 +1,8 @@
 use Rattle.std.proofs.Common.{sym, ◌∙◌}
 use Rattle.std.proofs.lemmas.Result.{err_from_is_err_and}
 use Rattle.stk_tree.specs.View.{view_declaration}
-use Rattle.stk_decl_grammar.proofs.Declarations.{front_sound}
-use Rattle.stk_decl_grammar.proofs.Laws.{no_front_read}
+use Rattle.stk_grammar.proofs.Declarations.{front_sound}
+use Rattle.stk_grammar.proofs.DeclarationLaws.{no_front_read}
 use Rattle.stk_ctype.specs.Named.{named}
 use Rattle.stk_expr.proofs.Rows.{none_of_fails}
 use Rattle.stk_decl.proofs.reading.front_within.Goals as goal

@@ -1,7 +1,7 @@
 use Rattle.std.proofs.Common.{◌≡◌, ◌∙◌, ap, map, false, List}
 use Rattle.stk_ctype.specs.declared.ctype.CType.{CType}
 use Rattle.stk_ctype.specs.Types.{function_type, signature, type_of, row_of}
-use Rattle.stk_facts.specs.Facts.{Fact}
+use Rattle.stk_type_rules.specs.Facts.{Fact}
 use Rattle.stk_declarators.proofs.Rows.{function_sound}
 use Rattle.stk_declarators.proofs.functions.function_rule.Goals as goal
 

@@ -2,11 +2,11 @@ use Rattle.std.proofs.Common.{List, map, subst}
 use Rattle.stk_tree.specs.declared.declaration.Declr.{out-Declr}
 use Rattle.stk_tree.specs.declared.declaration.Param.{out-Param}
 use Rattle.stk_tree.specs.View.{view_base}
-use Rattle.stk_facts.specs.Facts.{Fact, Ruled, fact_of, fact_at}
-use Rattle.stk_facts.specs.Outcome.{Gives, IsAt, finish}
-use Rattle.stk_scope.specs.declared.arrays.Size.{Size}
-use Rattle.stk_scope.specs.Scope.{scope_of}
-use Rattle.stk_scope.specs.Arrays.{starred}
+use Rattle.stk_type_rules.specs.Facts.{Fact, Ruled, fact_of, fact_at}
+use Rattle.stk_type_rules.specs.Outcome.{Gives, IsAt, finish}
+use Rattle.stk_typing.specs.declared.arrays.Size.{Size}
+use Rattle.stk_typing.specs.Scope.{scope_of}
+use Rattle.stk_typing.specs.Arrays.{starred}
 use Rattle.stk_typing.specs.Forms.{structs_in}
 use Rattle.stk_typing.specs.Typing.{base_typed}
 use Rattle.stk_typing.proofs.Turns.{named_gives}

@@ -6,10 +6,10 @@ use Rattle.stk_ctype.specs.Types.{TypeTree, type_of}
 use Rattle.stk_tree.specs.declared.declaration.Declr.{out-Declr}
 use Rattle.stk_tree.specs.declared.declaration.Param.{out-Param}
 use Rattle.stk_tree.specs.View.{view_parameter, parameters}
-use Rattle.stk_facts.specs.Facts.{Fact, AreSoundFacts, fact_of, fact_at}
-use Rattle.stk_facts.specs.Outcome.{Gives, IsAt}
-use Rattle.stk_scope.specs.Locals.{Local, local_of}
-use Rattle.stk_scope.specs.Scope.{Scope}
+use Rattle.stk_type_rules.specs.Facts.{Fact, AreSoundFacts, fact_of, fact_at}
+use Rattle.stk_type_rules.specs.Outcome.{Gives, IsAt}
+use Rattle.stk_typing.specs.Locals.{Local, local_of}
+use Rattle.stk_typing.specs.Scope.{Scope}
 use Rattle.stk_typing.proofs.Turns.{next_of}
 use Rattle.stk_declarators.specs.Parameters.{Parameter, name_text, with_locals, as_local, parameter_typed, parameter_of}
 use Rattle.stk_declarators.specs.Rows.{file_scope}

@@ -1,10 +1,10 @@
 use Rattle.std.proofs.Common.{drop, map, List, Result}
 use Rattle.stk_ctype.specs.Structs.{structs_of}
 use Rattle.stk_tree.specs.View.{view_parameter, parameters}
-use Rattle.stk_facts.specs.declared.untyped.Untyped.{Untyped}
-use Rattle.stk_facts.specs.Facts.{AreSoundFacts, Fact, fact_of}
-use Rattle.stk_facts.specs.Outcome.{Gives}
-use Rattle.stk_scope.specs.Locals.{AreSoundLocals, Local, local_of}
+use Rattle.stk_type_rules.specs.declared.untyped.Untyped.{Untyped}
+use Rattle.stk_type_rules.specs.Facts.{AreSoundFacts, Fact, fact_of}
+use Rattle.stk_type_rules.specs.Outcome.{Gives}
+use Rattle.stk_typing.specs.Locals.{AreSoundLocals, Local, local_of}
 use Rattle.stk_declarators.specs.declared.prototypes.Params.{Params}
 use Rattle.stk_declarators.specs.Parameters.{parameters_typed}
 use Rattle.stk_declarators.specs.Rows.{AreParams, AreSoundTypes, file_scope}

@@ -3,7 +3,7 @@ use Rattle.std.specs.Option.{option_copied, option_map}
 use Rattle.stk_ctype.specs.declared.ctype.Signature.{Signature}
 use Rattle.stk_ctype.specs.Types.{signature_of, type_of}
 use Rattle.stk_ctype.specs.declared.symbol.Symbol.TheVariants as symbol
-use Rattle.stk_agree.proofs.Made.{made_type}
+use Rattle.stk_compatible.proofs.Made.{made_type}
 use Rattle.stk_declare.specs.Symbols.{function_meaning, signature_in}
 use Rattle.stk_declare.proofs.additions.meaning.Goals as goal
 

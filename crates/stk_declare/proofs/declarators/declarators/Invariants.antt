@@ -4,7 +4,7 @@ use Rattle.stk_ctype.specs.Sound.{IsSound}
 use Rattle.stk_ctype.specs.Types.{type_of}
 use Rattle.stk_ctype.specs.declared.symbol.NameEntry.{NameEntry}
 use Rattle.stk_tree.specs.View.{declarators, view_declarator}
-use Rattle.stk_facts.specs.declared.untyped.Untyped.{Untyped}
+use Rattle.stk_type_rules.specs.declared.untyped.Untyped.{Untyped}
 use Rattle.std.proofs.Common.{List}
 use Rattle.stk_declare.specs.Answers.{Answers, Extends}
 use Rattle.stk_declare.specs.Declaring.{declarators_declared}

@@ -4,9 +4,9 @@ use Rattle.stk_ctype.specs.Types.{type_of}
 use Rattle.stk_ctype.specs.Names.{find}
 use Rattle.stk_tree.specs.declared.declaration.Declr.{out-Declr}
 use Rattle.stk_tree.specs.View.{maybe_initialiser, view_initialiser, view_tail}
-use Rattle.stk_facts.specs.Facts.{fact_of}
-use Rattle.stk_scope.specs.Arrays.{starred}
-use Rattle.stk_scope.specs.Locals.{local_of}
+use Rattle.stk_type_rules.specs.Facts.{fact_of}
+use Rattle.stk_typing.specs.Arrays.{starred}
+use Rattle.stk_typing.specs.Locals.{local_of}
 use Rattle.stk_declare.specs.Symbols.{added, sort_of}
 use Rattle.stk_declare.proofs.Entries.{entry_gives, entry_stops}
 use Rattle.stk_declare.proofs.Views.{view_declarator_node}

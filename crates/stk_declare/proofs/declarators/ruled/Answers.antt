@@ -1,5 +1,5 @@
 use Rattle.std.proofs.Common.{◌≡◌, Err, rules}
-use Rattle.stk_facts.specs.declared.untyped.Untyped.TheVariants.{NoMemory}
+use Rattle.stk_type_rules.specs.declared.untyped.Untyped.TheVariants.{NoMemory}
 use Rattle.stk_declare.proofs.Answering.{free}
 use Rattle.stk_declare.proofs.declarators.ruled.Goals as goal
 

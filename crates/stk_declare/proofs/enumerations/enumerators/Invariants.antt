@@ -1,7 +1,7 @@
 use Rattle.std.proofs.Common.{◌≡◌, drop, map, List, Result}
 use Rattle.stk_ctype.specs.declared.symbol.NameEntry.{NameEntry}
 use Rattle.stk_tree.specs.View.{enumerators, view_enumerator}
-use Rattle.stk_facts.specs.declared.untyped.Untyped.{Untyped}
+use Rattle.stk_type_rules.specs.declared.untyped.Untyped.{Untyped}
 use Rattle.stk_declare.specs.declared.enumerations.Counter.{Counter}
 use Rattle.stk_declare.specs.Answers.{Answers, Extends}
 use Rattle.stk_declare.specs.Enumerations.{enumerators_declared, none_enumerated}

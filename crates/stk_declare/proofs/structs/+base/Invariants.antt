@@ -3,7 +3,7 @@ use Rattle.stk_ctype.specs.Structs.{structs_of}
 use Rattle.stk_ctype.specs.declared.symbol.MemberInfo.{MemberInfo}
 use Rattle.stk_ctype.specs.declared.symbol.NameEntry.{NameEntry}
 use Rattle.stk_tree.specs.View.{members as member_row, view_member}
-use Rattle.stk_facts.specs.declared.untyped.Untyped.{Untyped}
+use Rattle.stk_type_rules.specs.declared.untyped.Untyped.{Untyped}
 use Rattle.stk_declare.specs.Answers.{Answers, Extends}
 use Rattle.stk_declare.specs.Shown.{membered}
 use Rattle.stk_declare.specs.Structs.{members_declared}

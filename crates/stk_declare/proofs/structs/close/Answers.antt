@@ -4,7 +4,7 @@ use Rattle.stk_ctype.specs.declared.symbol.NameEntry.TheVariants as entry
 use Rattle.stk_ctype.specs.Structs.{structs_of}
 use Rattle.stk_ctype.specs.Sound.{RestsOn}
 use Rattle.stk_ctype.specs.Types.{struct_type}
-use Rattle.stk_facts.specs.Outcome.{Good, finish}
+use Rattle.stk_type_rules.specs.Outcome.{Good, finish}
 use Rattle.stk_declare.specs.Shown.{opening_of}
 use Rattle.stk_declare.specs.Structs.{struct_rule}
 use Rattle.stk_declare.proofs.Answering.{stops}

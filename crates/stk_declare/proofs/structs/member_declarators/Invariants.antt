@@ -5,7 +5,7 @@ use Rattle.stk_ctype.specs.Types.{type_of}
 use Rattle.stk_ctype.specs.declared.symbol.MemberInfo.{MemberInfo}
 use Rattle.stk_ctype.specs.declared.symbol.NameEntry.{NameEntry}
 use Rattle.stk_tree.specs.View.{declarators, view_declarator}
-use Rattle.stk_facts.specs.declared.untyped.Untyped.{Untyped}
+use Rattle.stk_type_rules.specs.declared.untyped.Untyped.{Untyped}
 use Rattle.stk_declare.specs.Answers.{Answers, Extends}
 use Rattle.stk_declare.specs.Shown.{membered}
 use Rattle.stk_declare.specs.Structs.{member_declarators}

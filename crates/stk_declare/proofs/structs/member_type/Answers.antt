@@ -4,9 +4,9 @@ use Rattle.stk_ctype.specs.Structs.{structs_of}
 use Rattle.stk_ctype.specs.Types.{type_of}
 use Rattle.stk_tree.specs.declared.declaration.Declr.{out-Declr}
 use Rattle.stk_tree.specs.View.{maybe_initialiser, view_initialiser, view_tail}
-use Rattle.stk_facts.specs.Outcome.{finish}
-use Rattle.stk_scope.specs.declared.arrays.Size.{Size}
-use Rattle.stk_scope.specs.Arrays.{declared_type, starred}
+use Rattle.stk_type_rules.specs.Outcome.{finish}
+use Rattle.stk_typing.specs.declared.arrays.Size.{Size}
+use Rattle.stk_typing.specs.Arrays.{declared_type, starred}
 use Rattle.stk_declare.specs.Answers.{Answers}
 use Rattle.stk_declare.specs.Structs.{member_rule, member_size_first}
 use Rattle.stk_declare.proofs.Entries.{IsFact, member_gives}

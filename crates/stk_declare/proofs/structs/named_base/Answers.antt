@@ -1,5 +1,5 @@
 use Rattle.std.proofs.Common.{◌≡◌, Err, ap, rules}
-use Rattle.stk_facts.specs.Facts.{Fact, fact_of}
+use Rattle.stk_type_rules.specs.Facts.{Fact, fact_of}
 use Rattle.stk_declare.proofs.Answering.{refused_same, weaker}
 use Rattle.stk_declare.proofs.Views.{view_base_node}
 use Rattle.stk_declare.proofs.structs.named_base.Goals as goal

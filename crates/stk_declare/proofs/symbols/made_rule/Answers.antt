@@ -2,10 +2,10 @@ use Rattle.std.proofs.Common.{◌≡◌, Result, Err, subst, rules}
 use Rattle.std.specs.Option.{option_map, option_copied}
 use Rattle.stk_ctype.specs.Structs.{structs_of}
 use Rattle.stk_tree.specs.View.{view_initialiser, maybe_initialiser}
-use Rattle.stk_facts.specs.declared.facts.NodeFact.{NodeFact}
-use Rattle.stk_facts.specs.declared.untyped.Broken.{Broken}
-use Rattle.stk_facts.specs.declared.untyped.Broken.TheVariants.{NoMemory}
-use Rattle.stk_facts.specs.Outcome.{MakesFact}
+use Rattle.stk_type_rules.specs.declared.facts.NodeFact.{NodeFact}
+use Rattle.stk_type_rules.specs.declared.untyped.Broken.{Broken}
+use Rattle.stk_type_rules.specs.declared.untyped.Broken.TheVariants.{NoMemory}
+use Rattle.stk_type_rules.specs.Outcome.{MakesFact}
 use Rattle.stk_declare.specs.Symbols.{made_rule}
 use Rattle.stk_declare.proofs.Rules.{free_as, made_err}
 use Rattle.stk_declare.proofs.symbols.made_rule.Goals as goal

@@ -2,8 +2,8 @@ use Rattle.std.proofs.Common.{◌≡◌, length, sym, ◌∙◌, arith, map}
 use Rattle.std.proofs.lemmas.List.{length-map}
 use Rattle.stk_tree.specs.Layout.{laid_expression, unnumbered_at}
 use Rattle.stk_tree.specs.View.{view_expression}
-use Rattle.stk_tree_layout.proofs.Few.{expression_tokens-few}
-use Rattle.stk_lexeme.specs.Lexemes.{lexeme_of, lexemes_of, spans_of}
+use Rattle.stk_nodes.proofs.Few.{expression_tokens-few}
+use Rattle.stk_grammar.specs.Lexemes.{lexeme_of, lexemes_of, spans_of}
 use Rattle.stk_grammar.specs.Expressions.{IsExpression}
 use Rattle.stk_ctype.specs.Named.{named}
 use Rattle.stk_expr.proofs.Placing.{laid_unlaid, laid_is, width_of}

@@ -1,4 +1,4 @@
-use Rattle.stk_finding_laws.proofs.Sites.{few_candidates}
+use Rattle.stk_finding_laws.proofs.Visits.{few_candidates}
 use Rattle.stk_finding_laws.proofs.laws.candidates_are_few.Goals as goal
 
 pub returns : goal.returns

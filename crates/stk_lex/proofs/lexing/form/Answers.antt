@@ -1,8 +1,8 @@
 use Rattle.std.proofs.Common.{sym, ◌∙◌, arith}
-use Rattle.stk_lex.specs.Classes.{is_word, is_number, is_character, is_text, is_mark, is_digraph}
-use Rattle.stk_lex.specs.Lengths.{word_length, number_length, character_length, text_length, mark_length, digraph_length}
+use Rattle.stk_lex.specs.Classes.{is_word, is_number, is_character, is_text, is_punctuator, is_digraph}
+use Rattle.stk_lex.specs.Lengths.{word_length, number_length, character_length, text_length, punctuator_length, digraph_length}
 use Rattle.stk_lex.specs.Cut.{digraph}
-use Rattle.stk_lex.proofs.Longest.{word_is_longest, number_is_longest, character_is_longest, text_is_longest, mark_is_longest, digraph_is_longest}
+use Rattle.stk_lex.proofs.Longest.{word_is_longest, number_is_longest, character_is_longest, text_is_longest, punctuator_is_longest, digraph_is_longest}
 use Rattle.stk_lex.proofs.First.{passes_of}
 use Rattle.stk_lex.proofs.lexing.form.Goals as goal
 
@@ -18,8 +18,8 @@ returns-then-character-most-clause-class c = passes_of is_character c.args.bytes
 pub returns-then-text-most-clause-class : goal.returns-then-text-most-clause-class
 returns-then-text-most-clause-class c = passes_of is_text c.args.bytes.now (text_length c.args.bytes.now) c.max-most.result (text_is_longest c.args.bytes.now) (sym c.if-text-most.true ∙ c.requires.text)
 
-pub returns-then-mark-most-clause-class : goal.returns-then-mark-most-clause-class
-returns-then-mark-most-clause-class c = passes_of is_mark c.args.bytes.now (mark_length c.args.bytes.now) c.max-most.result (mark_is_longest c.args.bytes.now) (sym c.if-mark-most.true ∙ c.mark_length-mark.ensures.value)
+pub returns-then-punctuator-most-clause-class : goal.returns-then-punctuator-most-clause-class
+returns-then-punctuator-most-clause-class c = passes_of is_punctuator c.args.bytes.now (punctuator_length c.args.bytes.now) c.max-most.result (punctuator_is_longest c.args.bytes.now) (sym c.if-punctuator-most.true ∙ c.punctuator_length-punctuator.ensures.value)
 
-pub returns-else-mark-most-clause-class : goal.returns-else-mark-most-clause-class
-returns-else-mark-most-clause-class c = λ some. digraph (passes_of is_digraph c.args.bytes.now (digraph_length c.args.bytes.now) c.max-most.result (digraph_is_longest c.args.bytes.now) (omega arith) some)
+pub returns-else-punctuator-most-clause-class : goal.returns-else-punctuator-most-clause-class
+returns-else-punctuator-most-clause-class c = λ some. digraph (passes_of is_digraph c.args.bytes.now (digraph_length c.args.bytes.now) c.max-most.result (digraph_is_longest c.args.bytes.now) (omega arith) some)

@@ -1,11 +1,11 @@
 use Rattle.std.proofs.Common.{◌≡◌, ℕ, List, ℤ, length, replicate, None, refl}
 use Rattle.std.proofs.lemmas.Result.{IfOk-weaker}
 use Rattle.stk_tree.specs.View.{view_function}
-use Rattle.stk_settings.specs.Settings.{setting_in}
-use Rattle.stk_runs.specs.Worlds.{trace_of}
-use Rattle.stk_runs.specs.Statements.{statement_run}
-use Rattle.stk_runs.specs.Keys.{body_of}
-use Rattle.stk_runs.specs.Paths.{path_world, number_under, path}
+use Rattle.stk_function_env.specs.Settings.{setting_in}
+use Rattle.stk_meaning.specs.Worlds.{trace_of}
+use Rattle.stk_meaning.specs.Statements.{statement_run}
+use Rattle.stk_meaning.specs.Keys.{body_of}
+use Rattle.stk_meaning.specs.Paths.{path_world, number_under, path}
 use Rattle.stk_path_runs.proofs.Made.{told}
 use Rattle.stk_path_runs.proofs.running.path_run.Goals as goal
 

@@ -1,5 +1,5 @@
 use Rattle.std.proofs.Common.{◌≡◌, ◌++◌, length, map}
-use Rattle.stk_runs.specs.Replacements.{spelled}
+use Rattle.stk_meaning.specs.Replacements.{spelled}
 use Rattle.stk_replacements.specs.Spaced.{each_before}
 use Rattle.stk_replacements.proofs.text.add_before.Given as goal
 

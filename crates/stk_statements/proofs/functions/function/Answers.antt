@@ -1,10 +1,10 @@
 use Rattle.std.proofs.Common.{◌≡◌, Err, map, rules}
 use Rattle.stk_tree.specs.View.{view_base, view_declarator, view_statement}
-use Rattle.stk_facts.specs.Facts.{fact_of}
-use Rattle.stk_facts.specs.Outcome.{finish}
-use Rattle.stk_scope.specs.Locals.{local_of}
-use Rattle.stk_bodies.specs.Functions.{storage_rule}
-use Rattle.stk_body_parts.proofs.Turns.{any_err}
+use Rattle.stk_type_rules.specs.Facts.{fact_of}
+use Rattle.stk_type_rules.specs.Outcome.{finish}
+use Rattle.stk_typing.specs.Locals.{local_of}
+use Rattle.stk_function_types.specs.Functions.{storage_rule}
+use Rattle.stk_statements.proofs.Turns.{any_err}
 use Rattle.stk_statements.proofs.Definitions.{any_ok, function_answers}
 use Rattle.stk_statements.proofs.functions.function.Goals as goal
 

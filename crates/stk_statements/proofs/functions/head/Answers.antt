@@ -4,14 +4,14 @@ use Rattle.stk_ctype.specs.Types.{TypeTree, type_of}
 use Rattle.stk_ctype.specs.Structs.{structs_of}
 use Rattle.stk_tree.specs.declared.declaration.Declr.{out-Declr}
 use Rattle.stk_tree.specs.View.{view_tail}
-use Rattle.stk_facts.specs.Facts.{Ruled, fact_of}
-use Rattle.stk_facts.specs.Outcome.{MakesFact}
-use Rattle.stk_scope.specs.Locals.{local_of}
-use Rattle.stk_scope.specs.Arrays.{starred}
+use Rattle.stk_type_rules.specs.Facts.{Ruled, fact_of}
+use Rattle.stk_type_rules.specs.Outcome.{MakesFact}
+use Rattle.stk_typing.specs.Locals.{local_of}
+use Rattle.stk_typing.specs.Arrays.{starred}
 use Rattle.stk_declarators.specs.Rows.{file_scope}
 use Rattle.stk_declarators.specs.Tails.{TailShape, tail_type, tail_typed}
 use Rattle.stk_statements.proofs.Seen.{head_is}
-use Rattle.stk_statements.proofs.Turns.{head_gives, head_stops}
+use Rattle.stk_statements.proofs.StatementTurns.{head_gives, head_stops}
 use Rattle.stk_statements.proofs.functions.head.Goals as goal
 
 pub returns-clause-gives : goal.returns-clause-gives

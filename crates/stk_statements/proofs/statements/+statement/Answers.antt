@@ -6,23 +6,23 @@ use Rattle.stk_tree.specs.declared.statement.Section.{Section, out-Section}
 use Rattle.stk_tree.specs.declared.statement.Stmt.{Stmt, out-Stmt}
 use Rattle.stk_tree.specs.declared.statement.Label.{Label}
 use Rattle.stk_tree.specs.View.{given_expression, labels, maybe_statement, parts, sections, statements, view_expression, view_label, view_part, view_section, view_start, view_statement}
-use Rattle.stk_facts.specs.Facts.{Fact, fact_of}
-use Rattle.stk_facts.specs.Outcome.{IsAt}
-use Rattle.stk_facts.proofs.Steps.{stops}
-use Rattle.stk_rules.specs.Types.{kind_of}
-use Rattle.stk_scope.specs.Locals.{local_of}
-use Rattle.stk_scope.specs.declared.locals.LocalName.{LocalName}
+use Rattle.stk_type_rules.specs.Facts.{Fact, fact_of}
+use Rattle.stk_type_rules.specs.Outcome.{IsAt}
+use Rattle.stk_type_rules.proofs.Steps.{stops}
+use Rattle.stk_type_rules.specs.Types.{kind_of}
+use Rattle.stk_typing.specs.Locals.{local_of}
+use Rattle.stk_typing.specs.declared.locals.LocalName.{LocalName}
 use Rattle.stk_typing.specs.Typing.{expression_typed}
 use Rattle.stk_typing.proofs.Turns.{below, next_of, nil}
-use Rattle.stk_bodies.specs.Bodies.{Body, looped, opened, switched, with_more}
-use Rattle.stk_bodies.specs.Sections.{carried, labels_typed, unlabelled}
-use Rattle.stk_bodies.specs.Statements.{maybe_statement_typed, parts_typed, section_typed, sections_typed, start_typed, statement_typed, statements_typed}
-use Rattle.stk_body_parts.specs.Places.{body_in}
-use Rattle.stk_body_parts.specs.Rows.{AnyFact, AnyLabels, IsKnown, IsStarted, Nothing}
-use Rattle.stk_body_parts.proofs.Counts.{begins_then}
-use Rattle.stk_body_parts.proofs.Turns.{Labels_are, more_body}
+use Rattle.stk_function_types.specs.Bodies.{Body, looped, opened, switched, with_more}
+use Rattle.stk_function_types.specs.Sections.{carried, labels_typed, unlabelled}
+use Rattle.stk_function_types.specs.Statements.{maybe_statement_typed, parts_typed, section_typed, sections_typed, start_typed, statement_typed, statements_typed}
+use Rattle.stk_statements.specs.Places.{body_in}
+use Rattle.stk_statements.specs.Rows.{AnyFact, AnyLabels, IsKnown, IsStarted, Nothing}
+use Rattle.stk_statements.proofs.Counts.{begins_then}
+use Rattle.stk_statements.proofs.Turns.{Labels_are, more_body}
 use Rattle.stk_statements.proofs.Seen.{block_typed, do_typed, for_typed, if_typed, switch_typed, view_sections, while_typed}
-use Rattle.stk_statements.proofs.Turns.{parts_turn, sections_turn, started_below, statements_turn, still_below}
+use Rattle.stk_statements.proofs.StatementTurns.{parts_turn, sections_turn, started_below, statements_turn, still_below}
 use Rattle.stk_statements.proofs.Arms.{again, block_whole, do_second, do_whole, for_fourth, for_second, for_third, for_whole, if_first, if_second, if_third, if_whole, section_first, section_second, section_whole, still, switch_first, switch_second, switch_whole, while_first, while_second, while_whole}
 use Rattle.stk_statements.proofs.statements.+statement.Goals as goal
 

@@ -1,16 +1,16 @@
 use Rattle.std.proofs.Common.{◌≡◌, drop, map, List, Result}
 use Rattle.stk_ctype.specs.Structs.{structs_of}
 use Rattle.stk_tree.specs.View.{view_part, view_section, view_statement, parts, sections, statements}
-use Rattle.stk_facts.specs.declared.untyped.Untyped.{Untyped}
-use Rattle.stk_facts.specs.Facts.{AreSoundFacts, Fact, fact_of}
-use Rattle.stk_facts.specs.Outcome.{Gives}
-use Rattle.stk_scope.specs.Locals.{AreSoundLocals, local_of}
-use Rattle.stk_body_parts.specs.declared.labels.Labels.{Labels}
-use Rattle.stk_body_parts.specs.Places.{Begins, body_in}
-use Rattle.stk_bodies.specs.Sections.{Labelled}
-use Rattle.stk_bodies.specs.Statements.{parts_typed, sections_typed, statements_typed}
-use Rattle.stk_body_parts.specs.Rows.{IsLabelled, Nothing}
-use Rattle.stk_body_parts.proofs.Turns.{Labels_are}
+use Rattle.stk_type_rules.specs.declared.untyped.Untyped.{Untyped}
+use Rattle.stk_type_rules.specs.Facts.{AreSoundFacts, Fact, fact_of}
+use Rattle.stk_type_rules.specs.Outcome.{Gives}
+use Rattle.stk_typing.specs.Locals.{AreSoundLocals, local_of}
+use Rattle.stk_statements.specs.declared.labels.Labels.{Labels}
+use Rattle.stk_statements.specs.Places.{Begins, body_in}
+use Rattle.stk_function_types.specs.Sections.{Labelled}
+use Rattle.stk_function_types.specs.Statements.{parts_typed, sections_typed, statements_typed}
+use Rattle.stk_statements.specs.Rows.{IsLabelled, Nothing}
+use Rattle.stk_statements.proofs.Turns.{Labels_are}
 use Rattle.stk_statements.proofs.statements.+statement.Given as goal
 
 -- what completes the rest completes the whole

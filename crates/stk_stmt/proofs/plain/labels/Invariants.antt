@@ -1,7 +1,7 @@
 use Rattle.std.proofs.Common.{◌≡◌, ◌-◌, map}
 use Rattle.stk_tree.specs.Syntax as s
 use Rattle.stk_tree.specs.View.{view_label}
-use Rattle.stk_stmt_grammar.specs.Reading.{labels_at}
+use Rattle.stk_grammar.specs.StatementReading.{labels_at}
 use Rattle.stk_expr.specs.Fronts.{in_front}
 use Rattle.stk_ctype.specs.Named.{named}
 use Rattle.stk_stmt.specs.Sections.{some_labels_at}

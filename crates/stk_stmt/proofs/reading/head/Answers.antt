@@ -2,7 +2,7 @@ use Rattle.std.proofs.Common.{◌≡◌, ◌++◌, [], ◌∷◌, Some, length, 
 use Rattle.std.proofs.lemmas.Result.{err_from_is_err_and}
 use Rattle.stk_tree.specs.Layout.{unit_laid_out}
 use Rattle.stk_tree.specs.View.{view_unit}
-use Rattle.stk_lexeme.specs.Lexemes.{lexemes_of, spans_of}
+use Rattle.stk_grammar.specs.Lexemes.{lexemes_of, spans_of}
 use Rattle.stk_ctype.specs.Named.{named}
 use Rattle.stk_expr.proofs.Rows.{none_of_fails}
 use Rattle.stk_stmt.specs.Heads.{ended_lexemes, ended_spans}

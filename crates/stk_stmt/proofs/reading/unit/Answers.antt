@@ -2,9 +2,9 @@ use Rattle.std.proofs.Common.{◌≡◌, Some, length, sym, ◌∙◌}
 use Rattle.std.proofs.lemmas.Result.{err_from_is_err_and}
 use Rattle.stk_tree.specs.Layout.{unit_laid_out}
 use Rattle.stk_tree.specs.View.{view_unit}
-use Rattle.stk_lexeme.specs.Lexemes.{lexemes_of, spans_of}
-use Rattle.stk_stmt_grammar.specs.Reading.{unit_at}
-use Rattle.stk_stmt_grammar.proofs.Laws.{none_of_none}
+use Rattle.stk_grammar.specs.Lexemes.{lexemes_of, spans_of}
+use Rattle.stk_grammar.specs.StatementReading.{unit_at}
+use Rattle.stk_grammar.proofs.StatementLaws.{none_of_none}
 use Rattle.stk_ctype.specs.Named.{named}
 use Rattle.stk_expr.proofs.Rows.{none_of_fails}
 use Rattle.stk_stmt.proofs.Placing.{few_nodes, laid_found, laid_places, one_span_each}

@@ -2,7 +2,7 @@ use Rattle.std.proofs.Common.{◌+◌, length, map, refl, sym, ap, ◌∙◌}
 use Rattle.std.proofs.lemmas.Result.{err_from_is_err_and}
 use Rattle.stk_tree.specs.Syntax as s
 use Rattle.stk_tree.specs.View.{view_part, view_section, view_statement}
-use Rattle.stk_stmt_grammar.specs.Reading.{behind_first, parts_at, section_at, sections_at, statement_at, statement_on, statements_at}
+use Rattle.stk_grammar.specs.StatementReading.{behind_first, parts_at, section_at, sections_at, statement_at, statement_on, statements_at}
 use Rattle.stk_ctype.specs.Named.{named}
 use Rattle.stk_expr.proofs.Rows.{map_push}
 use Rattle.stk_stmt.specs.Loops.{for_with}

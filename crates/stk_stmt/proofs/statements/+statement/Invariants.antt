@@ -1,7 +1,7 @@
 use Rattle.std.proofs.Common.{◌≡◌, ◌+◌, ◌*◌, ◌-◌, suc, length, map}
 use Rattle.stk_tree.specs.Syntax as s
 use Rattle.stk_tree.specs.View.{view_part, view_section, view_statement}
-use Rattle.stk_stmt_grammar.specs.Reading.{parts_at, section_at, sections_at, statement_at, statements_at}
+use Rattle.stk_grammar.specs.StatementReading.{parts_at, section_at, sections_at, statement_at, statements_at}
 use Rattle.stk_expr.specs.Fronts.{in_front}
 use Rattle.stk_ctype.specs.Named.{named}
 use Rattle.stk_stmt.proofs.statements.+statement.Given as goal

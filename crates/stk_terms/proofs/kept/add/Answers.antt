@@ -1,7 +1,7 @@
 use Rattle.std.proofs.Common.{ap, sym, ◌∙◌, Some}
 use Rattle.stk_terms.proofs.Exact.{node_exact, node_same}
 use Rattle.stk_terms.proofs.Sharing.{once, said_at, adds, one_place_added}
-use Rattle.stk_terms.specs.contracts.term.NodePartialEq.TheImpl as node_eq
+use Rattle.stk_terms.specs.contracts.term.TermNodePartialEq.TheImpl as node_eq
 use Rattle.stk_terms.proofs.kept.add.Goals as goal
 
 pub returns-in_err-place-clause-once : goal.returns-in_err-place-clause-once

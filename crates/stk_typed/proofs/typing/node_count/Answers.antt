@@ -1,6 +1,6 @@
 use Rattle.std.proofs.Common.{◌<◌, ◌^◌, ap, arith, length, rules}
 use Rattle.stk_tree.specs.View.{view_unit}
-use Rattle.stk_tree_nodes.proofs.Lengths.{unit_row-length}
+use Rattle.stk_nodes.proofs.Lengths.{unit_row-length}
 use Rattle.stk_typed.proofs.typing.node_count.Goals as goal
 
 pub overflow_cast-result : goal.overflow_cast-result

@@ -3,14 +3,14 @@ use Rattle.std.proofs.lemmas.List.{drop_all, length-map}
 use Rattle.stk_tree.specs.declared.expression.Expr.{out-Expr}
 use Rattle.stk_tree.specs.declared.declaration.TypeName.{out-TypeName}
 use Rattle.stk_tree.specs.View.{expressions, dimensions, view_base, view_dimension, view_expression, view_expression_form, view_type_name}
-use Rattle.stk_facts.specs.Facts.{Fact, fact_of, fact_at}
-use Rattle.stk_facts.specs.Outcome.{Gives, IsAt, finish}
-use Rattle.stk_facts.proofs.Steps.{one, two, stops, second_stops}
-use Rattle.stk_rules.specs.Rules.{size_rule, type_size_rule, cast_rule, choice_rule}
-use Rattle.stk_scope.specs.declared.arrays.Size.{Size}
-use Rattle.stk_scope.specs.declared.arrays.Size.TheVariants.{Sized}
-use Rattle.stk_scope.specs.Scope.{scope_of}
-use Rattle.stk_scope.specs.Arrays.{starred, sized_type}
+use Rattle.stk_type_rules.specs.Facts.{Fact, fact_of, fact_at}
+use Rattle.stk_type_rules.specs.Outcome.{Gives, IsAt, finish}
+use Rattle.stk_type_rules.proofs.Steps.{one, two, stops, second_stops}
+use Rattle.stk_type_rules.specs.Rules.{size_rule, type_size_rule, cast_rule, choice_rule}
+use Rattle.stk_typing.specs.declared.arrays.Size.{Size}
+use Rattle.stk_typing.specs.declared.arrays.Size.TheVariants.{Sized}
+use Rattle.stk_typing.specs.Scope.{scope_of}
+use Rattle.stk_typing.specs.Arrays.{starred, sized_type}
 use Rattle.stk_typing.specs.declared.calls.Arguments.{Arguments}
 use Rattle.stk_typing.specs.Calls.{behind}
 use Rattle.stk_typing.specs.Forms.{structs_in, single_rule, pair_rule}

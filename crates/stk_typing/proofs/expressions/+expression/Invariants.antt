@@ -1,11 +1,11 @@
 use Rattle.std.proofs.Common.{◌≡◌, drop, map, List, [], Result, Vec, Global}
 use Rattle.stk_ctype.specs.Structs.{structs_of}
 use Rattle.stk_tree.specs.View.{expressions, dimensions, view_expression, view_dimension}
-use Rattle.stk_facts.specs.declared.untyped.Untyped.{Untyped}
-use Rattle.stk_facts.specs.Facts.{AreSoundFacts, Fact, fact_of}
-use Rattle.stk_facts.specs.Outcome.{Gives}
-use Rattle.stk_scope.specs.declared.arrays.Size.{Size}
-use Rattle.stk_scope.specs.Scope.{scope_of}
+use Rattle.stk_type_rules.specs.declared.untyped.Untyped.{Untyped}
+use Rattle.stk_type_rules.specs.Facts.{AreSoundFacts, Fact, fact_of}
+use Rattle.stk_type_rules.specs.Outcome.{Gives}
+use Rattle.stk_typing.specs.declared.arrays.Size.{Size}
+use Rattle.stk_typing.specs.Scope.{scope_of}
 use Rattle.stk_typing.specs.declared.calls.Arguments.{Arguments}
 use Rattle.stk_typing.specs.Typing.{arguments_typed, dimensions_typed}
 use Rattle.stk_typing.proofs.Turns.{AreArguments, Merges, AreSizes}

@@ -1,14 +1,14 @@
 use Rattle.std.proofs.Common.{◌≤◌, List, ap, subst, ◌∙◌}
 use Rattle.stk_tree.specs.View.{view_function}
 use Rattle.stk_numbers.specs.declared.conditions.Candidate.{Candidate}
-use Rattle.stk_runs.specs.Keys.{input_bits}
-use Rattle.stk_runs.specs.Lists.{candidates}
+use Rattle.stk_meaning.specs.Keys.{input_bits}
+use Rattle.stk_meaning.specs.Lists.{candidates}
 use Rattle.stk_function_types.specs.Units.{TypedUnit}
 use Rattle.stk_function_types.specs.Nodes.{typing_in}
-use Rattle.stk_findings.specs.Findings.{AreLawful}
-use Rattle.stk_path_findings.specs.PathSubjects.{path_subject}
-use Rattle.stk_key_texts.specs.Placed.{placed_in}
-use Rattle.stk_finding_lines.specs.Lines.{findings_lines}
+use Rattle.stk_meaning.specs.Findings.{AreLawful}
+use Rattle.stk_judge.specs.PathSubjects.{path_subject}
+use Rattle.stk_unit_lines.specs.Placed.{placed_in}
+use Rattle.stk_unit_lines.specs.Lines.{findings_lines}
 use Rattle.stk_unit_lines.specs.Functions.{function_keys}
 use Rattle.stk_unit_lines.specs.UnitLines.{one_judged}
 use Rattle.stk_unit_lines.proofs.Typed.{all_whole}

@@ -1,6 +1,6 @@
 use Rattle.stk_tree.specs.View.{view_function}
 use Rattle.stk_function_types.specs.Nodes.{typing_in}
-use Rattle.stk_key_texts.specs.Placed.{placed_in}
+use Rattle.stk_unit_lines.specs.Placed.{placed_in}
 use Rattle.stk_unit_lines.proofs.Made.{next_lines, last_lines}
 use Rattle.stk_unit_lines.proofs.functions.lines_of.Goals as goal
 

@@ -1,8 +1,8 @@
 use Rattle.std.proofs.Common.{◌≡◌, ◌++◌, drop}
 use Rattle.stk_tree.specs.View.{view_function}
 use Rattle.stk_function_types.specs.Nodes.{typing_in}
-use Rattle.stk_key_texts.specs.Placed.{placed_in}
-use Rattle.stk_finding_lines.specs.Lines.{findings_lines}
+use Rattle.stk_unit_lines.specs.Placed.{placed_in}
+use Rattle.stk_unit_lines.specs.Lines.{findings_lines}
 use Rattle.stk_unit_lines.proofs.functions.lines_of.Given as goal
 
 abbrev pub invariant-loop-candidate : goal.invariant-loop-candidate

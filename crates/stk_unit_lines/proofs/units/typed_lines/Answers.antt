@@ -1,8 +1,8 @@
 use Rattle.std.proofs.Common.{◌≡◌, ◌≤◌, sym, ap, subst, ◌∙◌}
 use Rattle.stk_tree.specs.View.{view_function, view_unit}
-use Rattle.stk_runs.specs.Keys.{keys_of, input_bits}
-use Rattle.stk_runs.specs.Weights.{weight}
-use Rattle.stk_gathering.specs.TypedTree.{IsTypedTree}
+use Rattle.stk_meaning.specs.Keys.{keys_of, input_bits}
+use Rattle.stk_meaning.specs.Weights.{weight}
+use Rattle.stk_run_laws.specs.TypedTree.{IsTypedTree}
 use Rattle.stk_function_types.specs.Units.{TypedUnit}
 use Rattle.stk_function_types.specs.Nodes.{typing_in}
 use Rattle.stk_unit_lines.specs.Functions.{IsDefinition}

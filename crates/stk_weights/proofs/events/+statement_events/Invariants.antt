@@ -1,6 +1,6 @@
 use Rattle.std.proofs.Common.{◌≡◌, ◌++◌, drop, map}
 use Rattle.stk_tree.specs.View.{view_statement, view_part, view_section, statements, parts, sections}
-use Rattle.stk_settings.specs.Settings.{setting_in}
+use Rattle.stk_function_env.specs.Settings.{setting_in}
 use Rattle.stk_weights.specs.Events.{statements_events, parts_events, sections_events}
 use Rattle.stk_weights.proofs.events.+statement_events.Given as goal
 

@@ -1,18 +1,18 @@
 use Rattle.std.proofs.Common.{◌≡◌, ◌++◌, OnOk, List, map, true, ap, ◌∙◌, subst, rules}
 use Rattle.stk_tree.specs.View.{view_declaration}
-use Rattle.stk_runs.specs.Visits.{Visits, declaration_visits}
+use Rattle.stk_meaning.specs.Visits.{Visits, declaration_visits}
 use Rattle.stk_function_types.specs.Nodes.{typing_in}
-use Rattle.stk_sites.specs.Sites.{Met, met_of, met_in}
-use Rattle.stk_sites.specs.Gathered.{gathered}
-use Rattle.stk_sites.proofs.Gathering.{gathered-met_in}
-use Rattle.stk_settings.specs.Settings.{setting_in}
+use Rattle.stk_function_types.specs.Visits.{MarkedVisit, marked_visit, marked_visits}
+use Rattle.stk_function_types.specs.Gathered.{gathered}
+use Rattle.stk_function_types.proofs.Gathering.{gathered-marked_visits}
+use Rattle.stk_function_env.specs.Settings.{setting_in}
 use Rattle.stk_weights.specs.declared.events.Event.{Event}
-use Rattle.stk_weights.specs.Events.{site_events}
+use Rattle.stk_weights.specs.Events.{visit_events}
 use Rattle.stk_weights.proofs.events.declaration_events.Goals as goal
 
 pub returns : goal.returns
 returns c =
     let g = setting_in c.args.setting.now in
-    let visits : Visits = declaration_visits (typing_in c.args.setting.now.types) (view_declaration c.args.d.now) in
-    let met : map met_of c.as_slice.result.now ≡ met_in true visits = search rules in
-    subst (λ (xs : List Event). OnOk c.sites_events.result (c.sites_events.new.out.items ≡ c.args.out.now.items ++ xs)) (ap (λ (ms : List Met). gathered (site_events g) ms) met ∙ gathered-met_in (site_events g) visits) c.sites_events.ensures
+    let all_visits : Visits = declaration_visits (typing_in c.args.setting.now.types) (view_declaration c.args.d.now) in
+    let met : map marked_visit c.as_slice.result.now ≡ marked_visits true all_visits = search rules in
+    subst (λ (xs : List Event). OnOk c.visits_events.result (c.visits_events.new.out.items ≡ c.args.out.now.items ++ xs)) (ap (λ (ms : List MarkedVisit). gathered (visit_events g) ms) met ∙ gathered-marked_visits (visit_events g) all_visits) c.visits_events.ensures

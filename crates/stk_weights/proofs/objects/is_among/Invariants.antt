@@ -1,5 +1,5 @@
 use Rattle.std.proofs.Common.{◌≡◌, drop}
-use Rattle.stk_runs.specs.Typings.{is_among}
+use Rattle.stk_meaning.specs.Typings.{is_among}
 use Rattle.stk_weights.proofs.objects.is_among.Given as goal
 
 abbrev pub invariant-loop-other : goal.invariant-loop-other

@@ -1,9 +1,9 @@
 use Rattle.std.proofs.Common.{◌≡◌, ◌++◌, drop, map}
 use Rattle.stk_function_types.specs.Nodes.{typing_in}
-use Rattle.stk_runs.specs.Keys.{objects_in}
-use Rattle.stk_settings.specs.Infos.{info_in}
-use Rattle.stk_weights.specs.Marks.{mark_of}
+use Rattle.stk_meaning.specs.Keys.{objects_in}
+use Rattle.stk_function_env.specs.Infos.{info_in}
+use Rattle.stk_weights.specs.Traits.{traits_of}
 use Rattle.stk_weights.proofs.objects.objects_among.Given as goal
 
 abbrev pub invariant-loop-info : goal.invariant-loop-info
-invariant-loop-info l = l.out.items ++ map (mark_of l.kept) (objects_in (typing_in l.types) (map info_in (drop l.info-index l.keys))) ≡ map (mark_of l.kept) (objects_in (typing_in l.types) (map info_in l.keys))
+invariant-loop-info l = l.out.items ++ map (traits_of l.kept) (objects_in (typing_in l.types) (map info_in (drop l.info-index l.keys))) ≡ map (traits_of l.kept) (objects_in (typing_in l.types) (map info_in l.keys))

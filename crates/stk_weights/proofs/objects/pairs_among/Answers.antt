@@ -1,7 +1,7 @@
 use Rattle.std.proofs.Common.{◌≡◌, drop, ap, ◌∙◌, arith, length-drop}
 use Rattle.stk_weights.specs.declared.objects.Counts.{Counts}
-use Rattle.stk_weights.specs.Marks.{counts_of}
-use Rattle.stk_weights.proofs.Marking.{few_counts, pairs_counted}
+use Rattle.stk_weights.specs.Traits.{counts_of}
+use Rattle.stk_weights.proofs.TraitsShown.{few_counts, pairs_counted}
 use Rattle.stk_weights.proofs.objects.pairs_among.Goals as goal
 
 pub counts_before-counts-requires-clause-kept : goal.counts_before-counts-requires-clause-kept

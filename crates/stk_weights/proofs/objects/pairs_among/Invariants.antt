@@ -1,5 +1,5 @@
 use Rattle.std.proofs.Common.{◌≡◌, ◌≤◌, ◌<◌, ◌^◌, drop, length}
-use Rattle.stk_weights.specs.Marks.{counts_of}
+use Rattle.stk_weights.specs.Traits.{counts_of}
 use Rattle.stk_weights.proofs.objects.pairs_among.Given as goal
 
 abbrev pub decreases-loop-left : goal.decreases-loop-left

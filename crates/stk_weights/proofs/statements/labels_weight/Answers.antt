@@ -1,7 +1,7 @@
 use Rattle.std.proofs.Common.{List, drop, map, ap, arith}
 use Rattle.stk_tree.specs.declared.statement.Label.{Label}
 use Rattle.stk_tree.specs.View.{view_label, labels}
-use Rattle.stk_runs.specs.Weights.{labels_weight}
+use Rattle.stk_meaning.specs.Weights.{labels_weight}
 use Rattle.stk_weights.proofs.Ends.{drop_none, summed_end}
 use Rattle.stk_weights.proofs.statements.labels_weight.Goals as goal
 

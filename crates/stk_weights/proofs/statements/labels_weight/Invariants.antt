@@ -1,6 +1,6 @@
 use Rattle.std.proofs.Common.{◌≡◌, ◌+◌, ◌-◌, ◌^◌, ◌≤◌, drop, map}
 use Rattle.stk_tree.specs.View.{view_label, labels}
-use Rattle.stk_runs.specs.Weights.{labels_weight}
+use Rattle.stk_meaning.specs.Weights.{labels_weight}
 use Rattle.stk_weights.specs.Sums.{capped}
 use Rattle.stk_weights.proofs.statements.labels_weight.Given as goal
 

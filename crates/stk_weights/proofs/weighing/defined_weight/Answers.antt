@@ -1,11 +1,11 @@
 use Rattle.std.proofs.Common.{◌*◌, ◌≤◌, true, ◌∙◌, subst}
 use Rattle.stk_tree.specs.View.{view_function}
 use Rattle.stk_function_types.specs.Nodes.{typing_in}
-use Rattle.stk_runs.specs.Places.{Setting}
-use Rattle.stk_runs.specs.Keys.{function_visits}
-use Rattle.stk_runs.specs.Weights.{visits_weight, weight}
-use Rattle.stk_settings.specs.Settings.{setting_in}
-use Rattle.stk_weights.specs.Loads.{load, site_limit}
+use Rattle.stk_meaning.specs.Places.{Setting}
+use Rattle.stk_meaning.specs.Keys.{function_visits}
+use Rattle.stk_meaning.specs.Weights.{visits_weight, weight}
+use Rattle.stk_function_env.specs.Settings.{setting_in}
+use Rattle.stk_weights.specs.Loads.{load, visit_limit}
 use Rattle.stk_weights.proofs.Wholes.{weight_is, weight_few, exactly}
 use Rattle.stk_weights.proofs.weighing.defined_weight.Goals as goal
 
@@ -16,5 +16,5 @@ returns-clause-is c =
 pub returns-clause-exact : goal.returns-clause-exact
 returns-clause-exact c = λ few.
     let f = view_function c.args.f.now in
-    let limited = subst (λ (g : Setting). visits_weight g true (function_visits g.typing f) ≤ site_limit g * load (function_visits g.typing f)) c.requires.whole.setting c.in_ok-own.ensures.limited in
+    let limited = subst (λ (g : Setting). visits_weight g true (function_visits g.typing f) ≤ visit_limit g * load (function_visits g.typing f)) c.requires.whole.setting c.in_ok-own.ensures.limited in
     exactly c.sum_of_three.result (weight (typing_in c.args.setting.now.types) c.args.setting.now.without f) (returns-clause-is c) (weight_few (typing_in c.args.setting.now.types) c.args.setting.now.without f few limited)

@@ -1,7 +1,7 @@
 use Rattle.std.proofs.Common.{ℕ, List, ap, ◌∙◌}
 use Rattle.stk_tree.specs.View.{view_function}
-use Rattle.stk_runs.specs.Keys.{body_of}
-use Rattle.stk_settings.specs.Settings.{setting_in}
+use Rattle.stk_meaning.specs.Keys.{body_of}
+use Rattle.stk_function_env.specs.Settings.{setting_in}
 use Rattle.stk_weights.specs.declared.events.Event.{Event}
 use Rattle.stk_weights.specs.Sums.{capped}
 use Rattle.stk_weights.specs.Events.{statement_events}

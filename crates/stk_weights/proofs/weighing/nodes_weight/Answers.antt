@@ -1,6 +1,6 @@
 use Rattle.std.proofs.Common.{ap, arith, length}
 use Rattle.stk_tree.specs.View.{view_unit}
-use Rattle.stk_tree_nodes.proofs.Lengths.{unit_row-length}
+use Rattle.stk_nodes.proofs.Lengths.{unit_row-length}
 use Rattle.stk_weights.proofs.weighing.nodes_weight.Goals as goal
 
 pub returns : goal.returns

@@ -1,5 +1,5 @@
 use Rattle.std.proofs.Common.{◌≡◌, ℕ, ◌*◌, [], ◌∷◌, List, get_or, set, sym, ◌∙◌, ap, subst, arith}
-use Rattle.stk_chains.specs.Chained.{Chained}
+use Rattle.stk_propagate.specs.WatchLists.{Chained}
 use Rattle.stk_propagate.proofs.Links.{Spare, Links, links_kept}
 use Rattle.stk_propagate.proofs.inner.Inner.keep.Goals as goal
 

@@ -1,6 +1,6 @@
 use Rattle.std.proofs.Common.{ℕ, ◌/◌, ◌<◌, List, length, set, sym, ap, subst, arith, Some}
 use Rattle.stk_clauses.specs.declared.literal.Lit.{Lit}
-use Rattle.stk_chains.specs.Chained.{Chained}
+use Rattle.stk_propagate.specs.WatchLists.{Chained}
 use Rattle.stk_propagate.specs.Linked.{pair_of}
 use Rattle.stk_propagate.proofs.Links.{Watches, Spare, Links, links_moved}
 use Rattle.stk_propagate.proofs.inner.Inner.move_to.Goals as goal

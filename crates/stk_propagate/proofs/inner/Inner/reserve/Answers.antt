@@ -1,5 +1,5 @@
 use Rattle.std.proofs.Common.{[], get_or, sym, subst}
-use Rattle.stk_assignment.specs.Assigned.{Assigned}
+use Rattle.stk_propagate.specs.Assigned.{Assigned}
 use Rattle.stk_propagate.specs.Fitting.{IsAlive}
 use Rattle.stk_propagate.proofs.Alive.{alive_blank}
 use Rattle.stk_propagate.proofs.inner.Inner.reserve.Goals as goal

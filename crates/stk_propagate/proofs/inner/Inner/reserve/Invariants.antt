@@ -1,5 +1,5 @@
 use Rattle.std.proofs.Common.{◌≡◌, [], take}
-use Rattle.stk_assignment.specs.Assigned.{Assigned}
+use Rattle.stk_propagate.specs.Assigned.{Assigned}
 use Rattle.stk_propagate.specs.Fitting.{Fits}
 use Rattle.stk_propagate.specs.Linked.{trailed, IsLinked}
 use Rattle.stk_propagate.proofs.inner.Inner.reserve.Given as goal

@@ -1,7 +1,7 @@
 use Rattle.std.proofs.Common.{◌≡◌, ◌≤◌, ◌<◌, ◌+◌, ◌^◌, List, [], ◌∷◌, ◌++◌, length, get_or, take, sym, ◌∙◌, ap, subst, arith}
 use Rattle.std.proofs.lemmas.List.{length-take, take_more}
 use Rattle.stk_clauses.specs.declared.literal.Lit.{Lit}
-use Rattle.stk_chains.specs.Chained.{Chained}
+use Rattle.stk_propagate.specs.WatchLists.{Chained}
 use Rattle.stk_propagate.specs.Fitting.{IsWatched, Fits}
 use Rattle.stk_propagate.specs.Linked.{trailed}
 use Rattle.stk_propagate.proofs.Links.{Watches}

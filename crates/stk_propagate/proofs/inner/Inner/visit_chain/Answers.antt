@@ -1,5 +1,5 @@
 use Rattle.std.proofs.Common.{◌≡◌, ◌⊎◌, ℕ, ◌*◌, ◌<◌, List, [], get_or, drop, refl, sym, ◌∙◌, ap, subst, arith}
-use Rattle.stk_chains.specs.Chained.{Chained}
+use Rattle.stk_propagate.specs.WatchLists.{Chained}
 use Rattle.stk_propagate.proofs.Links.{Spare, Links, links_taken}
 use Rattle.stk_propagate.proofs.Plain.{links_plain}
 use Rattle.stk_propagate.proofs.Visiting.{grown_refl, grown_trans}

@@ -1,6 +1,6 @@
 use Rattle.std.proofs.Common.{◌≡◌, ℕ, ◌+◌, ◌*◌, ◌<◌, List, [], length, get_or, set, ◌∙◌, ap, arith, refl, Some}
 use Rattle.stk_clauses.specs.declared.literal.Lit.{Lit}
-use Rattle.stk_chains.specs.Chained.{Chained}
+use Rattle.stk_propagate.specs.WatchLists.{Chained}
 use Rattle.stk_propagate.specs.Linked.{trailed}
 use Rattle.stk_propagate.proofs.Plain.{with_front}
 use Rattle.stk_propagate.proofs.Looks.{fits_long}

@@ -1,5 +1,5 @@
 use Rattle.std.proofs.Common.{◌-◌, length, get_or, take, subst}
-use Rattle.stk_analysis.specs.Learnt.{IsAsserting}
+use Rattle.stk_solver.specs.Learnt.{IsAsserting}
 use Rattle.stk_solver.proofs.search.Search.analyse.Goals as goal
 
 pub returns-clause-asserting : goal.returns-clause-asserting

@@ -1,5 +1,5 @@
 use Rattle.std.proofs.Common.{◌≡◌, ◌++◌, ◌∷◌, ◌∙◌, [], length, ap, subst, sym}
-use Rattle.stk_analysis.specs.Learnt.{AreLevels}
+use Rattle.stk_solver.specs.Learnt.{AreLevels}
 use Rattle.stk_solver.proofs.Leveling.{levels_pushed, none_empty}
 use Rattle.stk_solver.proofs.search.Search.decide.Goals as goal
 

@@ -1,7 +1,7 @@
 use Rattle.std.proofs.Common.{◌-◌, ◌∙◌, length, get_or, take, subst, sym}
 use Rattle.stk_clauses.specs.Propagation.{IsNew}
 use Rattle.stk_propagate.specs.Fitting.{IsAlive, IsTimely}
-use Rattle.stk_analysis.specs.Learnt.{IsAsserting}
+use Rattle.stk_solver.specs.Learnt.{IsAsserting}
 use Rattle.stk_solver.proofs.search.Search.learn.Goals as goal
 
 pub back_from-requires-clause-asserting : goal.back_from-requires-clause-asserting

@@ -5,9 +5,9 @@ use Rattle.stk_clauses.specs.declared.literal.Lit.{Lit}
 use Rattle.stk_clauses.specs.Propagation.{IsNew}
 use Rattle.stk_clauses.specs.Hints.{IsByHints}
 use Rattle.stk_clauses.specs.Derivations.{clauses_of_steps, AreSteps, AreNew}
-use Rattle.stk_assignment.specs.Assigned.{Assigned, IsAssigned}
+use Rattle.stk_propagate.specs.Assigned.{Assigned, IsAssigned}
 use Rattle.stk_propagate.specs.Fitting.{IsAlive, IsTimely}
-use Rattle.stk_analysis.specs.Learnt.{AreLevels}
+use Rattle.stk_solver.specs.Learnt.{AreLevels}
 use Rattle.stk_solver.proofs.Logging.{steps_more, new_more, clauses_pushed, still_full}
 use Rattle.stk_solver.proofs.search.Search.take_in.Goals as goal
 

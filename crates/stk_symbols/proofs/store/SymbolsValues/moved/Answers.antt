@@ -1,7 +1,7 @@
 use Rattle.std.proofs.Common.{◌∙◌, sym, pos}
 use Rattle.stk_ctype.specs.declared.kind.IntKind.TheVariants.{ULong}
 use Rattle.stk_numbers.specs.Values.{moved, exact_move}
-use Rattle.stk_operations.proofs.Moves.{residue_again}
+use Rattle.stk_symbols.proofs.Moves.{residue_again}
 use Rattle.stk_symbols.proofs.Answering.{both_ok, Raised, obeys, shown, operand_is, address, address_fits}
 use Rattle.stk_symbols.proofs.Growing.{under}
 use Rattle.stk_symbols.proofs.store.SymbolsValues.moved.Goals as goal

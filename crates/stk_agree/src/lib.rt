@@ -1,8 +1,0 @@
-//! When two types are the same, and when two declarations agree on a type (C11 6.2.7).
-#![tactic(auto)]
-
-mod agreement;
-mod comparing;
-
-pub use agreement::{Agreement, agree, agree_signature};
-pub use comparing::{is_same, is_same_row};

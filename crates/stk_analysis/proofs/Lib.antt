@@ -1,4 +1,0 @@
-pub mod Marking
-pub mod Leading
-pub mod Learning
-pub mod Collecting

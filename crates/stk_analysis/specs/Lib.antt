@@ -1,4 +1,0 @@
-pub mod Marking
-pub mod Guides
-pub mod Learnt
-pub mod Inside

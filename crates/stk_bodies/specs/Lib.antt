@@ -1,5 +1,0 @@
-pub mod Bodies
-pub mod Locals
-pub mod Sections
-pub mod Statements
-pub mod Functions

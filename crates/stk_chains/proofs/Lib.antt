@@ -1,4 +1,0 @@
-pub mod Numbers
-pub mod Following
-pub mod Apart
-pub mod Operations

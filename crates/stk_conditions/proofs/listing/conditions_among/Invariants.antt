@@ -1,9 +1,0 @@
-use Rattle.std.proofs.Common.{◌≡◌, ◌++◌, drop, map}
-use Rattle.stk_function_types.specs.Nodes.{typing_in}
-use Rattle.stk_runs.specs.Lists.{site_conditions}
-use Rattle.stk_sites.specs.Sites.{met_of}
-use Rattle.stk_sites.specs.Gathered.{gathered}
-use Rattle.stk_conditions.proofs.listing.conditions_among.Given as goal
-
-abbrev pub invariant-loop-site : goal.invariant-loop-site
-invariant-loop-site l = l.out.items ++ gathered (site_conditions (typing_in l.types) l.without) (map met_of (drop l.site-index l.sites)) ≡ gathered (site_conditions (typing_in l.types) l.without) (map met_of l.sites)

@@ -1,4 +1,0 @@
-mod Quotes
-pub mod Enough
-mod Reading
-mod Spelling

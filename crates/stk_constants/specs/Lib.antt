@@ -1,4 +1,0 @@
-pub mod Digits
-pub mod Integers
-pub mod Characters
-pub mod Strings

@@ -1,5 +1,0 @@
-use Rattle.stk_declare_laws.proofs.Kept.{units_keep_order}
-use Rattle.stk_declare_laws.proofs.order.units_keep_order.Goals as goal
-
-pub returns : goal.returns
-returns c = units_keep_order

@@ -1,0 +1,9 @@
+use Rattle.std.proofs.Common.{◌≡◌, drop, length, map}
+use Rattle.stk_tree.specs.View.{view_label, labels}
+use Rattle.stk_meaning.specs.Statements.{has_case}
+use Rattle.stk_exec_stmt.proofs.choosing.has_case.Given as goal
+
+-- what is left answers for the whole
+abbrev pub invariant-loop-label : goal.invariant-loop-label
+invariant-loop-label g l =
+    has_case (g.O.PathSetting.setting l.out).typing l.kind l.number (labels (map view_label (drop l.label-index l.list))) ≡ has_case (g.O.PathSetting.setting l.out).typing l.kind l.number (labels (map view_label l.list))

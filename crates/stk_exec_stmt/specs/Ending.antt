@@ -1,0 +1,47 @@
+-- How turns and scopes of the code end among those of runs, and the end of an automatic object's declarator.
+use Rattle.std.specs.Prelude.{ℕ, Bool, true, false, if◌then◌else◌, Option, Some, None, List, ℤ}
+use Rattle.stk_tree.specs.Syntax.{StmtTree, StmtFormTree}
+use Rattle.stk_tree.specs.Syntax as s
+use Rattle.stk_type_rules.specs.Types.{is_scalar}
+use Rattle.stk_meaning.specs.Places.{Setting}
+use Rattle.stk_meaning.specs.Worlds as worlds
+use Rattle.stk_meaning.specs.Worlds.{Ran, written}
+use Rattle.stk_meaning.specs.Paths.{InputMap, KeptNumbers, path_world}
+use Rattle.stk_meaning.specs.Declarations.{begun_with}
+use Rattle.stk_eval_expr.specs.declared.state.Flow.{Flow}
+use Rattle.stk_eval_expr.specs.declared.state.Flow.TheVariants as flow
+use Rattle.stk_eval_expr.specs.Shown.{flow_shown}
+
+-- a turn that asks for another one has no flow
+abbrev pub turned_shown : Option Flow → worlds.Turned
+turned_shown None = worlds.Another
+turned_shown (Some f) = worlds.Ended (flow_shown f)
+
+-- the form of a statement
+abbrev pub form_of : StmtTree → StmtFormTree
+form_of (s.statement n f) = f
+
+-- whether a statement ended as it should
+abbrev pub is_normal : worlds.Flow → Bool
+is_normal worlds.Normal = true
+is_normal worlds.Break = false
+is_normal worlds.Continue = false
+is_normal worlds.Return = false
+
+-- how a `switch` ends whose sections ended so (C11 6.8.6.3)
+abbrev pub past_switch : worlds.Flow → worlds.Flow
+past_switch worlds.Normal = worlds.Normal
+past_switch worlds.Break = worlds.Normal
+past_switch worlds.Continue = worlds.Continue
+past_switch worlds.Return = worlds.Return
+
+-- how a loop ends whose body ended so; nothing, where its step or its test comes next (C11 6.8.6.2, 6.8.6.3)
+abbrev pub loop_end : worlds.Flow → Option worlds.Flow
+loop_end worlds.Normal = None
+loop_end worlds.Break = Some worlds.Normal
+loop_end worlds.Continue = None
+loop_end worlds.Return = Some worlds.Return
+
+-- the initialiser of an automatic object is stored in a scalar; the outside writes an array or a struct
+abbrev pub automatic_end : Setting → InputMap → ℕ → ℤ → List ℤ → KeptNumbers → Ran worlds.Flow KeptNumbers
+automatic_end g i k x r m = if is_scalar (g.typing.type_at k) then begun_with g (path_world i) k x r m else written worlds.Normal ((path_world i).write m) r

@@ -1,2 +1,0 @@
-pub mod FactsAt
-pub mod Steps

@@ -1,2 +1,0 @@
-pub mod HitLemmas
-mod Examples

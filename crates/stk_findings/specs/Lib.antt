@@ -1,4 +1,0 @@
-pub mod Hits
-pub mod Sufficient
-pub mod Findings
-pub mod PathFindings

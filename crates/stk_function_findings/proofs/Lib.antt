@@ -1,2 +1,0 @@
-mod Tabling
-mod Finding

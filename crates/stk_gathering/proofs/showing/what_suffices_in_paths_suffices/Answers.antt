@@ -1,5 +1,0 @@
-use Rattle.stk_gathering.proofs.Laws.{what_suffices_in_paths_suffices}
-use Rattle.stk_gathering.proofs.showing.what_suffices_in_paths_suffices.Goals as goal
-
-pub returns : goal.returns
-returns c = what_suffices_in_paths_suffices

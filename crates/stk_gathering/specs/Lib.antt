@@ -1,2 +1,0 @@
-pub mod TypedTree
-pub mod Shown

@@ -1,4 +1,0 @@
-pub mod Marks
-pub mod Tables
-pub mod Recording
-pub mod Queries

@@ -1,7 +1,0 @@
-use Rattle.std.proofs.Common.{◌≡◌, ◌++◌, map, drop}
-use Rattle.serde_json.specs.View.{view}
-use Rattle.stk_json_lines.specs.Json.{input_data}
-use Rattle.stk_json_lines.proofs.parts.input_values.Given as goal
-
-abbrev pub invariant-loop-input : goal.invariant-loop-input
-invariant-loop-input l = map view l.list.items ++ map input_data (drop l.input-index l.inputs) ≡ map input_data l.inputs

@@ -1,6 +1,0 @@
-use Rattle.std.proofs.Common.{◌≡◌, ◌++◌, drop, string_bytes}
-use Rattle.stk_lines.specs.Text.{printed}
-use Rattle.stk_json_lines.proofs.parts.name_text.Given as goal
-
-abbrev pub invariant-loop-byte : goal.invariant-loop-byte
-invariant-loop-byte l = string_bytes l.text ++ printed (drop l.byte-index l.name) ≡ printed l.name

@@ -1,7 +1,0 @@
-use Rattle.std.proofs.Common.{◌≡◌, ◌++◌, map, drop}
-use Rattle.serde_json.specs.View.{view}
-use Rattle.stk_json_lines.specs.Json.{needed_data}
-use Rattle.stk_json_lines.proofs.parts.needed_values.Given as goal
-
-abbrev pub invariant-loop-needed : goal.invariant-loop-needed
-invariant-loop-needed l = map view l.list.items ++ map needed_data (drop l.needed-index l.needs) ≡ map needed_data l.needs

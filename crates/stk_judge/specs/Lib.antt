@@ -1,0 +1,9 @@
+pub mod InputMaps
+pub mod ConditionIds
+pub mod Tables
+pub mod Recording
+pub mod Queries
+pub mod Subjects
+pub mod Exhaustive
+pub mod PathSubjects
+pub mod PathTables

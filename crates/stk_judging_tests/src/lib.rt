@@ -1,5 +1,0 @@
-//! Tests of findings that are read off the table of what runs hit.
-#![tactic(auto)]
-
-#[cfg(test)]
-mod tests;

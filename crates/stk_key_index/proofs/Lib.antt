@@ -1,4 +1,0 @@
-pub mod Slotted
-pub mod Placed
-pub mod Indexed
-pub mod Summed

@@ -1,3 +1,0 @@
-pub mod Placed
-pub mod Named
-pub mod Texts

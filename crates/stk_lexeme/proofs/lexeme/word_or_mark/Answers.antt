@@ -1,5 +1,0 @@
-use Rattle.stk_lexeme.proofs.Spellings.{is_fixed}
-use Rattle.stk_lexeme.proofs.lexeme.word_or_mark.Goals as goal
-
-pub returns : goal.returns
-returns c = is_fixed c.args.text.now c.fixed_of.result c.fixed_of.ensures.found c.fixed_of.ensures.missing

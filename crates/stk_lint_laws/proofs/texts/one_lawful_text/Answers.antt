@@ -1,5 +1,0 @@
-use Rattle.stk_lint_laws.proofs.Unique.{one_text}
-use Rattle.stk_lint_laws.proofs.texts.one_lawful_text.Goals as goal
-
-pub returns : goal.returns
-returns c = one_text

@@ -1,3 +1,0 @@
-pub mod Far
-pub mod Rowed
-pub mod Numbered

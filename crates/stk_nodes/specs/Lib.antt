@@ -1,0 +1,2 @@
+pub mod Setter
+pub mod Rows

@@ -1,9 +1,0 @@
-pub mod Tests
-pub mod Traces
-pub mod Faces
-pub mod Expressions
-pub mod Values
-pub mod Statements
-pub mod Bodies
-pub mod Lists
-pub mod Laws

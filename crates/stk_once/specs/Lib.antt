@@ -1,3 +1,0 @@
-pub mod TypedOperands
-pub mod Listed
-pub mod Once

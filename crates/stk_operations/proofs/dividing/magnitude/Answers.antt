@@ -1,9 +1,0 @@
-use Rattle.std.proofs.Common.{◌∙◌, not, ap}
-use Rattle.stk_operations.specs.Standing.{is_plus, turned_bits}
-use Rattle.stk_operations.proofs.Magnitudes.{not_not}
-use Rattle.stk_operations.proofs.dividing.magnitude.Goals as goal
-
-pub returns-clause-value : goal.returns-clause-value
-returns-clause-value c = λ numbers o e.
-    let n = numbers c.args.value.0 in
-    c.in_ok-v.ensures.value numbers (not (is_plus c.args.width n)) o e ∙ ap (λ p. turned_bits c.args.width p n) (not_not (is_plus c.args.width n))

@@ -1,7 +1,0 @@
-use Rattle.std.proofs.Common.{◌∙◌}
-use Rattle.std.proofs.Common.{false}
-use Rattle.stk_operations.proofs.Sizes.{lowest}
-use Rattle.stk_operations.proofs.sizing.narrowed.Goals as goal
-
-pub returns-clause-value : goal.returns-clause-value
-returns-clause-value c = λ numbers o. c.in_ok-v.ensures.value numbers o ∙ lowest false c.args.from c.args.to (numbers c.args.value.0) c.requires.narrower

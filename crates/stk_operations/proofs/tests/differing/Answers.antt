@@ -1,6 +1,0 @@
-use Rattle.std.proofs.Common.{◌∙◌}
-use Rattle.stk_operations.proofs.Truths.{xor_bit}
-use Rattle.stk_operations.proofs.tests.differing.Goals as goal
-
-pub returns-clause-value : goal.returns-clause-value
-returns-clause-value c = λ numbers x y o e f. c.in_ok-v.ensures.value numbers o ∙ xor_bit (numbers c.args.a.0) (numbers c.args.b.0) x y e f

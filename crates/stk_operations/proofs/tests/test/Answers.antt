@@ -1,6 +1,0 @@
-use Rattle.std.proofs.Common.{◌∙◌}
-use Rattle.stk_operations.proofs.Truths.{low_bit}
-use Rattle.stk_operations.proofs.tests.test.Goals as goal
-
-pub returns-clause-value : goal.returns-clause-value
-returns-clause-value c = λ numbers b o e. c.in_ok-v.ensures.value numbers o ∙ low_bit (numbers c.args.value.0) b e

@@ -1,2 +1,0 @@
-pub mod Valued
-pub mod Standing

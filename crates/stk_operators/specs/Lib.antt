@@ -1,0 +1,4 @@
+pub mod Words
+pub mod Shown
+pub mod Checked
+pub mod Targets

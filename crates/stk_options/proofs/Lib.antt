@@ -1,4 +1,0 @@
-pub mod Decimals
-pub mod Names
-pub mod Forms
-pub mod Wholes

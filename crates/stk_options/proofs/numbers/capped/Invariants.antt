@@ -1,8 +1,0 @@
-use Rattle.std.proofs.Common.{◌≡◌, ◌≤◌, min, true, drop}
-use Rattle.std.specs.List.{list_all}
-use Rattle.stk_base.specs.Text.{decimal, decimal_behind}
-use Rattle.stk_options.specs.Words.{is_digit}
-use Rattle.stk_options.proofs.numbers.capped.Given as goal
-
-abbrev pub invariant-loop-byte : goal.invariant-loop-byte
-invariant-loop-byte l = (min (decimal_behind l.number (drop l.byte-index l.text)) 200001 ≡ min (decimal l.text) 200001) × (l.number ≤ 200001) × (list_all is_digit (drop l.byte-index l.text) ≡ true)

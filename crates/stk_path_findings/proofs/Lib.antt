@@ -1,4 +1,0 @@
-pub mod Agreeing
-pub mod KeyKinds
-pub mod Objects
-pub mod Same

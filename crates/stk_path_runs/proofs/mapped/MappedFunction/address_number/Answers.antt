@@ -1,0 +1,6 @@
+use Rattle.stk_meaning.specs.Keys.{address_key}
+use Rattle.stk_path_runs.proofs.Numbers.{by_place}
+use Rattle.stk_path_runs.proofs.mapped.MappedFunction.address_number.Goals as goal
+
+pub returns : goal.returns
+returns c = by_place c.args.self.now.tables.now.places.keys (address_key c.args.node) c.address.result c.args.self.now.numbers.now c.number_in.result (c.address.ensures c.args.self.now.tables.now.places.keys c.index.ensures) c.number_in.ensures

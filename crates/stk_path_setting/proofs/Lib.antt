@@ -1,4 +1,0 @@
-pub mod Forgotten
-pub mod Known
-pub mod Started
-pub mod Numbers

@@ -1,6 +1,0 @@
-use Rattle.stk_runs.specs.Keys.{load_key}
-use Rattle.stk_path_setting.proofs.Numbers.{by_place}
-use Rattle.stk_path_setting.proofs.mapped.MappedFunction.load_number.Goals as goal
-
-pub returns : goal.returns
-returns c = by_place c.args.self.now.tables.now.places.keys (load_key c.args.node) c.load.result c.args.self.now.numbers.now c.number_in.result (c.load.ensures c.args.self.now.tables.now.places.keys c.index.ensures) c.number_in.ensures

@@ -1,6 +1,0 @@
-use Rattle.stk_runs.specs.Keys.{parameter_key}
-use Rattle.stk_path_setting.proofs.Numbers.{by_place}
-use Rattle.stk_path_setting.proofs.mapped.MappedFunction.parameter_number.Goals as goal
-
-pub returns : goal.returns
-returns c = by_place c.args.self.now.tables.now.places.keys (parameter_key c.args.node) c.parameter.result c.args.self.now.numbers.now c.number_in.result (c.parameter.ensures c.args.self.now.tables.now.places.keys c.index.ensures) c.number_in.ensures

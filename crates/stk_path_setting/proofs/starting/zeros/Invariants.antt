@@ -1,5 +1,0 @@
-use Rattle.std.proofs.Common.{◌≡◌, pos, replicate}
-use Rattle.stk_path_setting.proofs.starting.zeros.Given as goal
-
-abbrev pub invariant-loop-turn : goal.invariant-loop-turn
-invariant-loop-turn l = l.out.items ≡ replicate l._turn (pos 0)

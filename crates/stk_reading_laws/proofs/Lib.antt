@@ -1,4 +1,0 @@
-pub mod Passing
-pub mod Flat
-pub mod Levels
-pub mod Alike

@@ -1,5 +1,0 @@
-use Rattle.stk_reading_laws.proofs.Alike.{by_its_tokens}
-use Rattle.stk_reading_laws.proofs.layouts.laid_out_by_its_tokens.Goals as goal
-
-pub returns : goal.returns
-returns c = by_its_tokens

@@ -1,0 +1,6 @@
+pub mod Decimals
+pub mod Names
+pub mod Forms
+pub mod Wholes
+pub mod Joined
+pub mod Floats

@@ -1,0 +1,5 @@
+pub mod Kinds
+pub mod Words
+pub mod Counts
+pub mod Text
+pub mod Json

@@ -1,0 +1,20 @@
+//! What is read from the command line, and the lines of records as data, as text and as JSON.
+#![tactic(auto)]
+
+mod counts;
+mod items;
+mod json;
+mod kinds;
+mod line;
+mod numbers;
+mod options;
+mod parts;
+mod reading;
+mod text;
+
+pub use counts::Counts;
+pub use json::add_json_line;
+pub use line::{Cause, Claim, Fragment, Input, Line, Needed, Spot, StartInputs};
+pub use options::{Options, WordsFault};
+pub use reading::words;
+pub use text::add_line;

@@ -1,0 +1,95 @@
+//! The words on the command line, as a whole.
+
+ghost use Rattle.std.specs.Prelude.{◌≡◌, map, MatchOption, IfOk, IfErr};
+ghost use Rattle.std.specs.String.{string_bytes};
+ghost use Rattle.stk_records.specs.declared.options.Options.{Options as Asked};
+ghost use Rattle.stk_records.specs.Words.{AreLegal, with_item, has_come, options_of, nothing_seen};
+
+use crate::items::item;
+use crate::options::{Item, Options, Seen, WordsFault};
+use stk_numbers::Kinds;
+
+// The budget where none is given, and the kinds where none are.
+const USUAL_BUDGET: u32 = 20_000;
+
+// Before the first item.
+fn nothing_seen() -> Seen
+    ensures { result ≡ nothing_seen }
+{
+    Seen {
+        json: false,
+        budget: None,
+        without: None,
+    }
+}
+
+// Whether an item has come.
+fn has_come(seen: Seen, found: Item) -> bool
+    ensures { result ≡ has_come seen found }
+{
+    match found {
+        Item::Json => seen.json,
+        Item::Budget(_) => seen.budget.is_some(),
+        Item::Without(_) => seen.without.is_some(),
+    }
+}
+
+// One item more.
+fn with_item(seen: Seen, found: Item) -> Seen
+    ensures { result ≡ with_item seen found }
+{
+    match found {
+        Item::Json => Seen { json: true, ..seen },
+        Item::Budget(budget) => Seen {
+            budget: Some(budget),
+            ..seen
+        },
+        Item::Without(kinds) => Seen {
+            without: Some(kinds),
+            ..seen
+        },
+    }
+}
+
+// What the items ask for.
+fn options_of(seen: Seen) -> Options
+    ensures { result ≡ options_of seen }
+{
+    Options {
+        json: seen.json,
+        budget: seen.budget.unwrap_or(USUAL_BUDGET),
+        without: seen.without.unwrap_or(Kinds {
+            overflow: false,
+            zero: false,
+            shift: false,
+            null: false,
+            pointer: false,
+            bounds: false,
+            abs: false,
+            copy: false,
+        }),
+    }
+}
+
+/// The options that the words on the command line ask for, in any order, each at most once: `--json`; `--budget N` or
+/// `--budget=N`, N being 1 to 20 decimal digits, from 1 to 200,000; `--without LIST` or `--without=LIST`, LIST being
+/// one or more of overflow, zero, shift, null, pointer, bounds, abs and copy, each at most once, with a comma between
+/// each two. `Bad` exactly where the words are no such list. It takes no memory.
+pub fn words(words: &[String]) -> Result<Options, WordsFault>
+    ensures legal { IfOk result (AreLegal (map string_bytes words.now)) }
+    ensures bad { IfErr result (λ fault. (o : Asked) → AreLegal (map string_bytes words.now) o → ⊥) }
+{
+    let mut seen = nothing_seen();
+    let mut rest = words;
+    'items: while let Some((first, left)) = rest.split_first() {
+        let Some((found, behind)) = item(first.as_bytes(), left) else {
+            return Err(WordsFault::Bad);
+        };
+        if has_come(seen, found) {
+            return Err(WordsFault::Bad);
+        }
+        seen = with_item(seen, found);
+        rest = behind;
+    }
+    Ok(options_of(seen))
+}

@@ -1,0 +1,123 @@
+// Words that are legal, with what they ask for, and words that aren't.
+use std::alloc::Global;
+use std::test::Fail;
+use stk_base::NoMemory;
+use stk_numbers::{Kinds, UbKind};
+use stk_records::{Options, WordsFault, words};
+
+/// Words with single blanks between them, and what they ask for: whether the records are JSON, the budget, and the
+/// kinds that don't count.
+type Legal = (&'static str, bool, u32, &'static [UbKind]);
+
+static LEGAL: [Legal; 11] = [
+    ("", false, 20_000, &[]),
+    ("--json", true, 20_000, &[]),
+    ("--budget 1", false, 1, &[]),
+    ("--budget=200000", false, 200_000, &[]),
+    ("--budget 00000000000000000007", false, 7, &[]),
+    ("--without null", false, 20_000, &[UbKind::Null]),
+    (
+        "--without=overflow,zero,shift,null,pointer,bounds,abs,copy",
+        false,
+        20_000,
+        &[
+            UbKind::Overflow,
+            UbKind::Zero,
+            UbKind::Shift,
+            UbKind::Null,
+            UbKind::Pointer,
+            UbKind::Bounds,
+            UbKind::AbsValue,
+            UbKind::Overlap,
+        ],
+    ),
+    (
+        "--without copy,abs",
+        false,
+        20_000,
+        &[UbKind::AbsValue, UbKind::Overlap],
+    ),
+    ("--json --budget 5 --without zero", true, 5, &[UbKind::Zero]),
+    ("--without zero --budget 5 --json", true, 5, &[UbKind::Zero]),
+    ("--without=zero --json --budget=5", true, 5, &[UbKind::Zero]),
+];
+
+static BAD: [&str; 22] = [
+    "--help",
+    "-json",
+    "--json=",
+    "--JSON",
+    "--json --json",
+    "json",
+    "--budget",
+    "--budget 0",
+    "--budget=",
+    "--budget 200001",
+    "--budget 000000000000000000007",
+    "--budget 18446744073709551617",
+    "--budget -1",
+    "--budget +1",
+    "--budget 1 --budget 1",
+    "--without",
+    "--without=",
+    "--without null,",
+    "--without ,null",
+    "--without null,null",
+    "--without nul",
+    "--without null zero",
+];
+
+/// The words of a text.
+fn split(alloc: Global, text: &str) -> Result<Vec<String>, NoMemory> {
+    let mut list = Vec::new(alloc);
+    let mut word = String::new(alloc);
+    for letter in text.chars() {
+        if letter == ' ' {
+            list.push(word)?;
+            word = String::new(alloc);
+        } else {
+            word.push(letter)?;
+        }
+    }
+    if !word.is_empty() {
+        list.push(word)?;
+    }
+    Ok(list)
+}
+
+/// The kinds of a list.
+fn kinds_of(list: &[UbKind]) -> Kinds {
+    Kinds {
+        overflow: list.contains(&UbKind::Overflow),
+        zero: list.contains(&UbKind::Zero),
+        shift: list.contains(&UbKind::Shift),
+        null: list.contains(&UbKind::Null),
+        pointer: list.contains(&UbKind::Pointer),
+        bounds: list.contains(&UbKind::Bounds),
+        abs: list.contains(&UbKind::AbsValue),
+        copy: list.contains(&UbKind::Overlap),
+    }
+}
+
+#[test]
+fn legal_words_ask_for_options(rt: HostRuntime) -> Result<(), Fail> {
+    for (text, json, budget, without) in &LEGAL {
+        let wanted = Options {
+            json: *json,
+            budget: *budget,
+            without: kinds_of(without),
+        };
+        let list = split(rt.alloc(), text)?;
+        assert!(rt; words(list.as_slice()) == Ok(wanted), "{text:?}");
+    }
+    Ok(())
+}
+
+#[test]
+fn other_words_are_bad(rt: HostRuntime) -> Result<(), Fail> {
+    for text in &BAD {
+        let list = split(rt.alloc(), text)?;
+        assert!(rt; words(list.as_slice()) == Err(WordsFault::Bad), "{text:?}");
+    }
+    Ok(())
+}

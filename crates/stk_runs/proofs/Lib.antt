@@ -1,7 +1,0 @@
-pub mod Told
-mod FunctionExamples
-mod ExpressionExamples
-mod StatementExamples
-mod ExecutionExamples
-mod ListExamples
-mod MapExamples

@@ -1,7 +1,0 @@
-use Rattle.std.proofs.Common.{◌≡◌, ◌++◌, drop, map}
-use Rattle.stk_tree.specs.View.{view_part, parts}
-use Rattle.stk_runs.specs.Visits.{parts_declare}
-use Rattle.stk_settings.proofs.changes.parts_declare.Given as goal
-
-abbrev pub invariant-loop-p : goal.invariant-loop-p
-invariant-loop-p l = l.out.items ++ parts_declare (parts (map view_part (drop l.p-index l.list))) ≡ parts_declare (parts (map view_part l.list))

@@ -1,5 +1,0 @@
-pub mod Marks
-pub mod Expressions
-pub mod Statements
-pub mod Sets
-pub mod Statics

@@ -1,0 +1,17 @@
+//! Tests of terms: the store, rewriting, and trying all inputs.
+#![tactic(auto)]
+
+#[cfg(test)]
+mod enumerate;
+#[cfg(test)]
+mod making_terms;
+#[cfg(test)]
+mod operators;
+#[cfg(test)]
+mod random;
+#[cfg(test)]
+mod rewritten_terms;
+#[cfg(test)]
+mod rules;
+#[cfg(test)]
+mod sharing;

@@ -1,7 +1,0 @@
-use Rattle.std.proofs.Common.{◌≡◌, map, drop}
-use Rattle.stk_tree.specs.Placed.{file_declarators}
-use Rattle.stk_tree.specs.View.{declarators, view_declarator}
-use Rattle.stk_tree_placed.proofs.forms.file_declarators.Given as goal
-
-abbrev pub invariant-loop-x : goal.invariant-loop-x
-invariant-loop-x l = file_declarators (declarators (map view_declarator (drop l.x-index l.list))) ≡ file_declarators (declarators (map view_declarator l.list))

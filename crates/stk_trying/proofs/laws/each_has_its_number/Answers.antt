@@ -1,5 +1,0 @@
-use Rattle.stk_trying.proofs.Numbered.{numbers_are}
-use Rattle.stk_trying.proofs.laws.each_has_its_number.Goals as goal
-
-pub returns : goal.returns
-returns c = numbers_are

@@ -1,7 +1,0 @@
-// Laws of the order.
-ghost use Rattle.stk_trying.specs.Ordered.{EachHasItsNumber};
-
-/// Residues in range have a number below 2 to their bits, and those in front of them have lower ones.
-pub fn each_has_its_number()
-    ensures { EachHasItsNumber }
-{}

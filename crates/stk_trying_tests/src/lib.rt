@@ -1,5 +1,0 @@
-//! Tests of trying all inputs of a term.
-#![tactic(auto)]
-
-#[cfg(test)]
-mod tests;

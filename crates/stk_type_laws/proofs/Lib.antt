@@ -1,0 +1,26 @@
+pub mod Uses
+pub mod Within
+pub mod DeclaredCounts
+pub mod Leaving
+pub mod Sorts
+pub mod Growth
+pub mod Kept
+pub mod Stretches
+pub mod TypedCounts
+pub mod Rulings
+pub mod Layouts
+pub mod LaidNodes
+pub mod From
+pub mod Raw
+pub mod Names
+pub mod Calls
+pub mod Expressions
+pub mod Initialisers
+pub mod Locals
+pub mod Statements
+pub mod Bodies
+pub mod Parameters
+pub mod Meanings
+pub mod Whole
+pub mod Examples
+mod RunExamples

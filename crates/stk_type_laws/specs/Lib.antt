@@ -1,0 +1,3 @@
+pub mod Entries
+pub mod Orderly
+pub mod Accepted

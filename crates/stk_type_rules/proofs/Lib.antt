@@ -1,0 +1,3 @@
+pub mod FactsAt
+pub mod Steps
+pub mod Range

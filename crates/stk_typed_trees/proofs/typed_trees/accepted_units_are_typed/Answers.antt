@@ -1,5 +1,0 @@
-use Rattle.stk_typed_trees.proofs.Whole.{accepted_units_are_typed}
-use Rattle.stk_typed_trees.proofs.typed_trees.accepted_units_are_typed.Goals as goal
-
-pub returns : goal.returns
-returns c = accepted_units_are_typed

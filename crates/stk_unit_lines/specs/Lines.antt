@@ -1,0 +1,79 @@
+-- The lines of findings: what is claimed of a candidate, where it stands, and the starts that show it.
+use Rattle.std.specs.Prelude.{ℕ, min, List, [], ◌∷◌, ◌++◌, map, length, Some, None, ℤ}
+use Rattle.std.specs.Option.{option_map}
+use Rattle.stk_base.specs.declared.token.Place.{Place}
+use Rattle.stk_base.specs.Text.{text_of}
+use Rattle.stk_lex.specs.Placing.{place_of}
+use Rattle.stk_tree.specs.Syntax.{DeclrTree, FunctionTree}
+use Rattle.stk_tree.specs.Syntax as s
+use Rattle.stk_numbers.specs.declared.conditions.CandKind.{CandKind}
+use Rattle.stk_numbers.specs.declared.conditions.CandKind.TheVariants.{Arm, AlwaysTrue, AlwaysFalse, Algebra}
+use Rattle.stk_numbers.specs.declared.conditions.Candidate.{Candidate}
+use Rattle.stk_numbers.specs.declared.conditions.Inputs.{Inputs}
+use Rattle.stk_meaning.specs.Typings.{Typing}
+use Rattle.stk_meaning.specs.Keys.{head_of}
+use Rattle.stk_unit_lines.specs.Placed.{Placed, span_at}
+use Rattle.stk_meaning.specs.declared.finding.Finding.{Finding}
+use Rattle.stk_meaning.specs.declared.finding.Finding.TheVariants as finding
+use Rattle.stk_meaning.specs.declared.finding.Need.{Need}
+use Rattle.stk_records.specs.declared.line.Spot.{Spot}
+use Rattle.stk_records.specs.declared.line.Claim.{Claim}
+use Rattle.stk_records.specs.declared.line.Claim.TheVariants.{NeverEntered, AlwaysTrue as IsAlwaysTrue, AlwaysFalse as IsAlwaysFalse, SameAs}
+use Rattle.stk_records.specs.declared.line.Fragment.{Fragment}
+use Rattle.stk_records.specs.declared.line.Input.{Input}
+use Rattle.stk_records.specs.declared.line.StartInputs.{StartInputs}
+use Rattle.stk_records.specs.declared.line.Needed.{Needed}
+use Rattle.stk_records.specs.declared.line.Line.{Line}
+use Rattle.stk_records.specs.declared.line.Line.TheVariants.{Unstable, Undecided}
+use Rattle.stk_unit_lines.specs.Replaced.{replaced_at}
+
+-- where a byte stands; behind the input it is the place of its end
+abbrev pub spot_at : List ℕ → ℕ → Spot
+spot_at bytes at =
+    let p : Place = place_of bytes (min (length bytes) at) in
+    record { file = option_map (λ name. text_of bytes name) p.file; line = p.line; column = p.column }
+
+-- where a node begins
+abbrev pub node_spot : Placed → ℕ → Spot
+node_spot q k = spot_at q.bytes (span_at q k).from
+
+-- what is claimed of a candidate
+abbrev pub claim_by : Typing → FunctionTree → ℕ → CandKind → Claim
+claim_by ty f k Arm = NeverEntered
+claim_by ty f k AlwaysTrue = IsAlwaysTrue
+claim_by ty f k AlwaysFalse = IsAlwaysFalse
+claim_by ty f k Algebra = SameAs (replaced_at ty f k)
+
+-- the name of a function
+abbrev pub declarator_name : List ℕ → DeclrTree → List ℕ
+declarator_name bytes (s.declarator n count (Some at) tail init) = text_of bytes at
+declarator_name bytes (s.declarator n count None tail init) = []
+
+-- a candidate of a function
+abbrev pub fragment_of : Placed → Typing → FunctionTree → Candidate → Fragment
+fragment_of q ty f c = record { at = node_spot q c.node; claim = claim_by ty f c.node c.kind; function = declarator_name q.bytes (head_of f) }
+
+-- a start: a number for each key, by the texts of the keys
+abbrev pub inputs_of : List (List ℕ) → List ℤ → List Input
+inputs_of [] xs = []
+inputs_of (k ∷ ks) [] = []
+inputs_of (k ∷ ks) (x ∷ xs) = record { key = k; number = x } ∷ inputs_of ks xs
+
+abbrev pub start_of : List (List ℕ) → Inputs → StartInputs
+start_of keys start = record { inputs = inputs_of keys start.numbers }
+
+-- a condition of the set
+abbrev pub needed_of : Placed → List (List ℕ) → Need → Needed
+needed_of q keys n = record { kind = n.condition.kind; at = node_spot q n.condition.node; without = option_map (λ start. start_of keys start) n.shown }
+
+-- the line of a finding: none of a clear one
+abbrev pub finding_lines : Placed → Typing → FunctionTree → List (List ℕ) → Candidate → Finding → List Line
+finding_lines q ty f keys c finding.Clear = []
+finding_lines q ty f keys c (finding.Unstable start needs) = Unstable (fragment_of q ty f c) (start_of keys start) (map (needed_of q keys) needs) ∷ []
+finding_lines q ty f keys c (finding.Undecided phase) = Undecided (fragment_of q ty f c) phase ∷ []
+
+-- the lines of the findings of candidates, in order
+abbrev pub findings_lines : Placed → Typing → FunctionTree → List (List ℕ) → List Candidate → List Finding → List Line
+findings_lines q ty f keys [] xs = []
+findings_lines q ty f keys (c ∷ cs) [] = []
+findings_lines q ty f keys (c ∷ cs) (x ∷ xs) = finding_lines q ty f keys c x ++ findings_lines q ty f keys cs xs

@@ -1,5 +1,0 @@
-pub mod Spelled
-pub mod Skimming
-pub mod Ahead
-pub mod Units
-pub mod Begun

@@ -1,0 +1,9 @@
+use Rattle.std.proofs.Common.{◌≡◌, ◌++◌, drop, map}
+use Rattle.stk_function_types.specs.Visits.{marked_visit}
+use Rattle.stk_function_types.specs.Gathered.{gathered}
+use Rattle.stk_function_env.specs.Settings.{setting_in}
+use Rattle.stk_weights.specs.Events.{visit_events}
+use Rattle.stk_weights.proofs.events.visits_events.Given as goal
+
+abbrev pub invariant-loop-visit : goal.invariant-loop-visit
+invariant-loop-visit l = l.out.items ++ gathered (visit_events (setting_in l.setting)) (map marked_visit (drop l.visit-index l.visits)) ≡ l.initial.out.items ++ gathered (visit_events (setting_in l.setting)) (map marked_visit l.visits)
