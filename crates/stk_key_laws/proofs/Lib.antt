@@ -1,0 +1,4 @@
+pub mod KeyKinds
+pub mod Evaluated
+pub mod Assigned
+pub mod Weights

@@ -1,0 +1,10 @@
+pub mod Ruled
+pub mod RuledExpressions
+pub mod RuledInitialisers
+pub mod RuledLocals
+pub mod RuledStatements
+pub mod RuledFunctions
+pub mod NodeKinds
+pub mod Trees
+pub mod Whole
+pub mod Widths

@@ -1,0 +1,2 @@
+//! Which kinds the values of a function have, expression by expression: definitions alone.
+#![tactic(auto)]

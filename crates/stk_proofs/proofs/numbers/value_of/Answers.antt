@@ -1,0 +1,8 @@
+use Rattle.stk_proofs.proofs.Decimals.{goes_on, ended}
+use Rattle.stk_proofs.proofs.numbers.value_of.Goals as goal
+
+pub loop-byte-preserved : goal.loop-byte-preserved
+loop-byte-preserved c = goes_on c.args.text.now c.loop-byte.byte-index c.loop-byte.number c.with_digit-number.result c.loop-byte-test.true c.loop-byte.invariant.1 c.loop-byte.invariant.0 c.loop-byte.invariant.2 c.with_digit-number.ensures
+
+pub returns : goal.returns
+returns c = ended c.args.text.now c.loop-byte.byte-index c.loop-byte.number c.loop-byte-test.false c.loop-byte.invariant.1 c.loop-byte.invariant.0
