@@ -1,0 +1,23 @@
+use Rattle.std.proofs.Common.{◌≡◌, false, ◌||◌}
+use Rattle.stk_ctype.specs.declared.kind.IntKind.{IntKind}
+use Rattle.stk_guarded.specs.Standing.{live}
+use Rattle.stk_guarded.specs.Statements.{breaking, continuing}
+use Rattle.stk_guarded.specs.Turns.{opened}
+use Rattle.stk_guarded.proofs.Statements.{break_flows, continue_flows, return_flows}
+use Rattle.stk_walking.proofs.Carried.{is_made_still, stands_still}
+use Rattle.stk_walking.proofs.jumps.open_body.Goals as goal
+
+pub returns-clause-made : goal.returns-clause-made
+returns-clause-made g c = λ G a.
+    let made = g.V.Values.made in
+    let keep = c.in_ok-none.ensures.keeps.made_still in
+    let still = is_made_still (made c.args.values.now) (made c.zero.new.values) keep G c.args.state.now a in
+    record { guard = still.guard; broken = c.in_ok-none.ensures.makes; continued = c.in_ok-none.ensures.makes; registers = still.registers; cells = still.cells; steps = still.steps }
+
+pub returns-clause-stands : goal.returns-clause-stands
+returns-clause-stands g c = λ G m s served at.
+    let shows = g.V.Values.shows in
+    let k1 = c.in_ok-none.ensures.keeps in
+    let still = stands_still (shows c.args.values.now m) (shows c.zero.new.values m) (k1.shown m) G c.args.state.now s at in
+    let none = c.in_ok-none.ensures.value m served in
+    record { guard = still.guard; broken = none; continued = none; numbers = still.numbers; kept = still.kept; events = still.events }

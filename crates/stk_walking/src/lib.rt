@@ -1,0 +1,31 @@
+//! Where a walk over all branches of a function has come to, as values of a store, and what a step of it does.
+#![tactic(auto)]
+
+mod asked;
+mod cells;
+mod conditions;
+mod jumps;
+mod keys;
+mod loops;
+mod node_tests;
+mod operations;
+mod registers;
+mod state;
+mod steps;
+mod tests;
+
+pub use asked::WalkSetting;
+pub use cells::{read_cell, remove_cell, remove_cells, store_cell};
+pub use conditions::push_test;
+pub use jumps::{leave_by_break, leave_by_continue, leave_by_return, open_body};
+pub use keys::{InputKey, keyed};
+pub use loops::begin_cells;
+pub use node_tests::{NodeTest, Operands, breaks};
+pub use operations::{
+    Operand, absolute, flipped, is_zero, moved_address, negated, operated, replaced_test,
+    to_address,
+};
+pub use registers::{read_register, set_register};
+pub use state::{Event, GuardedEvent, KeptCell, WalkState};
+pub use steps::{enter, push_step, see};
+pub use tests::{converted, either, is_true, zero};

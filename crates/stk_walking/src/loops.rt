@@ -1,0 +1,66 @@
+//! Where a loop of a walk begins: its registers have the numbers of their keys, and what it may change isn't kept (C11
+//! 6.8.5).
+
+ghost use Rattle.std.specs.Prelude.{◌≡◌, ℤ, ℕ, List, Bool, OnOk, None, length, not, set, if◌then◌else◌};
+ghost use Rattle.stk_ctype.specs.declared.kind.IntKind as kinds;
+ghost use Rattle.stk_ctype.specs.declared.kind.IntKind.TheVariants.{Int};
+ghost use Rattle.stk_tree.specs.View.{view_statement_form};
+ghost use Rattle.stk_meaning.specs.Operations.{bit};
+ghost use Rattle.stk_meaning.specs.Changes.{forgotten_in};
+ghost use Rattle.stk_meaning.specs.Paths.{KeptNumbers, forgotten};
+ghost use Rattle.stk_values.specs.Keeping.{Keeps};
+ghost use Rattle.stk_walking.specs.Stands.{CellsShow, CellsMade};
+
+use crate::asked::WalkSetting;
+use crate::cells::keep_only;
+use crate::state::KeptCell;
+use stk_base::NoMemory;
+use stk_tree::StmtForm;
+use stk_values::Values;
+
+// Forgets a kept object, if a loop may change it, unless a test is true.
+fn begin_cell<O: WalkSetting, V: Values>(
+    out: &O,
+    node: u32,
+    form: &StmtForm,
+    values: &mut V,
+    stays: V::Value,
+    cells: &mut Vec<KeptCell<V::Value>>,
+    place: usize,
+) -> Result<(), NoMemory>
+    requires known { O.knows out.now node (view_statement_form form.now) }
+    requires stays { V.made values.old Int stays }
+    requires row { (row : ℕ → kinds.IntKind) × CellsMade (V.made values.old) row 0 cells.old.items }
+    ensures length { OnOk result (length cells.new.items ≡ length cells.old.items) }
+    ensures made { OnOk result ((row : ℕ → kinds.IntKind) → CellsMade (V.made values.old) row 0 cells.old.items → CellsMade (V.made values.new) row 0 cells.new.items) }
+    ensures shown { OnOk result ((m : List ℤ) (row : ℕ → kinds.IntKind) (b : Bool) (kept : KeptNumbers) → V.serves values.old m → V.shows values.old m Int stays (bit (not b)) → CellsShow (V.shows values.old m) row 0 cells.old.items kept → CellsShow (V.shows values.new m) row 0 cells.new.items (if forgotten_in (O.setting out.now) (view_statement_form form.now) place then (if b then set kept place None else kept) else kept)) }
+    ensures keeps { Keeps V.serves V.has_key V.made V.shows values.old values.new }
+{
+    if out.forgets(node, form, place) {
+        keep_only(values, stays, cells, place)?;
+    }
+    Ok(())
+}
+
+/// Forgets the kept objects that a loop may change, where the guard is true.
+pub fn begin_cells<O: WalkSetting, V: Values>(
+    out: &O,
+    node: u32,
+    form: &StmtForm,
+    values: &mut V,
+    guard: V::Value,
+    cells: &mut Vec<KeptCell<V::Value>>,
+) -> Result<(), NoMemory>
+    requires known { O.knows out.now node (view_statement_form form.now) }
+    requires guard { V.made values.old Int guard }
+    requires row { (row : ℕ → kinds.IntKind) × CellsMade (V.made values.old) row 0 cells.old.items }
+    ensures made { OnOk result ((row : ℕ → kinds.IntKind) → CellsMade (V.made values.old) row 0 cells.old.items → CellsMade (V.made values.new) row 0 cells.new.items) }
+    ensures shown { OnOk result ((m : List ℤ) (row : ℕ → kinds.IntKind) (b : Bool) (kept : KeptNumbers) → V.serves values.old m → V.shows values.old m Int guard (bit b) → CellsShow (V.shows values.old m) row 0 cells.old.items kept → CellsShow (V.shows values.new m) row 0 cells.new.items (if b then forgotten (forgotten_in (O.setting out.now) (view_statement_form form.now)) kept else kept)) }
+    ensures keeps { OnOk result (Keeps V.serves V.has_key V.made V.shows values.old values.new) }
+{
+    let stays = values.opposite(guard)?;
+    for place in 0..cells.len() {
+        begin_cell(out, node, form, values, stays, cells, place)?;
+    }
+    Ok(())
+}
