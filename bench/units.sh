@@ -6,34 +6,37 @@
 # program prints: the tokens, those that are kept, the notes and the units.
 set -eu
 . "$(dirname "$0")/program.sh"
+ending=$said
 build_program unitsbench stk_base stk_lex <<'END'
 //! Counts the units of the input.
 #![tactic(auto)]
 
+use std::alloc::Global;
 use std::io::{self, Read, Write};
 use stk_lex::{cut, lex, skim};
 
-fn main(rt: HostRuntime) -> io::Result<()> {
-    let mut bytes = Vec::new(rt.alloc());
-    let mut input = rt.stdin();
-    input.read_to_end(&mut bytes)?;
+fn answer(alloc: Global, bytes: &[u8]) -> String {
+    let nothing = String::new(alloc);
     if bytes.len() > 16_777_216 {
-        return Ok(());
+        return nothing;
     }
-    let Ok(tokens) = lex(rt.alloc(), &bytes) else {
-        return Ok(());
+    let Ok(tokens) = lex(alloc, bytes) else {
+        return nothing;
     };
-    let Ok(skimmed) = skim(rt.alloc(), &bytes, &tokens) else {
-        return Ok(());
+    let Ok(skimmed) = skim(alloc, bytes, &tokens) else {
+        return nothing;
     };
-    let Ok(pieces) = cut(rt.alloc(), &bytes, &skimmed) else {
-        return Ok(());
+    let Ok(pieces) = cut(alloc, bytes, &skimmed) else {
+        return nothing;
     };
     let all = tokens.len();
     let kept = skimmed.tokens.len();
     let notes = skimmed.notes.len();
     let units = pieces.len();
-    println!(rt; "{all} tokens, {kept} kept, {notes} notes, {units} units")
+    match format!(in alloc; "{all} tokens, {kept} kept, {notes} notes, {units} units") {
+        Ok(text) => text,
+        Err(_) => nothing,
+    }
 }
 END
 run() { # the name $1 of the text in the file `text`
