@@ -2,9 +2,10 @@
 # input, builds it over these crates of the repository, which it takes in a folder of its own, and leaves the shell
 # there, with the path in `program`. A CRATE may be one of the kit too. `below CRATE..` prints the crates on which
 # these stand, the kit's too, each behind those on which it stands. Where `ending` is set, its text is added at the
-# program's end: `said` is a `main` that prints what `answer(alloc, bytes)` says of the input. `many TEXT SIZE` writes
-# a text, given with Python's escapes, again and again, up to so many bytes. `timed NAME WORD..` runs the program with
-# these words, and prints the name, its processor seconds and what it wrote.
+# program's end: `said` is a `main` that prints what `answer(alloc, bytes)` says of the input, and `making` has `made`,
+# which makes a term if it can be made. `many TEXT SIZE` writes a text, given with Python's escapes, again and again,
+# up to so many bytes. `timed NAME WORD..` runs the program with these words, and prints the name, its processor seconds
+# and what it wrote.
 top=$(cd "$(dirname "${BASH_SOURCE[0]}")/.." && pwd)
 work=$(mktemp -d)
 trap 'rm -rf "$work"' EXIT
@@ -19,6 +20,16 @@ fn main(rt: HostRuntime) -> io::Result<()> {
     input.read_to_end(&mut bytes)?;
     let said = answer(rt.alloc(), &bytes);
     println!(rt; "{said}")
+}
+'
+making='
+// A term if it can be made, and else the first.
+fn made(terms: &mut Terms, op: TermOp, args: &[TermId]) -> Result<TermId, NoMemory> {
+    if terms.can_make(op, args) {
+        terms.make(op, args)
+    } else {
+        Ok(TermId(0))
+    }
 }
 '
 build_program() {

@@ -138,8 +138,10 @@ fn main(rt: HostRuntime) -> io::Result<()> {
 END
 program=$PWD/$program
 cd "$work"
+cp "$top/bench/lists.py" .
 cat > interchange.py <<'END'
 import os, random, subprocess, sys
+from lists import pigeons, random3
 
 program, checker = sys.argv[1:3]
 cadical = os.environ.get('CADICAL', 'cadical')
@@ -150,13 +152,6 @@ def found(program): return run('sh', '-c', f'command -v {program}').returncode =
 has_lrat_check = found('lrat-check')
 writes_lrat = '--lrat' in run(cadical, '--help').stdout
 
-def random3(n, seed):
-    r = random.Random(seed)
-    return n, [[v if r.random() < .5 else -v for v in r.sample(range(1, n + 1), 3)] for _ in range(int(4.26 * n))]
-def pigeons(holes):
-    v = lambda p, h: p * holes + h + 1
-    some = [[v(p, h) for h in range(holes)] for p in range(holes + 1)]
-    return (holes + 1) * holes, some + [[-v(p, h), -v(q, h)] for h in range(holes) for p in range(holes + 1) for q in range(p)]
 def text(count, clauses, seed):
     r, lines = random.Random(seed), ['c a list', f'p cnf {count} {len(clauses)}']
     for c in clauses:

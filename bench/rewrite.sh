@@ -7,6 +7,7 @@
 # their cost before and after, and the seconds of the same with the terms alone and no rewriting.
 set -eu
 . "$(dirname "$0")/program.sh"
+ending=$making
 build_program rewritebench stk_base stk_terms stk_rewrite <<'END'
 //! Makes as many random terms as the input says, and rewrites their sum.
 #![tactic(auto)]
@@ -46,15 +47,6 @@ static OPERATORS: [TermOp; 20] = [
 fn next(seed: u64) -> u64 {
     seed.wrapping_mul(6_364_136_223_846_793_005)
         .wrapping_add(1_442_695_040_888_963_407)
-}
-
-// A term if it can be made, and else the first.
-fn made(terms: &mut Terms, op: TermOp, args: &[TermId]) -> Result<TermId, NoMemory> {
-    if terms.can_make(op, args) {
-        terms.make(op, args)
-    } else {
-        Ok(TermId(0))
-    }
 }
 
 // An input, or a random one of the last terms.

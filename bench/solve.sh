@@ -102,8 +102,10 @@ fn main(rt: HostRuntime) -> io::Result<()> {
     }
 }
 END
-cat > lists.py <<'END'
+cp "$top/bench/lists.py" .
+cat > solving.py <<'END'
 import random, resource, subprocess, sys
+from lists import pigeons, random3
 
 class Circuit:
     def __init__(self): self.vars, self.clauses = 0, []
@@ -135,13 +137,6 @@ class Circuit:
         return out + rest
     def some_differ(self, a, b): self.clauses.append([self.differ(x, y) for x, y in zip(a, b)]); return self.vars, self.clauses
 
-def random3(n, seed):
-    r = random.Random(seed)
-    return n, [[v if r.random() < .5 else -v for v in r.sample(range(1, n + 1), 3)] for _ in range(int(4.26 * n))]
-def pigeons(holes):
-    v = lambda p, h: p * holes + h + 1
-    some = [[v(p, h) for h in range(holes)] for p in range(holes + 1)]
-    return (holes + 1) * holes, some + [[-v(p, h), -v(q, h)] for h in range(holes) for p in range(holes + 1) for q in range(p)]
 def multipliers(n):
     c = Circuit(); a, b = c.row(n), c.row(n)
     return c.some_differ(c.multiply(a, b), c.multiply(b, a))
@@ -190,4 +185,4 @@ for name, lists in KINDS:
     if ends: sum_ours += ours_took; sum_theirs += theirs_took
 print(f'in all {sum_ours:.3f} s, minisat {sum_theirs:.3f} s: {sum_ours / sum_theirs:.2f} times')
 END
-python3 lists.py "$program"
+python3 solving.py "$program"

@@ -6,6 +6,7 @@
 # held, and the bytes a term.
 set -eu
 . "$(dirname "$0")/program.sh"
+ending=$making
 build_program termsbench stk_base stk_terms <<'END'
 //! Makes as many terms as the input says, and values the last one.
 #![tactic(auto)]
@@ -21,15 +22,6 @@ fn next(k: usize) -> TermOp {
         0 => TermOp::Add,
         1 => TermOp::Sub,
         _ => TermOp::Xor,
-    }
-}
-
-// A term if it can be made, and else the first.
-fn made(terms: &mut Terms, op: TermOp, args: &[TermId]) -> Result<TermId, NoMemory> {
-    if terms.can_make(op, args) {
-        terms.make(op, args)
-    } else {
-        Ok(TermId(0))
     }
 }
 
