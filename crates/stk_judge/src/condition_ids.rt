@@ -17,7 +17,7 @@ pub struct ConditionId {
     pub kind: u8,
 }
 
-/// The condition_id of a condition.
+/// A condition by its node and the number of its kind.
 pub(crate) fn condition_id_of(condition: Condition) -> ConditionId
     ensures { result ≡ condition_id_of condition }
 {
@@ -39,7 +39,7 @@ pub(crate) fn kind_number(kind: CandKind) -> u8
     }
 }
 
-/// The condition_ids of a set of conditions.
+/// The conditions of a set, each by its node and the number of its kind.
 pub(crate) fn condition_ids_in(
     alloc: Global,
     set: &[Condition],
