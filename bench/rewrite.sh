@@ -7,7 +7,7 @@
 # their cost before and after, and the seconds of the same with the terms alone and no rewriting.
 set -eu
 . "$(dirname "$0")/program.sh"
-ending=$making
+ending=$making$counting
 build_program rewritebench stk_base stk_terms stk_rewrite <<'END'
 //! Makes as many random terms as the input says, and rewrites their sum.
 #![tactic(auto)]
@@ -121,10 +121,7 @@ fn answer(alloc: Global, count: usize, rewrites: bool) -> Result<((usize, u64), 
 }
 
 fn main(rt: HostRuntime) -> io::Result<()> {
-    let mut text = String::new(rt.alloc());
-    let mut input = rt.stdin();
-    input.read_to_string(&mut text)?;
-    let Ok(count) = text.trim().parse::<usize>() else {
+    let Some(count) = count_of(&rt)? else {
         return Ok(());
     };
     let rewrites = env::args(&rt)?.count() > 1;

@@ -1,7 +1,7 @@
 #!/bin/bash
 # Compares path runs of functions of any width with files that say what they are.
 #   bash bench/runs.sh FOLDER [PROGRAM]
-# Each FILE.c of FOLDER is preprocessed C, and FILE.runs beside it says runs of its functions. A run is a line `run
+# Each FILE.runs of FOLDER says runs of the functions of FILE.c beside it, which is preprocessed C. A run is a line `run
 # NAME: KEY=NUMBER ..`, the function and a number for each of its keys in order, or `none` where it has no key, and
 # then its trace: a line for each entry, behind two blanks.
 #   ub KIND at PLACE (node N)                       a violated condition; KIND is that of a record, as `signed overflow`
@@ -37,7 +37,8 @@ def parts(text):
 
 program, folder = sys.argv[1:]
 tally = Tally()
-for file in sorted(glob.glob(folder + '/*.c')):
+for said_of in sorted(glob.glob(folder + '/*.runs')):
+    file = said_of.removesuffix('.runs') + '.c'
     for head, *lines in blocks(file, '.runs', 'run '):
         name, _, values = head.partition(': ')
         pairs = [pair.partition('=') for pair in values.split(' ') if values != 'none']

@@ -6,7 +6,7 @@
 # held, and the bytes a term.
 set -eu
 . "$(dirname "$0")/program.sh"
-ending=$making
+ending=$making$counting
 build_program termsbench stk_base stk_terms <<'END'
 //! Makes as many terms as the input says, and values the last one.
 #![tactic(auto)]
@@ -48,10 +48,7 @@ fn answer(alloc: Global, count: usize) -> Result<(usize, u128), NoMemory> {
 }
 
 fn main(rt: HostRuntime) -> io::Result<()> {
-    let mut text = String::new(rt.alloc());
-    let mut input = rt.stdin();
-    input.read_to_string(&mut text)?;
-    let Ok(count) = text.trim().parse::<usize>() else {
+    let Some(count) = count_of(&rt)? else {
         return Ok(());
     };
     let Ok((made, value)) = answer(rt.alloc(), count) else {

@@ -49,7 +49,7 @@ IsFact x f = fact_of f ≡ x
 module _ (bytes : List ℕ) (mark defines : Bool) (word : Option Storage) (es : List NameEntry) (t whole : TypeTree) (k : Node) (count : ℕ) (at : Option Span) (tail : TailTree) (init : MaybeInitTree) where
   -- what the rules make of it, by what follows its name
   abbrev pub rule_for : TypeTree → TailShape → Ruled
-  rule_for w shape = declarator_rule (structs_of es) word (sort_of word shape w) (find (declared_name bytes at) es) init (made_for bytes es defines word w init shape)
+  rule_for w shape = declarator_rule (structs_of es) word (sort_of word shape w) (find (declared_name bytes at) es) init (made_for bytes es (find (declared_name bytes at) es) defines word w init shape)
 
   abbrev AreEntries : List NameEntry → Option NameEntry → Type 0
   AreEntries now e = es ++ listed e ≡ now

@@ -2,6 +2,7 @@
 use Rattle.std.specs.Prelude.{ℕ, Bool, true, false, List, [], ◌++◌, Option, Some, None}
 use Rattle.stk_base.specs.declared.span.Span.{Span}
 use Rattle.stk_base.specs.Text.{text_of}
+use Rattle.stk_ctype.specs.declared.symbol.Symbol.{Symbol}
 use Rattle.stk_ctype.specs.declared.symbol.NameEntry.{NameEntry}
 use Rattle.stk_ctype.specs.Types.{TypeTree}
 use Rattle.stk_ctype.specs.Structs.{structs_of}
@@ -18,7 +19,7 @@ use Rattle.stk_declarators.specs.Uses.{base_uses, declarator_uses}
 use Rattle.stk_declarators.specs.Counting.{given_count}
 use Rattle.stk_declarators.specs.Tails.{TailShape, of_arrays, of_function, tail_typed, tail_type, are_scalars}
 use Rattle.stk_declare.specs.Tags.{at_file, behind_uses}
-use Rattle.stk_declare.specs.Symbols.{sort_of, declarator_rule, added, lacks_size, size_first}
+use Rattle.stk_declare.specs.Symbols.{sort_of, agreement_first, declarator_rule, added, is_begun, lacks_size, says_otherwise, size_first}
 use Rattle.stk_declare.specs.Structs.{base_declared}
 
 -- the name of a declarator
@@ -31,9 +32,11 @@ abbrev pub count_for : List ℕ → TailShape → TypeTree → MaybeInitTree →
 count_for bytes (of_arrays sizes) t i = given_count bytes (are_scalars sizes t) i
 count_for bytes (of_function ps more) t i = None
 
--- what the parts of a declarator make: the type that it declares, or the rule that refuses them
-abbrev pub made_for : List ℕ → List NameEntry → Bool → Option Storage → TypeTree → MaybeInitTree → TailShape → Ruled
-made_for bytes es defines word whole init shape = size_first (lacks_size word shape (count_for bytes shape whole init)) (tail_type (structs_of es) defines (count_for bytes shape whole init) whole shape)
+-- what the parts of a declarator make, whose name means this before it: the type that it declares, or the rule that
+-- refuses them
+abbrev pub made_for : List ℕ → List NameEntry → Option Symbol → Bool → Option Storage → TypeTree → MaybeInitTree → TailShape → Ruled
+made_for bytes es earlier defines word whole init shape =
+    agreement_first (says_otherwise earlier shape whole) (size_first (lacks_size word (is_begun init) shape (count_for bytes shape whole init)) (tail_type (structs_of es) defines (count_for bytes shape whole init) whole shape))
 
 -- a declarator, of a function definition or not, in a unit that is marked as not returning or isn't, under a base with
 -- a storage word that names a type. Its initialiser isn't typed.
@@ -42,7 +45,7 @@ declarator_declared bytes mark defines word es t (s.declarator k count at tail i
     let name = declared_name bytes at in
     let whole = starred count t in
     and_then (tail_typed (at_file bytes es) defines tail) (λ shape.
-    and_then (finish k.number (declarator_rule (structs_of es) word (sort_of word shape whole) (find name es) init (made_for bytes es defines word whole init shape))) (λ x.
+    and_then (finish k.number (declarator_rule (structs_of es) word (sort_of word shape whole) (find name es) init (made_for bytes es (find name es) defines word whole init shape))) (λ x.
     Good (es ++ added name (sort_of word shape whole) mark (find name es) x.ty) []))
 
 -- declarators, each with those before it in force

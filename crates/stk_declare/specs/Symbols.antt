@@ -16,6 +16,7 @@ use Rattle.stk_type_rules.specs.Types.{is_complete, is_void}
 use Rattle.stk_typing.specs.declared.arrays.Size.{Size}
 use Rattle.stk_typing.specs.Arrays.{is_open}
 use Rattle.stk_typing.specs.Fitting.{fits}
+use Rattle.stk_declarators.specs.Functions.{function_of}
 use Rattle.stk_declarators.specs.Tails.{TailShape, of_arrays, of_function}
 use Rattle.stk_declare.specs.declared.symbols.SymbolSort.{SymbolSort}
 use Rattle.stk_declare.specs.declared.symbols.SymbolSort.TheVariants as sort
@@ -70,19 +71,28 @@ abbrev pub is_open_array : TypeTree → Bool
 is_open_array (array_type t None) = true
 is_open_array t = false
 
--- an object has a complete type, but for an `extern` one, whose type may be an array of unknown size or an incomplete
--- struct
-abbrev pub may_be_object : Structs → Option Storage → TypeTree → Bool
-may_be_object structs None t = is_complete structs t
-may_be_object structs (Some storage.Typedef) t = is_complete structs t
-may_be_object structs (Some storage.Extern) t = not (is_void t)
-may_be_object structs (Some storage.Static) t = is_complete structs t
+-- whether an object has an initialiser
+abbrev pub is_begun : MaybeInitTree → Bool
+is_begun s.no_initialiser = false
+is_begun (s.some_initialiser i) = true
+
+-- whether an object may be incomplete: an `extern` one without an initialiser
+abbrev pub may_lack_size : Option Storage → Bool → Bool
+may_lack_size None begun = false
+may_lack_size (Some storage.Typedef) begun = false
+may_lack_size (Some storage.Extern) begun = not begun
+may_lack_size (Some storage.Static) begun = false
+
+-- an object has a complete type, but for an `extern` one without an initialiser, whose type may be an array of unknown
+-- size or an incomplete struct
+abbrev pub may_be_object : Structs → Option Storage → Bool → TypeTree → Bool
+may_be_object structs word begun t = if may_lack_size word begun then not (is_void t) else is_complete structs t
 
 -- a typedef name stands for no array of unknown size
-abbrev pub may_be : Structs → Option Storage → SymbolSort → TypeTree → Bool
-may_be structs word sort.TypeName t = not (is_open_array t)
-may_be structs word sort.Object t = may_be_object structs word t
-may_be structs word sort.Function t = true
+abbrev pub may_be : Structs → Option Storage → SymbolSort → Bool → TypeTree → Bool
+may_be structs word sort.TypeName begun t = not (is_open_array t)
+may_be structs word sort.Object begun t = may_be_object structs word begun t
+may_be structs word sort.Function begun t = true
 
 -- an object may have an initialiser that fits its type
 abbrev pub may_begin : SymbolSort → TypeTree → MaybeInitTree → Bool
@@ -94,8 +104,8 @@ may_begin sort.Function t (s.some_initialiser i) = false
 -- a declarator that declares this type, by how it agrees with earlier declarations
 abbrev pub agreed_rule : Structs → Option Storage → SymbolSort → MaybeInitTree → TypeTree → Agreement → Ruled
 agreed_rule structs word what i t Differ = Breaks 3
-agreed_rule structs word what i t Old = if may_be structs word what t then (if may_begin what t i then Fits (declares t) else Breaks 16) else Breaks 4
-agreed_rule structs word what i t New = if may_be structs word what t then (if may_begin what t i then Fits (declares t) else Breaks 16) else Breaks 4
+agreed_rule structs word what i t Old = if may_be structs word what (is_begun i) t then (if may_begin what t i then Fits (declares t) else Breaks 16) else Breaks 4
+agreed_rule structs word what i t New = if may_be structs word what (is_begun i) t then (if may_begin what t i then Fits (declares t) else Breaks 16) else Breaks 4
 
 -- the same of what its parts make
 abbrev pub made_rule : Structs → Option Storage → SymbolSort → Option Symbol → MaybeInitTree → Ruled → Ruled
@@ -112,23 +122,32 @@ is_unsized (Some n) sizes = false
 is_unsized None [] = false
 is_unsized None (size ∷ sizes) = is_open size
 
--- an `extern` object may have an array type of unknown size
-abbrev pub may_lack_size : Option Storage → Bool
-may_lack_size None = false
-may_lack_size (Some storage.Typedef) = false
-may_lack_size (Some storage.Extern) = true
-may_lack_size (Some storage.Static) = false
-
--- a declarator behind this storage word lacks a size, by what follows its name and how many elements its initialiser
--- counts
-abbrev pub lacks_size : Option Storage → TailShape → Option ℕ → Bool
-lacks_size word (of_arrays sizes) count = is_unsized count sizes && not (may_lack_size word)
-lacks_size word (of_function ps more) count = false
+-- a declarator behind this storage word, with an initialiser or without, lacks a size, by what follows its name and how
+-- many elements its initialiser counts
+abbrev pub lacks_size : Option Storage → Bool → TailShape → Option ℕ → Bool
+lacks_size word begun (of_arrays sizes) count = is_unsized count sizes && not (may_lack_size word begun)
+lacks_size word begun (of_function ps more) count = false
 
 -- a size that is missing refuses a declarator before what is wrong with its other parts, by the lower rule
 abbrev pub size_first : Bool → Ruled → Ruled
 size_first lacking (Breaks r) = Breaks (if lacking then 4 else r)
 size_first lacking (Fits x) = Fits x
+
+-- whether types differ
+abbrev pub is_differ : Agreement → Bool
+is_differ Differ = true
+is_differ Old = false
+is_differ New = false
+
+-- a function's declarator says another type than an earlier declaration, whatever else is wrong with it
+abbrev pub says_otherwise : Option Symbol → TailShape → TypeTree → Bool
+says_otherwise earlier (of_arrays sizes) t = false
+says_otherwise earlier (of_function ps more) t = is_differ (agreement earlier (function_of t ps more))
+
+-- that refuses it before what is wrong with its parts, by the lower rule
+abbrev pub agreement_first : Bool → Ruled → Ruled
+agreement_first differs (Breaks r) = Breaks (if differs then 3 else r)
+agreement_first differs (Fits x) = Fits x
 
 -- ---- the entry that it adds
 -- whether a function was marked as not returning

@@ -29,8 +29,8 @@ fn was_marked(earlier: Option<&Symbol>) -> bool
     }
 }
 
-// Copies of types in a row.
-fn copied_row(alloc: Global, row: &[CType]) -> Result<List<CType>, NoMemory>
+/// Copies of types in a row.
+pub(crate) fn copied_row(alloc: Global, row: &[CType]) -> Result<List<CType>, NoMemory>
     ensures { IfOk result (λ ts. ts ≡ row.now) }
 {
     let mut all = Vec::new(alloc);

@@ -19,7 +19,9 @@ ghost use Rattle.stk_declare.specs.Tags.{behind_uses};
 
 use crate::additions::addition;
 use crate::settling::settled;
-use crate::symbols::{declarator_rule, lacks_size, size_first, sort_of};
+use crate::symbols::{
+    agreement_first, declarator_rule, lacks_size, says_otherwise, size_first, sort_of,
+};
 use crate::tags::{add_entry, behind_uses};
 use std::alloc::Global;
 use stk_base::{NoMemory, Span};
@@ -74,15 +76,16 @@ fn ruled(
 ) -> Result<NodeFact, Untyped>
     requires sound { IsSound (structs_of f.now.names.now) (type_of whole) }
     requires tail { IsSoundTail (structs_of f.now.names.now) tailed }
-    ensures gives { (s : TailShape) → IsShape s tailed → Answers (λ x v. fact_of v ≡ x) (finish d.now.node.number (declarator_rule (structs_of f.now.names.now) word (sort_of word s (type_of whole)) (find (declared_name f.now.bytes.now d.now.name) f.now.names.now) (maybe_initialiser (option_map view_initialiser d.now.init)) (made_for f.now.bytes.now f.now.names.now defines word (type_of whole) (maybe_initialiser (option_map view_initialiser d.now.init)) s))) result }
+    ensures gives { (s : TailShape) → IsShape s tailed → Answers (λ x v. fact_of v ≡ x) (finish d.now.node.number (declarator_rule (structs_of f.now.names.now) word (sort_of word s (type_of whole)) (find (declared_name f.now.bytes.now d.now.name) f.now.names.now) (maybe_initialiser (option_map view_initialiser d.now.init)) (made_for f.now.bytes.now f.now.names.now (find (declared_name f.now.bytes.now d.now.name) f.now.names.now) defines word (type_of whole) (maybe_initialiser (option_map view_initialiser d.now.init)) s))) result }
     ensures sound { IfOk result (λ v. IsSound (structs_of f.now.names.now) (type_of v.ty)) }
 {
     let what = sort_of(word, &tailed, &whole);
     let count = count_for(f, &tailed, &whole, &d.init)?;
     let earlier = f.names.find(declared_name(f.bytes, d.name));
-    let lacking = lacks_size(word, &tailed, count);
+    let lacking = lacks_size(word, &d.init, &tailed, count);
+    let differs = says_otherwise(f.alloc, earlier, &tailed, &whole)?;
     let made = tail_type(f.alloc, f.names, defines, count, whole, tailed);
-    let made = size_first(lacking, made);
+    let made = agreement_first(differs, size_first(lacking, made));
     let made = declarator_rule(f.alloc, f.names, word, what, earlier, &d.init, made);
     settled(d.node.number, made)
 }

@@ -1,8 +1,8 @@
 //! What a declarator of file scope declares, and how it agrees with earlier declarations of its name.
 
-ghost use Rattle.std.specs.Prelude.{◌≡◌, ◌&&◌, not, if◌then◌else◌, None, IfOk};
+ghost use Rattle.std.specs.Prelude.{◌≡◌, ◌&&◌, false, not, if◌then◌else◌, map, None, IfOk};
 ghost use Rattle.std.specs.Option.{option_map, option_copied};
-ghost use Rattle.stk_ctype.specs.Types.{function_type, type_of, signature_of};
+ghost use Rattle.stk_ctype.specs.Types.{function_type, row_of, signature, type_of, signature_of};
 ghost use Rattle.stk_ctype.specs.Structs.{Structs, structs_of};
 ghost use Rattle.stk_ctype.specs.Sound.{IsSound};
 ghost use Rattle.stk_tree.specs.View.{view_initialiser, maybe_initialiser};
@@ -11,12 +11,13 @@ ghost use Rattle.stk_type_rules.specs.Outcome.{MakesFact};
 ghost use Rattle.stk_declarators.specs.Tails.{TailShape};
 ghost use Rattle.stk_declarators.specs.Rows.{IsShape};
 ghost use Rattle.stk_compatible.specs.Agreeing.{agree};
-ghost use Rattle.stk_declare.specs.Symbols.{sort_by_type, sort_by_tail, sort_of, clashes, agreement, is_open_array, may_be_object, may_be, may_begin, agreed_rule, made_rule, declarator_rule, is_unsized, lacks_size, may_lack_size, size_first};
+ghost use Rattle.stk_declare.specs.Symbols.{agreement_first, is_begun, is_differ, says_otherwise, sort_by_type, sort_by_tail, sort_of, clashes, agreement, is_open_array, may_be_object, may_be, may_begin, agreed_rule, made_rule, declarator_rule, is_unsized, lacks_size, may_lack_size, size_first};
 
+use crate::additions::copied_row;
 use std::alloc::Global;
 use stk_base::NoMemory;
 use stk_compatible::{Agreement, agree, agree_signature};
-use stk_ctype::{CType, Names, Signature, Symbol};
+use stk_ctype::{CType, Names, OwnedSignature, Signature, Symbol};
 use stk_declarators::Tailed;
 use stk_tree::{Init, Storage};
 use stk_type_rules::{Broken, NodeFact, is_complete, is_void};
@@ -96,25 +97,46 @@ pub(crate) fn is_open_array(ty: &CType) -> bool
     }
 }
 
-// Whether an object may have this type.
-fn may_be_object(names: &Names, word: Option<Storage>, ty: &CType) -> bool
-    requires { IsSound (structs_of names.now) (type_of ty.now) }
-    ensures { result ≡ may_be_object (structs_of names.now) word (type_of ty.now) }
+// Whether an object has an initialiser.
+fn is_begun(i: &Option<Init>) -> bool
+    ensures { result ≡ is_begun (maybe_initialiser (option_map view_initialiser i.now)) }
 {
-    match word {
-        Some(Storage::Extern) => !is_void(ty),
-        None | Some(Storage::Typedef) | Some(Storage::Static) => is_complete(names, ty),
+    match i {
+        None => false,
+        Some(_) => true,
     }
 }
 
-// Whether what is declared may have this type.
-fn may_be(names: &Names, word: Option<Storage>, what: SymbolSort, ty: &CType) -> bool
+// Whether an object, with an initialiser or without, may be incomplete.
+fn may_lack_size(word: Option<Storage>, begun: bool) -> bool
+    ensures { result ≡ may_lack_size word begun }
+{
+    match word {
+        None | Some(Storage::Typedef) | Some(Storage::Static) => false,
+        Some(Storage::Extern) => !begun,
+    }
+}
+
+// Whether an object, with an initialiser or without, may have this type.
+fn may_be_object(names: &Names, word: Option<Storage>, begun: bool, ty: &CType) -> bool
     requires { IsSound (structs_of names.now) (type_of ty.now) }
-    ensures { result ≡ may_be (structs_of names.now) word what (type_of ty.now) }
+    ensures { result ≡ may_be_object (structs_of names.now) word begun (type_of ty.now) }
+{
+    if may_lack_size(word, begun) {
+        !is_void(ty)
+    } else {
+        is_complete(names, ty)
+    }
+}
+
+// Whether what is declared, with an initialiser or without, may have this type.
+fn may_be(names: &Names, word: Option<Storage>, what: SymbolSort, begun: bool, ty: &CType) -> bool
+    requires { IsSound (structs_of names.now) (type_of ty.now) }
+    ensures { result ≡ may_be (structs_of names.now) word what begun (type_of ty.now) }
 {
     match what {
         SymbolSort::TypeName => !is_open_array(ty),
-        SymbolSort::Object => may_be_object(names, word, ty),
+        SymbolSort::Object => may_be_object(names, word, begun, ty),
         SymbolSort::Function => true,
     }
 }
@@ -181,7 +203,7 @@ fn agreed_rule(
         Agreement::Differ => return Err(Broken::Rule(3)),
         Agreement::Old | Agreement::New => {}
     }
-    if !may_be(names, word, what, &fact.ty) {
+    if !may_be(names, word, what, is_begun(i), &fact.ty) {
         return Err(Broken::Rule(4));
     }
     if !may_begin(what, &fact.ty, i) {
@@ -228,24 +250,77 @@ pub(crate) fn is_unsized(count: Option<u64>, sizes: &[Size]) -> bool
     }
 }
 
-// Whether a declarator behind this storage word may have an array type of unknown size.
-fn may_lack_size(word: Option<Storage>) -> bool
-    ensures { result ≡ may_lack_size word }
+/// Whether a declarator behind this storage word, with this initialiser or none, lacks a size, by what follows its name
+/// and how many elements its initialiser counts.
+pub(crate) fn lacks_size(
+    word: Option<Storage>,
+    i: &Option<Init>,
+    t: &Tailed,
+    count: Option<u64>,
+) -> bool
+    ensures { (s : TailShape) → IsShape s t.now → result ≡ lacks_size word (is_begun (maybe_initialiser (option_map view_initialiser i.now))) s count }
 {
-    match word {
-        None | Some(Storage::Typedef) | Some(Storage::Static) => false,
-        Some(Storage::Extern) => true,
+    match t {
+        Tailed::Arrays(sizes) => {
+            is_unsized(count, sizes.as_slice()) && !may_lack_size(word, is_begun(i))
+        }
+        Tailed::Function(_, _) => false,
     }
 }
 
-/// Whether a declarator behind this storage word lacks a size, by what follows its name and how many elements its
-/// initialiser counts.
-pub(crate) fn lacks_size(word: Option<Storage>, t: &Tailed, count: Option<u64>) -> bool
-    ensures { (s : TailShape) → IsShape s t.now → result ≡ lacks_size word s count }
+// Whether types differ.
+fn is_differ(agreement: Agreement) -> bool
+    ensures { result ≡ is_differ agreement }
+{
+    match agreement {
+        Agreement::Differ => true,
+        Agreement::Old | Agreement::New => false,
+    }
+}
+
+// The type of a function with these parameters, whatever the rules make of it.
+fn said_type(alloc: Global, whole: &CType, params: &[CType], more: bool) -> Result<CType, NoMemory>
+    ensures { IfOk result (λ t. type_of t ≡ function_type (signature (type_of whole.now) (row_of (map type_of params.now)) more false)) }
+{
+    let signature = Signature {
+        result: whole.copy(alloc)?,
+        params: copied_row(alloc, params)?,
+        more,
+        no_return: false,
+    };
+    Ok(CType::Function(OwnedSignature::new(alloc, signature)?))
+}
+
+/// Whether a function's declarator says another type than an earlier declaration.
+pub(crate) fn says_otherwise<'a>(
+    alloc: Global,
+    earlier: Option<&'a Symbol>,
+    t: &Tailed,
+    whole: &CType,
+) -> Result<bool, NoMemory>
+    ensures { (s : TailShape) → IsShape s t.now → IfOk result (λ b. b ≡ says_otherwise (option_copied earlier.entry) s (type_of whole.now)) }
 {
     match t {
-        Tailed::Arrays(sizes) => is_unsized(count, sizes.as_slice()) && !may_lack_size(word),
-        Tailed::Function(_, _) => false,
+        Tailed::Arrays(_) => Ok(false),
+        Tailed::Function(params, more) => {
+            let ty = said_type(alloc, whole, params.types.as_slice(), *more)?;
+            Ok(is_differ(agreement(alloc, earlier, &ty)?))
+        }
+    }
+}
+
+/// What refuses a declarator that says another type than an earlier declaration or doesn't: that first.
+pub(crate) fn agreement_first(
+    differs: bool,
+    made: Result<NodeFact, Broken>,
+) -> Result<NodeFact, Broken>
+    ensures fact { (r : Ruled) → MakesFact r made → MakesFact (agreement_first differs r) result }
+    ensures sound { (structs : Structs) → IfOk made (λ f. IsSound structs (type_of f.ty)) → IfOk result (λ f. IsSound structs (type_of f.ty)) }
+{
+    match made {
+        Ok(fact) => Ok(fact),
+        Err(Broken::Rule(rule)) => Err(Broken::Rule(if differs { 3 } else { rule })),
+        Err(Broken::NoMemory) => Err(Broken::NoMemory),
     }
 }
 

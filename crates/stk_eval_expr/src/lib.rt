@@ -9,4 +9,4 @@ mod steps;
 pub use asked::{PathSetting, Replacement};
 pub use expressions::{tested, value};
 pub use state::{Flow, Sides, State, put_kept, put_word};
-pub use steps::node_of;
+pub use steps::{bare, is_comparison, node_of, target_of};

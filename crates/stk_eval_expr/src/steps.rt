@@ -239,8 +239,8 @@ pub(crate) fn compared_number<O: PathSetting>(
     Ok(number)
 }
 
-// The expression in parentheses.
-fn bare(e: &Expr) -> &Expr
+/// An expression without the parentheses round it (C11 6.5.1p5).
+pub fn bare(e: &Expr) -> &Expr
     ensures { view_expression result.now ≡ bare (view_expression e.now) }
 {
     match &e.form {
@@ -278,8 +278,8 @@ fn compares(sort: BinarySort) -> bool
     }
 }
 
-// Whether an expression is a comparison.
-fn is_comparison(e: &Expr) -> bool
+/// Whether an expression is a comparison (C11 6.5.8, 6.5.9); one in parentheses isn't.
+pub fn is_comparison(e: &Expr) -> bool
     ensures { result ≡ is_comparison (view_expression e.now) }
 {
     match &e.form {
@@ -314,8 +314,8 @@ pub(crate) fn see(e: &Expr, number: Word, state: &mut State) -> Result<(), NoMem
     state.push(Entry::Seen(node_of(inner), number.is_true(), None))
 }
 
-/// What an expression is as a place by name.
-pub(crate) fn target_of<O: PathSetting>(out: &O, e: &Expr) -> Target
+/// What an expression is as a place by name: a name, or a member of one, parentheses aside.
+pub fn target_of<O: PathSetting>(out: &O, e: &Expr) -> Target
     ensures { target_shown result ≡ target_of (O.setting out.now) (view_expression e.now) }
 {
     match &e.form {

@@ -65,8 +65,8 @@ fn case_at<O: PathSetting>(out: &O, kind: IntKind, number: Word, list: &[Section
     None
 }
 
-// The position of the first section that has a `default`.
-fn default_at(list: &[Section]) -> Option<usize>
+/// The position of the first section that has a `default`; none where there is none (C11 6.8.4.2).
+pub fn default_at(list: &[Section]) -> Option<usize>
     ensures { result ≡ sections_before has_default (sections (map view_section list.now)) }
 {
     for (at, x) in list.iter().enumerate() {

@@ -125,8 +125,8 @@ fn declarator<O: PathSetting>(
     Ok(())
 }
 
-// Whether a storage word is `static`.
-fn is_static(word: Option<Storage>) -> bool
+/// Whether a storage word is `static` (C11 6.7.1).
+pub fn is_static(word: Option<Storage>) -> bool
     ensures { result ≡ is_static word }
 {
     match word {

@@ -8,5 +8,7 @@ mod running;
 mod scopes;
 mod statements;
 
+pub use choosing::default_at;
+pub use declarations::is_static;
 pub use running::run_body;
 pub use statements::statement;

@@ -1,5 +1,5 @@
 -- Local declarations (C11 6.7, 6.2.1): a local is in force from the end of its declarator, before its initialiser.
-use Rattle.std.specs.Prelude.{ℕ, zero, suc, Bool, true, false, not, ◌&&◌, if◌then◌else◌, List, [], ◌∷◌, ◌++◌, Option, Some, None}
+use Rattle.std.specs.Prelude.{ℕ, zero, suc, Bool, true, false, not, ◌&&◌, ◌||◌, if◌then◌else◌, List, [], ◌∷◌, ◌++◌, Option, Some, None}
 use Rattle.stk_base.specs.declared.span.Span.{Span}
 use Rattle.stk_base.specs.Text.{text_of}
 use Rattle.stk_ctype.specs.Types.{TypeTree, void_type}
@@ -32,7 +32,13 @@ abbrev pub local_name : List ℕ → Option Span → List ℕ
 local_name bytes None = []
 local_name bytes (Some at) = text_of bytes at
 
--- the type that a local has in its own initialiser: `void`, where the declarator declares none
+-- whether a rule refuses a node
+abbrev pub is_refused : Ruled → Bool
+is_refused (Breaks r) = true
+is_refused (Fits x) = false
+
+-- the type that a local has in its own initialiser; where its declarator makes none, the initialiser isn't typed, and
+-- this says nothing
 abbrev pub own_type : Ruled → TypeTree
 own_type (Breaks r) = void_type
 own_type (Fits x) = x.ty
@@ -54,9 +60,9 @@ with_own scope register k = record { bytes = scope.bytes; entries = scope.entrie
 abbrev pub initial_scope : Body → Bool → Local → Scope
 initial_scope b static l = with_own (with_locals b.scope (l ∷ [])) (is_local_register b static l.node l.ty) l.node
 
--- the initialiser of a local; that of a `static` one isn't typed
+-- the initialiser of a local, which may be left without types
 abbrev pub initial_typed : Body → Bool → Local → MaybeInitTree → Outcome Leaves
-initial_typed b static l s.no_initialiser = Good no_leaf []
+initial_typed b untyped l s.no_initialiser = Good no_leaf []
 initial_typed b true l (s.some_initialiser i) = Good no_leaf (plain_nodes (initialiser_nodes i))
 initial_typed b false l (s.some_initialiser i) = initialiser_typed (initial_scope b false l) i
 
@@ -105,10 +111,14 @@ own_local structs name k whole sizes = record { name = name; node = k; ty = own_
 abbrev pub local_by : List ℕ → ℕ → Fact → List Local
 local_by name k x = record { name = name; node = k; ty = x.ty } ∷ []
 
+-- the initialiser of a `static` object isn't typed, nor is one whose local has no type, by what its array parts make
+abbrev pub is_untyped : Bool → Ruled → Bool
+is_untyped static made = static || is_refused made
+
 -- a local's declarator behind its array parts: its initialiser, then itself
 abbrev pub local_sized : Body → Bool → List ℕ → ℕ → TypeTree → MaybeInitTree → List Size → Outcome (List Local)
 local_sized b static name k whole init sizes =
-    and_then (initial_typed b static (own_local (structs_in b.scope) name k whole sizes) init) (λ leaves.
+    and_then (initial_typed b (is_untyped static (declared_type (structs_in b.scope) sizes whole)) (own_local (structs_in b.scope) name k whole sizes) init) (λ leaves.
     and_then (finish k (declared_rule b.scope.bytes (structs_in b.scope) (is_in_block b name) static init whole sizes leaves)) (λ x.
     Good (local_by name k x) []))
 

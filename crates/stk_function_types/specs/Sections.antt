@@ -29,16 +29,20 @@ abbrev pub has_case : ℤ → List ℤ → Bool
 has_case z [] = false
 has_case z (y ∷ ys) = int_eq z y || has_case z ys
 
--- a number in the promoted kind of the controlling expression; as it is where that is no integer
-abbrev pub in_kind : Option IntKind → ℤ → ℤ
-in_kind None z = z
-in_kind (Some k) z = wrap (promote k) z
+-- one more case with this number
+abbrev pub with_number_of : ℤ → Labelled → Labelled
+with_number_of z l = record { cases = z ∷ l.cases; has_default = l.has_default; twice = l.twice || has_case z l.cases; improper = l.improper }
+
+-- the same, compared in the promoted kind of the controlling expression; where that is no integer nothing is compared
+abbrev pub with_compared : Option IntKind → Labelled → ℤ → Labelled
+with_compared None l z = l
+with_compared (Some k) l z = with_number_of (wrap (promote k) z) l
 
 -- one more case with this constant expression
 abbrev pub with_case : Option IntKind → Labelled → Constancy → Labelled
 with_case kind l Varies = record { cases = l.cases; has_default = l.has_default; twice = l.twice; improper = true }
 with_case kind l Violates = record { cases = l.cases; has_default = l.has_default; twice = l.twice; improper = true }
-with_case kind l (Number z) = record { cases = in_kind kind z ∷ l.cases; has_default = l.has_default; twice = l.twice || has_case (in_kind kind z) l.cases; improper = l.improper }
+with_case kind l (Number z) = with_compared kind l z
 
 abbrev pub with_default : Labelled → Labelled
 with_default l = record { cases = l.cases; has_default = true; twice = l.twice || l.has_default; improper = l.improper }

@@ -1,6 +1,6 @@
 -- Statements (C11 6.8): the facts of their nodes, in the order of the numbers, up to the first node that a rule
 -- refuses.
-use Rattle.std.specs.Prelude.{ℕ, Bool, true, false, not, ◌||◌, if◌then◌else◌, List, [], Option, Some, None}
+use Rattle.std.specs.Prelude.{ℕ, Bool, true, false, not, ◌&&◌, ◌||◌, if◌then◌else◌, List, [], Option, Some, None}
 use Rattle.stk_ctype.specs.declared.kind.IntKind.{IntKind}
 use Rattle.stk_ctype.specs.Types.{TypeTree}
 use Rattle.stk_tree.specs.Syntax.{ExprTree, MaybeExprTree, StartTree, StmtTree, StmtTrees, MaybeStmtTree, StmtFormTree, PartTree, PartTrees, SectionTree, SectionTrees}
@@ -52,11 +52,11 @@ abbrev pub leave_rule : Bool → Ruled
 leave_rule true = Fits plain
 leave_rule false = Breaks 13
 
--- a value that a function returns whose result has this type
+-- a value that a function returns whose result has this type: a scalar, which converts to scalars alone
 abbrev pub return_value : TypeTree → Fact → Ruled
 return_value t x =
     if is_struct x.ty then Breaks 9 else
-    (if is_void t then Breaks 14 else (if not (is_scalar (decayed x.ty)) then Breaks 6 else (if is_struct t then Breaks 9 else Fits plain)))
+    (if is_void t then Breaks 14 else (if is_scalar t && is_scalar (decayed x.ty) then Fits plain else Breaks 6))
 
 abbrev pub return_rule : TypeTree → Option Fact → Ruled
 return_rule t None = if is_void t then Fits plain else Breaks 14

@@ -9,8 +9,7 @@ use Rattle.stk_type_rules.specs.Facts.{Fact, fact_at, Ruled, Fits}
 use Rattle.stk_type_rules.specs.Outcome.{Good}
 use Rattle.stk_type_rules.specs.Rules.{paren_rule, dot_rule, arrow_rule, step_rule, unary_rule, index_rule, binary_rule, assign_rule, cast_rule, choice_rule}
 use Rattle.stk_typing.specs.Locals.{Local}
-use Rattle.stk_typing.specs.declared.calls.Arguments.{Arguments}
-use Rattle.stk_typing.specs.Calls.{with_argument, call_rule}
+use Rattle.stk_typing.specs.Calls.{call_rule}
 use Rattle.stk_typing.specs.Typing.{expression_typed, form_typed, callee_typed, arguments_typed, type_name_typed}
 use Rattle.stk_meaning.specs.Typings.{Typing, type_in}
 use Rattle.stk_meaning.specs.Visits.{Role, Visit, reading, as_arm, as_test, inner_role, inside, indexed_role, unary_role, left_role, right_role, assigned_role}
@@ -117,12 +116,12 @@ mutual
       let q = expression_ruled c b (n + expression_nodes a) reading ls own o.then.value o.then.first o.then.gives (first_stands c.facts (n + expression_nodes a) o.rest o.then.first (x ∷ []) o.then.all stand_b) from.1 in
       record { inner = (p.visits, q.visits); own = ruled_two (assign_rule (structs_of c.entries) op) o.value o.then.value x (fact_of c.facts a) (fact_of c.facts b) (fact_at c.facts k) p.at q.at here o.then.rule }
 
-  arguments_ruled : (c : Ground) (es : ExprTrees) (n : ℕ) (ls : List Local) (own : Option ℕ) (a : Arguments) (ts : List Fact) → arguments_typed (in_force c ls own) es ≡ Good a ts
+  arguments_ruled : (c : Ground) (es : ExprTrees) (n : ℕ) (ls : List Local) (own : Option ℕ) (xs : List Fact) (ts : List Fact) → arguments_typed (in_force c ls own) es ≡ Good xs ts
       → Stand c.facts n ts → expressions_from n es → EachVisit (RuledVisit c) (arguments_visits (typing c) es)
-  arguments_ruled c s.no_expressions n ls own a ts eq stand from = tt
-  arguments_ruled c (s.then_expression e es) n ls own a ts eq stand from =
-      let o = steps (expression_typed (in_force c ls own) e) _ a ts eq in
-      let m = mapped (arguments_typed (in_force c ls own) es) (with_argument o.value) a o.rest o.then in
+  arguments_ruled c s.no_expressions n ls own xs ts eq stand from = tt
+  arguments_ruled c (s.then_expression e es) n ls own xs ts eq stand from =
+      let o = steps (expression_typed (in_force c ls own) e) _ xs ts eq in
+      let m = mapped (arguments_typed (in_force c ls own) es) (λ (z : List Fact). o.value ∷ z) xs o.rest o.then in
       let stand_b = rest_stands c.facts n (expression_nodes e) ts o.first o.rest o.all ((expression_count e (in_force c ls own)).by o.value o.first o.gives) stand in
       let p = expression_ruled c e n reading ls own o.value o.first o.gives (first_stands c.facts n ts o.first o.rest o.all stand) from.0 in
       (p.visits, arguments_ruled c es (n + expression_nodes e) ls own m.value o.rest m.gives stand_b from.1)

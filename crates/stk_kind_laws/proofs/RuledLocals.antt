@@ -14,22 +14,22 @@ use Rattle.stk_type_rules.specs.Outcome.{Good, and_then, finish}
 use Rattle.stk_typing.specs.declared.arrays.Size.{Size}
 use Rattle.stk_typing.specs.Locals.{Local}
 use Rattle.stk_typing.specs.Scope.{unevaluated}
-use Rattle.stk_typing.specs.Arrays.{starred}
+use Rattle.stk_typing.specs.Arrays.{starred, declared_type}
 use Rattle.stk_typing.specs.Typing.{base_typed, dimensions_typed}
 use Rattle.stk_typing.specs.declared.initialiser_leaves.Leaves.{Leaves}
 use Rattle.stk_typing.specs.Leaves.{no_leaf}
 use Rattle.stk_address_taken.specs.Statements.{is_static as taken_static}
 use Rattle.stk_function_types.specs.Bodies.{Body, with_more, is_in_block}
-use Rattle.stk_function_types.specs.Locals.{local_name, is_local_register, plain_nodes, initial_scope, initial_typed, declared_rule, own_local, local_by, local_sized, local_declared, locals_declared, declaration_typed}
+use Rattle.stk_function_types.specs.Locals.{local_name, is_local_register, plain_nodes, initial_scope, initial_typed, is_untyped, declared_rule, own_local, local_by, local_sized, local_declared, locals_declared, declaration_typed}
 use Rattle.stk_meaning.specs.Visits.{is_static, initial_visits, declarator_visits, declarators_visits, declaration_visits}
 use Rattle.stk_run_laws.specs.Visits.{EachVisit}
-use Rattle.stk_type_laws.proofs.Stretches.{Counts, counts_then, counts_own, counts_given, counts_mapped, Stand, first_stands, rest_stands, steps, mapped}
+use Rattle.stk_type_laws.proofs.Stretches.{Counts, counts_then, counts_own, counts_given, counts_mapped, Stand, first_stands, rest_stands, steps, mapped, finished}
 use Rattle.stk_type_laws.proofs.TypedCounts.{base_count, dimensions_count}
 use Rattle.stk_type_laws.proofs.Rulings.{both_true}
 use Rattle.stk_type_laws.proofs.From.{initial_from, declarator_from, declarators_from, declaration_from}
 use Rattle.stk_type_laws.proofs.Expressions.{dimensions_each}
 use Rattle.stk_type_laws.proofs.Initialisers.{initialiser_count}
-use Rattle.stk_type_laws.proofs.Locals.{Around}
+use Rattle.stk_type_laws.proofs.Locals.{Around, accepted_made, typed_unless_static}
 use Rattle.stk_kind_laws.proofs.Ruled.{Ground, typing, in_force, body_in, RuledVisit}
 use Rattle.stk_kind_laws.proofs.RuledInitialisers.{initialiser_ruled}
 
@@ -48,8 +48,9 @@ sized_count : (b : Body) (static : Bool) (name : List ℕ) (k : ℕ) (whole : Ty
 sized_count b static name k whole init sizes =
     let l = own_local (structs_of b.scope.entries) name k whole sizes in
     let rule : Leaves → Ruled = λ leaves. declared_rule b.scope.bytes (structs_of b.scope.entries) (is_in_block b name) static init whole sizes leaves in
-    counts_then (initial_typed b static l init) (λ leaves. and_then (finish k (rule leaves)) (λ x. Good (local_by name k x) [])) (maybe_initialiser_nodes init) 1 (maybe_initialiser_nodes init + 1) refl
-    (initial_count b static l init) (λ leaves. counts_mapped (λ x. local_by name k x) (counts_own k (rule leaves)))
+    let untyped = is_untyped static (declared_type (structs_of b.scope.entries) sizes whole) in
+    counts_then (initial_typed b untyped l init) (λ leaves. and_then (finish k (rule leaves)) (λ x. Good (local_by name k x) [])) (maybe_initialiser_nodes init) 1 (maybe_initialiser_nodes init + 1) refl
+    (initial_count b untyped l init) (λ leaves. counts_mapped (λ x. local_by name k x) (counts_own k (rule leaves)))
 
 local_count : (b : Body) (static : Bool) (t : TypeTree) (d : DeclrTree) → has_arrays d ≡ true → Counts (local_declared b static t d) (declarator_nodes d)
 local_count b static t (s.declarator node count at (s.arrays ds) init) arrays =
@@ -97,9 +98,13 @@ local_ruled c (s.declarator node count at (s.arrays ds) init) static n ls a t ne
     let stand_b = rest_stands c.facts n (dimensions_nodes ds) ts o.first o.rest o.all ((dimensions_count ds scope).by o.value o.first o.gives) stand in
     let l = own_local structs name node.number whole o.value in
     let rule : Leaves → Ruled = λ leaves. declared_rule c.bytes structs (is_in_block b name) static init whole o.value leaves in
-    let p = steps (initial_typed b static l init) (λ leaves. and_then (finish node.number (rule leaves)) (λ x. Good (local_by name node.number x) [])) new o.rest o.then in (
+    let makes = declared_type structs o.value whole in
+    let p = steps (initial_typed b (is_untyped static makes) l init) (λ leaves. and_then (finish node.number (rule leaves)) (λ x. Good (local_by name node.number x) [])) new o.rest o.then in
+    let m = mapped (finish node.number (rule p.value)) (λ x. local_by name node.number x) new p.rest p.then in
+    let made = accepted_made c.bytes structs (is_in_block b name) static init whole o.value p.value m.value (finished node.number (rule p.value) m.value p.rest m.gives).rule in
+    let gives = subst (λ (z : Bool). initial_typed b z l init ≡ Good p.value p.first) (typed_unless_static static makes made) p.gives in (
       dimensions_each (RuledVisit c) (typing c) ds,
-      (initial_ruled c static init l (n + dimensions_nodes ds) ls a p.value p.first p.gives (first_stands c.facts (n + dimensions_nodes ds) o.rest p.first p.rest p.all stand_b) from.1, tt),
+      (initial_ruled c static init l (n + dimensions_nodes ds) ls a p.value p.first gives (first_stands c.facts (n + dimensions_nodes ds) o.rest p.first p.rest p.all stand_b) from.1, tt),
     )
 local_ruled c (s.declarator node count at s.unspecified init) static n ls a t new ts arrays eq stand from = absurd cc
 local_ruled c (s.declarator node count at s.void_parameters init) static n ls a t new ts arrays eq stand from = absurd cc

@@ -87,7 +87,7 @@ is_utf8 quote (b ∷ bs) = b == 117 && is_marked (λ c. c == 56) quote bs
 unfoldable pub is_text : List ℕ → Bool
 is_text bs = is_quoted 34 bs || is_marked is_prefix 34 bs || is_utf8 34 bs
 
--- ---- punctuators: punctuators without the digraphs (C11 6.4.6)
+-- ---- punctuators, the digraphs left out (C11 6.4.6)
 
 -- `[ ] ( ) { } . & * + - ~ ! / % < > ^ | ? : ; = ,`
 abbrev pub punctuators_of_one : List ℕ

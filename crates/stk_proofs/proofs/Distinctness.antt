@@ -1,12 +1,12 @@
 -- The literals of a list, each once.
-use Rattle.std.proofs.Common.{◌≡◌, ℕ, suc, zero, ◌+◌, ◌<◌, ◌⊎◌, inl, inr, Bool, true, false, not, ◌||◌, nat_eq, if◌then◌else◌, List, [], ◌∷◌, ◌++◌, length, map, drop, get_or, drop-cons, add-one, refl, sym, ap, ◌∙◌, subst, arith, append_assoc}
-use Rattle.std.specs.List.{Contains, list_any}
+use Rattle.std.proofs.Common.{◌≡◌, ℕ, suc, zero, ◌+◌, ◌<◌, ◌≤◌, ◌⊎◌, inl, inr, Bool, true, false, not, ◌||◌, nat_eq, if◌then◌else◌, List, [], ◌∷◌, ◌++◌, length, map, drop, take, get_or, drop-cons, add-one, refl, sym, ap, ◌∙◌, subst, arith, append_assoc}
+use Rattle.std.specs.List.{All, Contains, list_any}
 use Rattle.std.proofs.lemmas.Bool.{true≢false, not-true, not-false}
-use Rattle.std.proofs.lemmas.List.{append-nil}
-use Rattle.std.proofs.lemmas.List.Elements.{Contains-push_cases}
+use Rattle.std.proofs.lemmas.List.{append-nil, take_more}
+use Rattle.std.proofs.lemmas.List.Elements.{All-push, All-weaker, Contains-push_cases}
 use Rattle.stk_clauses.specs.declared.literal.Lit.{Lit}
 use Rattle.stk_clauses.specs.Literals.{AreDistinct}
-use Rattle.stk_proofs.specs.Distinct.{is_among, with_literal, distinct_behind, distinct}
+use Rattle.stk_proofs.specs.Distinct.{is_among, with_literal, distinct_behind, distinct, IsBetween}
 
 lit_from : (l m : Lit) → l.0 ≡ m.0 → l ≡ m
 lit_from l m e = ap (λ (n : ℕ). record { 0 = n }) e
@@ -108,3 +108,9 @@ pub unseen_old : (found : List Lit) (l : Lit) (keys : List ℕ) (fresh : Bool) �
 unseen_old found l keys fresh k a t =
     let same : list_any (nat_eq l.0) keys ≡ is_among found l = ap (list_any (nat_eq l.0)) k ∙ among_numbers found l in
     ap (λ b. if b then found else found ++ l ∷ []) (sym same ∙ not-false (list_any (nat_eq l.0) keys) (sym a ∙ t))
+
+-- bounds of some literals and of the next
+pub between_more : (least greatest a b : ℕ) (ls : List Lit) (i : ℕ) (d : Lit) → i < length ls → a ≤ least → greatest ≤ b → a ≤ (get_or ls i d).0 → (get_or ls i d).0 ≤ b → All (IsBetween least greatest) (take i ls) → All (IsBetween a b) (take (i + 1) ls)
+between_more least greatest a b ls i d h low high from to all =
+    subst (All (IsBetween a b)) (sym (take_more ls i d h))
+    (All-push (IsBetween a b) (take i ls) (get_or ls i d) (All-weaker (IsBetween least greatest) (IsBetween a b) (λ l k. (omega (arith, k.0, low), omega (arith, k.1, high))) (take i ls) all) (from, to))

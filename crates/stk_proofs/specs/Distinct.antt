@@ -1,5 +1,5 @@
 -- The literals of a list, each once.
-use Rattle.std.specs.Prelude.{Bool, nat_eq, if◌then◌else◌, List, [], ◌∷◌, ◌++◌}
+use Rattle.std.specs.Prelude.{ℕ, ◌≡◌, ◌≤◌, ◌<◌, ◌+◌, ◌-◌, Bool, false, nat_eq, if◌then◌else◌, List, [], ◌∷◌, ◌++◌, length, get_or}
 use Rattle.std.specs.List.{list_any}
 use Rattle.stk_clauses.specs.declared.literal.Lit.{Lit}
 
@@ -19,3 +19,11 @@ distinct_behind found (l ∷ ls) = distinct_behind (with_literal found l) ls
 -- each literal where it first stands
 abbrev pub distinct : List Lit → List Lit
 distinct ls = distinct_behind [] ls
+
+-- the number of a literal lies between two, these included
+abbrev pub IsBetween : ℕ → ℕ → Lit → Type 0
+IsBetween least greatest l = (least ≤ l.0) × (l.0 ≤ greatest)
+
+-- among the numbers from the least on that have a mark, those of these literals are marked, and no others
+abbrev pub AreMarked : ℕ → List Bool → List Lit → Type 0
+AreMarked least marks found = (l : Lit) → least ≤ l.0 → l.0 < least + length marks → get_or marks (l.0 - least) false ≡ is_among found l

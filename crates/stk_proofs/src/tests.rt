@@ -11,7 +11,7 @@ struct Case {
     written: Option<&'static [u8]>,
 }
 
-static CLAUSES: [Case; 26] = [
+static CLAUSES: [Case; 27] = [
     Case {
         text: b"p cnf 3 2\n1 -2 0\n3 0\n",
         written: Some(b"p cnf 3 2\n1 -2 0\n3 0\n"),
@@ -32,6 +32,11 @@ static CLAUSES: [Case; 26] = [
     Case {
         text: b"p cnf 12 1 1 2 3 4 5 6 7 8 9 10 -11 12 1 -11 11 0",
         written: Some(b"p cnf 12 1\n1 2 3 4 5 6 7 8 9 10 -11 12 11 0\n"),
+    },
+    // numbers that lie far apart
+    Case {
+        text: b"p cnf 1000000 1 1 2 3 4 5 6 7 8 -1000000 9 1 -1000000 10 0",
+        written: Some(b"p cnf 1000000 1\n1 2 3 4 5 6 7 8 -1000000 9 10 0\n"),
     },
     Case {
         text: b"p cnf 1073741823 1\n-1073741823 1073741823 0\n",

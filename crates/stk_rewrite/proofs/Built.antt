@@ -3,13 +3,13 @@ use Rattle.std.proofs.Common.{◌≡◌, ℕ, zero, suc, ◌<◌, Bool, true, fa
 use Rattle.std.proofs.lemmas.Option.{none-some}
 use Rattle.stk_terms.specs.declared.term.TermId.{TermId}
 use Rattle.stk_terms.specs.declared.term.TermOp.{TermOp}
-use Rattle.stk_terms.specs.declared.term.TermOp.TheVariants.{Constant, Ite}
+use Rattle.stk_terms.specs.declared.term.TermOp.TheVariants.{Constant, Input, Ite}
 use Rattle.stk_terms.specs.Terms.{Stored, Term, StandsAt, term_of, term_at, nth}
 use Rattle.stk_terms.specs.Fitting.{IsSound, AreResidues, WidthsFit}
 use Rattle.stk_terms.specs.Growth.{Keeps}
 use Rattle.stk_terms.specs.Values.{Bits, width_by, number_by, width_of, widths_of, meaning, meanings, bits_of, width_at, number_at}
 use Rattle.stk_rewrite.specs.Looks.{look, look_number, is_constant, is_add}
-use Rattle.stk_rewrite.specs.Rules.{is_left}
+use Rattle.stk_rewrite.specs.Rules.{is_left, is_left_at}
 use Rattle.stk_rewrite.specs.Normal.{IsNormal}
 use Rattle.stk_rewrite.specs.declared.right.Right.TheVariants.{Leaf, Number, One, Two, Last, Chosen}
 use Rattle.stk_rewrite.specs.Rights.{CanBuild, IsBuilt}
@@ -20,7 +20,7 @@ use Rattle.stk_terms.proofs.Adding.{keeps_same}
 use Rattle.stk_terms.proofs.Older.{got, number_kept, term_kept}
 use Rattle.stk_rewrite.proofs.Normals.{normal_from, look_kept, normal_kept}
 
-exists_at : (ts : List Term) (i : ℕ) (t : Term) → StandsAt ts i t → i < length ts
+pub exists_at : (ts : List Term) (i : ℕ) (t : Term) → StandsAt ts i t → i < length ts
 exists_at [] i t h = absurd (none-some _ h)
 exists_at (u ∷ ts) zero t h = omega arith
 exists_at (u ∷ ts) (suc i) t h = omega (arith, exists_at ts i t h)
@@ -34,11 +34,40 @@ leaf_built s sound a can = record {
 }
 
 module _ (old new : Stored) (sound : IsSound old) (keeps : Keeps old new) (v : ℕ) where
+  -- nowhere is the new term a left side
+  pub number_left : (w n : ℕ) → StandsAt new.terms v (term_of (Constant w n) []) → is_left_at new v ≡ false
+  number_left w n st =
+      let t : term_at new v ≡ term_of (Constant w n) [] = got new.terms v _ _ st in
+      λ j. is_left (t j).op (look new (nth (t j).args 0)) (look new (nth (t j).args 1)) (look new (nth (t j).args 2))
+
+  pub input_left : (k : ℕ) → StandsAt new.terms v (term_of (Input k) []) → is_left_at new v ≡ false
+  input_left k st =
+      let t : term_at new v ≡ term_of (Input k) [] = got new.terms v _ _ st in
+      λ j. is_left (t j).op (look new (nth (t j).args 0)) (look new (nth (t j).args 1)) (look new (nth (t j).args 2))
+
+  pub one_left : (op : TermOp) (a : TermId) → CanBuild old (One op a) → StandsAt new.terms v (term_of op (a ∷ [])) → is_left_at new v ≡ false
+  one_left op a can st =
+      let t : term_at new v ≡ term_of op (a ∷ []) = got new.terms v _ _ st in
+      (λ j. is_left (t j).op (look new (nth (t j).args 0)) (look new (nth (t j).args 1)) (look new (nth (t j).args 2)))
+      ∙ ((λ j. is_left op (look_kept old new sound keeps a.0 can.0.exists_ j) (look new 0) (look new 0)) ∙ can.3 (look new 0) (look new 0))
+
+  pub two_left : (op : TermOp) (a b : TermId) → CanBuild old (Two op a b) → StandsAt new.terms v (term_of op (a ∷ b ∷ [])) → is_left_at new v ≡ false
+  two_left op a b can st =
+      let t : term_at new v ≡ term_of op (a ∷ b ∷ []) = got new.terms v _ _ st in
+      (λ j. is_left (t j).op (look new (nth (t j).args 0)) (look new (nth (t j).args 1)) (look new (nth (t j).args 2)))
+      ∙ ((λ j. is_left op (look_kept old new sound keeps a.0 can.0.exists_ j) (look_kept old new sound keeps b.0 can.1.exists_ j) (look new 0)) ∙ can.4 (look new 0))
+
+  pub chosen_left : (c a b : TermId) → CanBuild old (Chosen c a b) → StandsAt new.terms v (term_of Ite (c ∷ a ∷ b ∷ [])) → is_left_at new v ≡ false
+  chosen_left c a b can st =
+      let t : term_at new v ≡ term_of Ite (c ∷ a ∷ b ∷ []) = got new.terms v _ _ st in
+      (λ j. is_left (t j).op (look new (nth (t j).args 0)) (look new (nth (t j).args 1)) (look new (nth (t j).args 2)))
+      ∙ ((λ j. is_left Ite (look_kept old new sound keeps c.0 can.0.exists_ j) (look_kept old new sound keeps a.0 can.1.exists_ j) (look_kept old new sound keeps b.0 can.2.exists_ j)) ∙ can.5)
+
   pub number_built : (w n : ℕ) → StandsAt new.terms v (term_of (Constant w n) []) → width_at new v ≡ w → ((r : List ℕ) → meaning new r v ≡ bits_of old.inputs r (meanings old r) (term_of (Constant w n) [])) → IsBuilt old new (Number w n) v
   number_built w n st wd val =
       let t : term_at new v ≡ term_of (Constant w n) [] = got new.terms v _ _ st in
       record {
-        normal = normal_from new v (exists_at new.terms v _ st) (λ j. is_left (t j).op (look new (nth (t j).args 0)) (look new (nth (t j).args 1)) (look new (nth (t j).args 2))) (λ k l. absurd (let m : k < 0 = subst (λ u. k < length u.args) t l in omega (arith, m)));
+        normal = normal_from new v (exists_at new.terms v _ st) (number_left w n st) (λ k l. absurd (let m : k < 0 = subst (λ u. k < length u.args) t l in omega (arith, m)));
         wide = wd;
         value = λ r h. ap (λ (b : Bits). b.number) (val r);
         grows = λ c l k. grow old new sound keeps c l v 0 (λ k l. absurd (let m : k < 0 = subst (λ u. k < length u.args) t l in omega (arith, m))) (λ j. bound_of (widths_of new) (t j));
@@ -49,9 +78,7 @@ module _ (old new : Stored) (sound : IsSound old) (keeps : Keeps old new) (v : �
       let t : term_at new v ≡ term_of op (a ∷ []) = got new.terms v _ _ st in
       let na = normal_kept old new sound keeps a.0 can.0 in
       record {
-        normal = normal_from new v (exists_at new.terms v _ st)
-            ((λ j. is_left (t j).op (look new (nth (t j).args 0)) (look new (nth (t j).args 1)) (look new (nth (t j).args 2)))
-            ∙ ((λ j. is_left op (look_kept old new sound keeps a.0 can.0.exists_ j) (look new 0) (look new 0)) ∙ can.3 (look new 0) (look new 0)))
+        normal = normal_from new v (exists_at new.terms v _ st) (one_left op a can st)
             (λ k l. subst (λ u. IsNormal new (nth u.args k)) (sym t) (kid k (subst (λ u. k < length u.args) t l) na));
         wide = wd;
         value = λ r h. ap (λ (b : Bits). b.number) (val r) ∙ ap (λ w. number_by r op w 0 (number_at old r a.0) 0 0) (wide_same old sound r a.0);
@@ -72,9 +99,7 @@ module _ (old new : Stored) (sound : IsSound old) (keeps : Keeps old new) (v : �
       let na = normal_kept old new sound keeps a.0 can.0 in
       let nb = normal_kept old new sound keeps b.0 can.1 in
       record {
-        normal = normal_from new v (exists_at new.terms v _ st)
-            ((λ j. is_left (t j).op (look new (nth (t j).args 0)) (look new (nth (t j).args 1)) (look new (nth (t j).args 2)))
-            ∙ ((λ j. is_left op (look_kept old new sound keeps a.0 can.0.exists_ j) (look_kept old new sound keeps b.0 can.1.exists_ j) (look new 0)) ∙ can.4 (look new 0)))
+        normal = normal_from new v (exists_at new.terms v _ st) (two_left op a b can st)
             (λ k l. subst (λ u. IsNormal new (nth u.args k)) (sym t) (kid k (subst (λ u. k < length u.args) t l) na nb));
         wide = wd;
         value = λ r h. ap (λ (b : Bits). b.number) (val r) ∙ (λ j. number_by r op (wide_same old sound r a.0 j) (wide_same old sound r b.0 j) (number_at old r a.0) (number_at old r b.0) 0);
@@ -98,9 +123,7 @@ module _ (old new : Stored) (sound : IsSound old) (keeps : Keeps old new) (v : �
       let na = normal_kept old new sound keeps a.0 can.1 in
       let nb = normal_kept old new sound keeps b.0 can.2 in
       record {
-        normal = normal_from new v (exists_at new.terms v _ st)
-            ((λ j. is_left (t j).op (look new (nth (t j).args 0)) (look new (nth (t j).args 1)) (look new (nth (t j).args 2)))
-            ∙ ((λ j. is_left Ite (look_kept old new sound keeps c.0 can.0.exists_ j) (look_kept old new sound keeps a.0 can.1.exists_ j) (look_kept old new sound keeps b.0 can.2.exists_ j)) ∙ can.5))
+        normal = normal_from new v (exists_at new.terms v _ st) (chosen_left c a b can st)
             (λ k l. subst (λ u. IsNormal new (nth u.args k)) (sym t) (kid k (subst (λ u. k < length u.args) t l) nc na nb));
         wide = wd;
         value = λ r h. ap (λ (b : Bits). b.number) (val r);

@@ -3,7 +3,7 @@ use Rattle.std.proofs.Common.{◌≡◌, ℕ, zero, suc, ◌<◌, ◌≤◌, Boo
 use Rattle.stk_terms.specs.declared.term.TermId.{TermId}
 use Rattle.stk_terms.specs.declared.term.TermOp.{TermOp}
 use Rattle.stk_terms.specs.declared.term.TermOp.TheVariants.{Constant, Input, And, Or, Xor, Add, Sub, Mul, UDiv, URem, Shl, LShr, AShr, Eq, ULt, SLt, Concat, Ite}
-use Rattle.stk_terms.specs.Terms.{Stored, term_at, nth, child}
+use Rattle.stk_terms.specs.Terms.{Stored, StandsAt, term_of, term_at, nth, child}
 use Rattle.stk_terms.specs.Fitting.{IsSound, WidthsFit, arity}
 use Rattle.stk_terms.specs.Growth.{Keeps}
 use Rattle.stk_terms.specs.Values.{width_by, number_by, widths_of, width_at, number_at}
@@ -16,13 +16,21 @@ use Rattle.stk_rewrite.specs.declared.right.Right.{Right}
 use Rattle.stk_rewrite.specs.declared.right.Right.TheVariants.{Leaf, One, Two, Chosen}
 use Rattle.stk_rewrite.specs.Rights.{Replaces, StandsFor}
 use Rattle.stk_terms.proofs.Reading.{fits, one_arg, two_args, three_args, child_below}
-use Rattle.stk_terms.proofs.Older.{term_kept}
+use Rattle.stk_terms.proofs.Older.{got, term_kept}
 use Rattle.stk_rewrite.proofs.Normals.{normal_from, later_on}
 
 none_left : (op : TermOp) (a b c : Look) → arity op ≡ 0 → is_left op a b c ≡ false
 none_left (Constant w n) a b c h = refl
 none_left (Input k) a b c h = refl
 none_left _ a b c h = absurd (omega arith)
+
+-- a term without arguments is normal
+pub leaf_normal : (s : Stored) (v : ℕ) (op : TermOp) → arity op ≡ 0 → v < length s.terms → StandsAt s.terms v (term_of op []) → IsNormal s v
+leaf_normal s v op a here st =
+    let t : term_at s v ≡ term_of op [] = got s.terms v _ _ st in
+    normal_from s v here
+    ((λ j. is_left (t j).op (look s (nth (t j).args 0)) (look s (nth (t j).args 1)) (look s (nth (t j).args 2))) ∙ none_left op (look s 0) (look s 0) (look s 0) a)
+    (λ k l. absurd (let m : k < 0 = subst (λ u. k < length u.args) t l in omega (arith, m)))
 
 few : (op : TermOp) → arity op ≤ 3
 few (Constant w n) = omega arith

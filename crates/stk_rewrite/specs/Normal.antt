@@ -12,6 +12,10 @@ pub record IsNormal (s : Stored) (i : ℕ) : Type 0 where
   pub exists_ : i < length s.terms
   pub none : (j : ℕ) → IsPart s j i → is_left_at s j ≡ false
 
+-- no term of the store is the left side of a rule
+pub record AreNormal (s : Stored) : Type 0 where
+  pub each : (v : ℕ) → v < length s.terms → is_left_at s v ≡ false
+
 -- the term v of new has no such part, and the width and the numbers of the term i of old
 pub record Simplifies (old new : Stored) (i v : ℕ) : Type 0 where
   pub normal : IsNormal new v

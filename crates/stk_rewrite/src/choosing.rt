@@ -23,8 +23,8 @@ use crate::signs::{negative, not};
 use crate::sums::sum;
 use stk_terms::{TermId, TermOp, Terms};
 
-// An operator over one.
-fn one(terms: &Terms, op: TermOp, a: TermId) -> Right
+/// An operator over one.
+pub(crate) fn one(terms: &Terms, op: TermOp, a: TermId) -> Right
     requires sound { IsSound terms.now }
     requires normal { IsNormal terms.now a.0 }
     requires arity { arity op ≡ 1 }
@@ -68,8 +68,8 @@ fn two(terms: &Terms, op: TermOp, a: TermId, b: TermId) -> Right
     }
 }
 
-// An operator over two.
-fn pair(terms: &Terms, op: TermOp, a: TermId, b: TermId) -> Right
+/// An operator over two.
+pub(crate) fn pair(terms: &Terms, op: TermOp, a: TermId, b: TermId) -> Right
     requires sound { IsSound terms.now }
     requires first { IsNormal terms.now a.0 }
     requires second { IsNormal terms.now b.0 }

@@ -8,6 +8,8 @@ mod choosing;
 mod cuts;
 mod equalities;
 mod folding;
+mod making;
+mod normal_terms;
 mod ordered;
 mod reading;
 mod right;
@@ -16,4 +18,5 @@ mod signs;
 mod simplifying;
 mod sums;
 
+pub use normal_terms::NormalTerms;
 pub use simplifying::simplify;

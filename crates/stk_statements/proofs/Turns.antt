@@ -1,5 +1,5 @@
 -- How the answers of parts make the answer of a statement, and one turn of each loop.
-use Rattle.std.proofs.Common.{ℕ, ◌≡◌, ◌<◌, ◌++◌, ◌∙◌, Bool, false, List, [], ◌∷◌, Option, Some, None, if◌then◌else◌, Result, Ok, Err, length, map, refl, sym, ap, subst, append_assoc}
+use Rattle.std.proofs.Common.{ℕ, ◌≡◌, ◌<◌, ◌++◌, ◌∙◌, Bool, true, false, List, [], ◌∷◌, Option, Some, None, if◌then◌else◌, Result, Ok, Err, length, map, refl, sym, ap, subst, append_assoc}
 use Rattle.stk_ctype.specs.declared.kind.IntKind.{IntKind}
 use Rattle.stk_ctype.specs.Structs.{Structs}
 use Rattle.stk_typing.specs.declared.arrays.Size.{Size}
@@ -29,7 +29,7 @@ use Rattle.stk_statements.specs.declared.labels.Labels.{Labels}
 use Rattle.stk_statements.specs.declared.places.Context.{Context}
 use Rattle.stk_function_types.specs.Bodies.{Body, with_more}
 use Rattle.stk_statements.specs.Places.{body_in, scope_owned}
-use Rattle.stk_function_types.specs.Locals.{complete_rule, counted_rule, declared_rule, initial_scope, is_local_register, lacks_size, local_by, local_declared, local_rule, locals_declared, own_type}
+use Rattle.stk_function_types.specs.Locals.{complete_rule, counted_rule, declared_rule, initial_scope, is_local_register, is_refused, lacks_size, local_by, local_declared, local_rule, locals_declared, own_type}
 use Rattle.stk_function_types.specs.Sections.{Labelled, label_typed, labels_typed}
 use Rattle.stk_statements.specs.Rows.{AnyFact, AreLocals, IsLabelled}
 
@@ -83,6 +83,15 @@ own_below (Err broken.NoMemory) node at old new g = (g (Fits plain) tt).1.below
 pub own_refused : (r : Ruled) (n : ℕ) → MakesFact r (Err (broken.Rule n)) → own_type r ≡ void_type
 own_refused (Breaks r) n h = refl
 own_refused (Fits x) n h = elim h [ ]
+
+-- whether a declarator is refused, by what the code makes of it
+pub refused_is : (r : Ruled) (n : ℕ) → MakesFact r (Err (broken.Rule n)) → true ≡ is_refused r
+refused_is (Breaks r) n h = refl
+refused_is (Fits x) n h = elim h [ ]
+
+pub made_is : (r : Ruled) (f : NodeFact) → MakesFact r (Ok f) → false ≡ is_refused r
+made_is (Breaks r) f h = elim h [ ]
+made_is (Fits x) f h = refl
 
 -- ---- the rules of a local's declarator
 free : (r : Ruled) → MakesFact r (Err broken.NoMemory)

@@ -13,7 +13,7 @@ ghost use Rattle.stk_function_types.specs.Statements.{discarded_rule, for_rule, 
 ghost use Rattle.stk_statements.specs.Places.{body_in};
 ghost use Rattle.stk_statements.specs.Rows.{AnyFact, IsBelow, IsKnown, known_at};
 
-use crate::Context;
+use crate::places::Context;
 use crate::rules::{
     has_struct, lacks_scalar, leave_rule, nothing, return_rule, switch_rule, unless, unless_two,
 };

@@ -14,8 +14,8 @@ ghost use Rattle.stk_statements.specs.Places.{body_in};
 ghost use Rattle.stk_function_types.specs.Functions.{body_typed, function_typed, head_typed};
 ghost use Rattle.stk_statements.specs.Rows.{AnyFact, IsHeaded};
 
-use crate::Context;
 use crate::forms::by_nothing;
+use crate::places::Context;
 use crate::rules::storage_rule;
 use crate::statements::{parts, statement};
 use stk_address_taken::NodeSet;

@@ -14,9 +14,9 @@ ghost use Rattle.stk_typing.specs.declared.locals.LocalName.{LocalName};
 ghost use Rattle.stk_typing.specs.Arrays.{declared_type};
 ghost use Rattle.stk_typing.specs.InitialiserTyping.{initialiser_typed};
 ghost use Rattle.stk_statements.specs.Places.{body_in, scope_owned};
-ghost use Rattle.stk_function_types.specs.Locals.{initial_scope, initial_typed, is_local_register, own_local, own_type, plain_nodes};
+ghost use Rattle.stk_function_types.specs.Locals.{initial_scope, initial_typed, is_local_register, is_refused, is_untyped, own_local, own_type, plain_nodes};
 
-use crate::Context;
+use crate::places::Context;
 use std::alloc::Global;
 use stk_base::{List, NoMemory};
 use stk_ctype::{CType, Names};
@@ -53,6 +53,20 @@ fn untyped(alloc: Global, facts: &mut Vec<NodeFact>, i: &Init) -> Result<(), NoM
 {
     let nodes = initialiser_nodes(alloc, i)?;
     plain_nodes(facts, nodes.len())
+}
+
+// Whether a local's array parts make no type.
+#[tactic(auto, using(crate::proofs::Turns::made_is, crate::proofs::Turns::refused_is))]
+fn is_refused(alloc: Global, names: &Names, sizes: &[Size], whole: &CType) -> Result<bool, NoMemory>
+    requires { IsSound (structs_of names.now) (type_of whole.now) }
+    ensures is { IfOk result (λ b. b ≡ is_refused (declared_type (structs_of names.now) sizes.now (type_of whole.now))) }
+{
+    let whole = whole.copy(alloc)?;
+    match declared_type(alloc, names, sizes, whole) {
+        Ok(_) => Ok(false),
+        Err(Broken::Rule(_)) => Ok(true),
+        Err(Broken::NoMemory) => Err(NoMemory),
+    }
 }
 
 // The type that a local has in its own initialiser.
@@ -142,26 +156,43 @@ fn within(
     initialiser(&s, facts, i)
 }
 
+/// Whether the initialiser of a local isn't typed: that of a `static` object, and that of a local whose array parts
+/// make no type.
+pub(crate) fn is_untyped(
+    alloc: Global,
+    names: &Names,
+    is_static: bool,
+    d: &Declared,
+) -> Result<bool, NoMemory>
+    requires { IsSound (structs_of names.now) (type_of d.now.whole.now) }
+    ensures is { IfOk result (λ b. b ≡ is_untyped is_static (declared_type (structs_of names.now) d.now.sizes.now (type_of d.now.whole.now))) }
+{
+    if is_static {
+        return Ok(true);
+    }
+    is_refused(alloc, names, d.sizes, d.whole)
+}
+
 /// The initialiser of a local that is declared: what is known of its expressions.
 pub(crate) fn initial(
     p: &Context,
     locals: &mut Locals,
     facts: &mut Vec<NodeFact>,
-    is_static: bool,
+    is_untyped: bool,
     d: &Declared,
     i: &Option<Init>,
 ) -> Result<Leaves, Untyped>
     requires locals { AreSoundLocals (structs_of p.now.file.names.now) (map local_of locals.old) }
     requires sound { AreSoundFacts (structs_of p.now.file.names.now) (map fact_of facts.old.items) }
     requires whole { IsSound (structs_of p.now.file.names.now) (type_of d.now.whole.now) }
-    ensures gives { Gives (λ a r. r ≡ a) (initial_typed (body_in p.now locals.old) is_static (own_local (structs_of p.now.file.names.now) d.now.name.now d.now.node (type_of d.now.whole.now) d.now.sizes.now) (maybe_initialiser (option_map view_initialiser i.now))) result (map fact_of facts.old.items) (map fact_of facts.new.items) }
+    ensures gives { Gives (λ a r. r ≡ a) (initial_typed (body_in p.now locals.old) is_untyped (own_local (structs_of p.now.file.names.now) d.now.name.now d.now.node (type_of d.now.whole.now) d.now.sizes.now) (maybe_initialiser (option_map view_initialiser i.now))) result (map fact_of facts.old.items) (map fact_of facts.new.items) }
     ensures sound { OnOk result (AreSoundFacts (structs_of p.now.file.names.now) (map fact_of facts.new.items)) }
     ensures locals { OnOk result (locals.new ≡ locals.old) }
 {
     match i {
         None => Ok(Leaves::none()),
         Some(i) => {
-            if !is_static {
+            if !is_untyped {
                 return typed(p, locals, facts, d, i);
             }
             untyped(p.file.alloc, facts, i)?;

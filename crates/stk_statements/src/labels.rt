@@ -10,12 +10,12 @@ ghost use Rattle.stk_typing.specs.Typing.{expression_typed};
 ghost use Rattle.stk_ctype.specs.Types.{type_of};
 ghost use Rattle.stk_ctype.specs.Sound.{IsSound};
 ghost use Rattle.stk_statements.specs.Places.{body_in};
-ghost use Rattle.stk_function_types.specs.Sections.{Labelled, carried, in_kind, label_typed, labels_typed, last_numbered, number_in, numbered, section_rule, unlabelled, with_case, with_default};
-ghost use Rattle.stk_type_rules.specs.declared.facts.Constancy.TheVariants.{Number};
+ghost use Rattle.stk_numbers.specs.Kinds.{promote, wrap};
+ghost use Rattle.stk_function_types.specs.Sections.{Labelled, carried, label_typed, labels_typed, last_numbered, number_in, numbered, section_rule, unlabelled, with_case, with_default, with_number_of};
 ghost use Rattle.stk_statements.specs.Rows.{IsLabelled};
 
-use crate::Context;
 use crate::forms::test;
+use crate::places::Context;
 use crate::rules::unless_two;
 use std::alloc::Global;
 use std::collections::BTreeSet;
@@ -36,14 +36,11 @@ pub struct Labels {
     pub improper: bool,
 }
 
-// A number in the promoted kind of the controlling expression.
-fn in_kind(kind: Option<IntKind>, number: i128) -> i128
-    ensures { result ≡ in_kind kind number }
+// A number in the promoted kind of the controlling expression, which has this kind.
+fn promoted(kind: IntKind, number: i128) -> i128
+    ensures { result ≡ wrap (promote kind) number }
 {
-    match kind {
-        None => number,
-        Some(kind) => wrap(promote(kind), number),
-    }
+    wrap(promote(kind), number)
 }
 
 // The number that a constant expression has.
@@ -85,11 +82,11 @@ impl Labels {
         self.has_default = true;
     }
 
-    // A case with a number.
-    fn add_number(&mut self, kind: Option<IntKind>, number: i128) -> Result<(), NoMemory>
-        ensures { OnOk result ((l : Labelled) → IsLabelled l self.old → IsLabelled (with_case kind l (Number number)) self.new) }
+    // A case with this number.
+    fn add_number(&mut self, number: i128) -> Result<(), NoMemory>
+        ensures { OnOk result ((l : Labelled) → IsLabelled l self.old → IsLabelled (with_number_of number l) self.new) }
     {
-        let is_new = self.cases.insert(in_kind(kind, number))?;
+        let is_new = self.cases.insert(number)?;
         self.twice = self.twice || !is_new;
         Ok(())
     }
@@ -103,7 +100,10 @@ impl Labels {
                 self.improper = true;
                 Ok(())
             }
-            Constancy::Number(number) => self.add_number(kind, number),
+            Constancy::Number(number) => match kind {
+                None => Ok(()),
+                Some(kind) => self.add_number(promoted(kind, number)),
+            },
         }
     }
 

@@ -14,4 +14,3 @@ pub use forms::{discarded, returned, test};
 pub use functions::function;
 pub use labels::{Labels, put_labels};
 pub use locals::declaration;
-pub use places::Context;

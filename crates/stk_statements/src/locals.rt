@@ -17,8 +17,8 @@ ghost use Rattle.stk_statements.specs.Places.{Begins, body_in};
 ghost use Rattle.stk_function_types.specs.Locals.{complete_rule, declaration_typed, declared_rule, initial_rule, lacks_size, local_by, local_declared, local_name, local_sized, locals_declared, refused_initial};
 ghost use Rattle.stk_statements.specs.Rows.{AreLocals};
 
-use crate::Context;
-use crate::initials::{Declared, initial};
+use crate::initials::{Declared, initial, is_untyped};
+use crate::places::Context;
 use stk_base::{List, Span};
 use stk_ctype::{CType, Names};
 use stk_declarators::{Tailed, are_scalars, given_count, scope, tail_type};
@@ -211,7 +211,8 @@ fn sized(
         whole: &whole,
         sizes: sizes.as_slice(),
     };
-    let leaves = initial(p, locals, facts, is_static, &declared, &d.init)?;
+    let skips = is_untyped(p.file.alloc, p.file.names, is_static, &declared)?;
+    let leaves = initial(p, locals, facts, skips, &declared, &d.init)?;
     let made = declared_rule(p, twice, is_static, &d.init, whole, sizes, leaves);
     put(p, locals, facts, name, node, made)
 }

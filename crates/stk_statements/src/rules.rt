@@ -12,7 +12,7 @@ ghost use Rattle.stk_statements.specs.Rows.{IsBelow, known_at};
 
 use stk_ctype::{CType, IntKind};
 use stk_tree::Storage;
-use stk_type_rules::{Broken, NodeFact, fact, is_struct, is_void, reads_scalar};
+use stk_type_rules::{Broken, NodeFact, fact, is_scalar, is_struct, is_void, reads_scalar};
 
 /// A node without a type.
 pub(crate) fn nothing() -> Result<NodeFact, Broken>
@@ -102,12 +102,10 @@ fn return_value(returns: &CType, value: &NodeFact) -> Result<NodeFact, Broken>
         Err(Broken::Rule(9))
     } else if is_void(returns) {
         Err(Broken::Rule(14))
-    } else if !reads_scalar(&value.ty) {
-        Err(Broken::Rule(6))
-    } else if is_struct(returns) {
-        Err(Broken::Rule(9))
-    } else {
+    } else if is_scalar(returns) && reads_scalar(&value.ty) {
         Ok(NodeFact::plain())
+    } else {
+        Err(Broken::Rule(6))
     }
 }
 

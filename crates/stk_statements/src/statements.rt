@@ -14,7 +14,8 @@ ghost use Rattle.stk_function_types.specs.Statements.{maybe_statement_typed, par
 ghost use Rattle.stk_statements.specs.Rows.{AnyFact, AnyLabels, AreLocals, IsLabelled, IsStarted, Nothing};
 
 use crate::forms::{by_for, by_leave, by_nothing, by_switch, by_test, optional};
-use crate::{Context, Labels, declaration, discarded, put_labels, returned, test};
+use crate::places::Context;
+use crate::{Labels, declaration, discarded, put_labels, returned, test};
 use stk_base::Boxed;
 use stk_ctype::IntKind;
 use stk_tree::{Part, Section, Start, Stmt, StmtForm};

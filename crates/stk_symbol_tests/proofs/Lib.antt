@@ -1,1 +1,2 @@
+mod Chained
 mod Rooms

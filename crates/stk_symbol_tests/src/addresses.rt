@@ -5,8 +5,9 @@ use crate::operations::number;
 use std::test::Fail;
 use stk_base::{List, NoMemory};
 use stk_numbers::IntKind;
+use stk_rewrite::NormalTerms;
 use stk_symbols::{breaks_bounds, breaks_move, constant, distance, moved};
-use stk_terms::{TermId, Terms};
+use stk_terms::TermId;
 
 // Pairs of addresses, sizes, and the bits of their distances.
 static DISTANCES: [(u64, u64, u64, u128); 15] = [
@@ -304,7 +305,7 @@ static MOVES: [(u64, IntKind, i128, u64, bool, u128, u128); 36] = [
 
 // The distance of two constants.
 #[tactic(auto, using(stk_symbols::proofs::Made::kept))]
-fn apart(terms: &mut Terms, left: u64, right: u64, size: u64) -> Result<TermId, NoMemory>
+fn apart(terms: &mut NormalTerms, left: u64, right: u64, size: u64) -> Result<TermId, NoMemory>
     requires least { 1 ≤ size }
     requires most { size < 2 ^ 31 }
 {
@@ -317,7 +318,7 @@ fn apart(terms: &mut Terms, left: u64, right: u64, size: u64) -> Result<TermId, 
 // A constant moved by another.
 #[tactic(auto, using(stk_symbols::proofs::Made::kept))]
 fn moves(
-    terms: &mut Terms,
+    terms: &mut NormalTerms,
     base: u64,
     kind: IntKind,
     step: i128,
@@ -335,7 +336,7 @@ fn moves(
 // Whether a constant moved by another leaves the address space.
 #[tactic(auto, using(stk_symbols::proofs::Made::kept))]
 fn leaves(
-    terms: &mut Terms,
+    terms: &mut NormalTerms,
     base: u64,
     kind: IntKind,
     step: i128,
@@ -352,35 +353,35 @@ fn leaves(
 
 #[test]
 fn addresses_have_distances(rt: HostRuntime) -> Result<(), Fail> {
-    let mut terms = Terms::new(rt.alloc(), List::empty(rt.alloc()));
+    let mut terms = NormalTerms::new(rt.alloc(), List::empty(rt.alloc()));
     for (left, right, size, wanted) in &DISTANCES {
         assert!(rt; 1 <= *size && *size < 2_147_483_648);
         let v = apart(&mut terms, *left, *right, *size)?;
-        assert_eq!(rt; number(&rt, rt.alloc(), &terms, v)?, *wanted);
+        assert_eq!(rt; number(&rt, rt.alloc(), terms.terms(), v)?, *wanted);
     }
     Ok(())
 }
 
 #[test]
 fn indices_are_out_of_bounds_or_not(rt: HostRuntime) -> Result<(), Fail> {
-    let mut terms = Terms::new(rt.alloc(), List::empty(rt.alloc()));
+    let mut terms = NormalTerms::new(rt.alloc(), List::empty(rt.alloc()));
     for (kind, index, count, wanted) in &INDICES {
         let x = constant(&mut terms, *kind, *index)?;
         let v = breaks_bounds(&mut terms, *kind, x, *count)?;
-        assert_eq!(rt; number(&rt, rt.alloc(), &terms, v)?, *wanted);
+        assert_eq!(rt; number(&rt, rt.alloc(), terms.terms(), v)?, *wanted);
     }
     Ok(())
 }
 
 #[test]
 fn addresses_are_moved(rt: HostRuntime) -> Result<(), Fail> {
-    let mut terms = Terms::new(rt.alloc(), List::empty(rt.alloc()));
+    let mut terms = NormalTerms::new(rt.alloc(), List::empty(rt.alloc()));
     for (base, kind, step, size, minus, wanted, left) in &MOVES {
         assert!(rt; *size < 2_147_483_648);
         let v = moves(&mut terms, *base, *kind, *step, *size, *minus)?;
-        assert_eq!(rt; number(&rt, rt.alloc(), &terms, v)?, *wanted);
+        assert_eq!(rt; number(&rt, rt.alloc(), terms.terms(), v)?, *wanted);
         let w = leaves(&mut terms, *base, *kind, *step, *size, *minus)?;
-        assert_eq!(rt; number(&rt, rt.alloc(), &terms, w)?, *left);
+        assert_eq!(rt; number(&rt, rt.alloc(), terms.terms(), w)?, *left);
     }
     Ok(())
 }

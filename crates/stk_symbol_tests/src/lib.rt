@@ -16,6 +16,8 @@ mod gates;
 #[cfg(test)]
 mod goal_rows;
 #[cfg(test)]
+mod goals;
+#[cfg(test)]
 mod numbers;
 #[cfg(test)]
 mod operations;

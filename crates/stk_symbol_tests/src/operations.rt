@@ -4,6 +4,7 @@ use std::process::Abort;
 use std::test::Fail;
 use stk_base::{List, NoMemory};
 use stk_numbers::{ArithOp, CompareOp, IntKind, ShiftOp, UbKind};
+use stk_rewrite::NormalTerms;
 use stk_symbols::{
     arith, both, breaks, breaks_shift, choose, compare, constant, converted, opposite, shift,
 };
@@ -301,7 +302,7 @@ pub(crate) fn number(
 // An operator on two constants.
 #[tactic(auto, using(stk_symbols::proofs::Made::kept))]
 fn operated(
-    terms: &mut Terms,
+    terms: &mut NormalTerms,
     op: ArithOp,
     kind: IntKind,
     left: i128,
@@ -316,7 +317,7 @@ fn operated(
 // A constant shifted by another.
 #[tactic(auto, using(stk_symbols::proofs::Made::kept))]
 fn shifted(
-    terms: &mut Terms,
+    terms: &mut NormalTerms,
     op: ShiftOp,
     kind: IntKind,
     left: i128,
@@ -332,7 +333,7 @@ fn shifted(
 // A comparison of two constants.
 #[tactic(auto, using(stk_symbols::proofs::Made::kept))]
 fn comparison(
-    terms: &mut Terms,
+    terms: &mut NormalTerms,
     op: CompareOp,
     kind: IntKind,
     left: i128,
@@ -347,7 +348,7 @@ fn comparison(
 // A condition of two constants.
 #[tactic(auto, using(stk_symbols::proofs::Made::kept))]
 fn condition(
-    terms: &mut Terms,
+    terms: &mut NormalTerms,
     what: UbKind,
     op: ArithOp,
     kind: IntKind,
@@ -362,7 +363,12 @@ fn condition(
 
 // The first number where one is below the other and isn't equal to it, and else the second.
 #[tactic(auto, using(stk_symbols::proofs::Made::kept))]
-fn lesser(terms: &mut Terms, kind: IntKind, left: i128, right: i128) -> Result<TermId, NoMemory> {
+fn lesser(
+    terms: &mut NormalTerms,
+    kind: IntKind,
+    left: i128,
+    right: i128,
+) -> Result<TermId, NoMemory> {
     let x = constant(terms, kind, left)?;
     let y = constant(terms, kind, right)?;
     let below = compare(terms, CompareOp::Lt, kind, x, y)?;
@@ -375,72 +381,75 @@ fn lesser(terms: &mut Terms, kind: IntKind, left: i128, right: i128) -> Result<T
 
 #[test]
 fn operators_have_their_values(rt: HostRuntime) -> Result<(), Fail> {
-    let mut terms = Terms::new(rt.alloc(), List::empty(rt.alloc()));
+    let mut terms = NormalTerms::new(rt.alloc(), List::empty(rt.alloc()));
     for (op, kind, left, right, wanted) in &RESULTS {
         let v = operated(&mut terms, *op, *kind, *left, *right)?;
-        assert_eq!(rt; number(&rt, rt.alloc(), &terms, v)?, *wanted);
+        assert_eq!(rt; number(&rt, rt.alloc(), terms.terms(), v)?, *wanted);
     }
     Ok(())
 }
 
 #[test]
 fn comparisons_hold_or_not(rt: HostRuntime) -> Result<(), Fail> {
-    let mut terms = Terms::new(rt.alloc(), List::empty(rt.alloc()));
+    let mut terms = NormalTerms::new(rt.alloc(), List::empty(rt.alloc()));
     for (op, kind, left, right, wanted) in &COMPARISONS {
         let v = comparison(&mut terms, *op, *kind, *left, *right)?;
-        assert_eq!(rt; number(&rt, rt.alloc(), &terms, v)?, *wanted);
+        assert_eq!(rt; number(&rt, rt.alloc(), terms.terms(), v)?, *wanted);
     }
     Ok(())
 }
 
 #[test]
 fn numbers_are_converted(rt: HostRuntime) -> Result<(), Fail> {
-    let mut terms = Terms::new(rt.alloc(), List::empty(rt.alloc()));
+    let mut terms = NormalTerms::new(rt.alloc(), List::empty(rt.alloc()));
     for (from, to, given, wanted) in &CONVERSIONS {
         let x = constant(&mut terms, *from, *given)?;
         let v = converted(&mut terms, *from, *to, x)?;
-        assert_eq!(rt; number(&rt, rt.alloc(), &terms, v)?, *wanted);
+        assert_eq!(rt; number(&rt, rt.alloc(), terms.terms(), v)?, *wanted);
     }
     Ok(())
 }
 
 #[test]
 fn conditions_are_violated_or_not(rt: HostRuntime) -> Result<(), Fail> {
-    let mut terms = Terms::new(rt.alloc(), List::empty(rt.alloc()));
+    let mut terms = NormalTerms::new(rt.alloc(), List::empty(rt.alloc()));
     for (what, op, kind, left, right, wanted) in &CONDITIONS {
         let v = condition(&mut terms, *what, *op, *kind, *left, *right)?;
-        assert_eq!(rt; number(&rt, rt.alloc(), &terms, v)?, *wanted);
+        assert_eq!(rt; number(&rt, rt.alloc(), terms.terms(), v)?, *wanted);
     }
     Ok(())
 }
 
 #[test]
 fn counts_are_oversized_or_not(rt: HostRuntime) -> Result<(), Fail> {
-    let mut terms = Terms::new(rt.alloc(), List::empty(rt.alloc()));
+    let mut terms = NormalTerms::new(rt.alloc(), List::empty(rt.alloc()));
     for (kind, count_kind, count, wanted) in &COUNTS {
         let x = constant(&mut terms, *count_kind, *count)?;
         let v = breaks_shift(&mut terms, *kind, *count_kind, x)?;
-        assert_eq!(rt; number(&rt, rt.alloc(), &terms, v)?, *wanted);
+        assert_eq!(rt; number(&rt, rt.alloc(), terms.terms(), v)?, *wanted);
     }
     Ok(())
 }
 
 #[test]
 fn shifts_have_their_values(rt: HostRuntime) -> Result<(), Fail> {
-    let mut terms = Terms::new(rt.alloc(), List::empty(rt.alloc()));
+    let mut terms = NormalTerms::new(rt.alloc(), List::empty(rt.alloc()));
     for (op, kind, left, count_kind, count, wanted) in &SHIFTS {
         let v = shifted(&mut terms, *op, *kind, *left, *count_kind, *count)?;
-        assert_eq!(rt; number(&rt, rt.alloc(), &terms, v)?, *wanted);
+        assert_eq!(rt; number(&rt, rt.alloc(), terms.terms(), v)?, *wanted);
     }
     Ok(())
 }
 
 #[test]
 fn the_lesser_is_chosen(rt: HostRuntime) -> Result<(), Fail> {
-    let mut terms = Terms::new(rt.alloc(), List::empty(rt.alloc()));
+    let mut terms = NormalTerms::new(rt.alloc(), List::empty(rt.alloc()));
     let first = lesser(&mut terms, IntKind::Int, -1, 1)?;
-    assert_eq!(rt; number(&rt, rt.alloc(), &terms, first)?, 4_294_967_295);
+    assert_eq!(rt;
+        number(&rt, rt.alloc(), terms.terms(), first)?,
+        4_294_967_295
+    );
     let second = lesser(&mut terms, IntKind::UInt, 4_294_967_295, 1)?;
-    assert_eq!(rt; number(&rt, rt.alloc(), &terms, second)?, 1);
+    assert_eq!(rt; number(&rt, rt.alloc(), terms.terms(), second)?, 1);
     Ok(())
 }

@@ -1,9 +1,13 @@
+pub mod Bits
 pub mod Booleans
 pub mod Conversions
 pub mod Counts
 pub mod Distances
+pub mod Earlier
 pub mod Made
+pub mod Stepping
 pub mod Magnitudes
+pub mod Mapped
 pub mod Moves
 pub mod Overflows
 pub mod Results

@@ -1,41 +1,51 @@
 -- What a term that was made is, over numbers that obey the store; and what stays when a store grows.
-use Rattle.std.proofs.Common.{◌≡◌, ℕ, zero, suc, ◌+◌, ◌^◌, ◌<◌, ◌≤◌, List, [], ◌∷◌, length, sym, ap, subst, ◌∙◌, arith}
-use Rattle.std.proofs.lemmas.Option.{none-some}
+use Rattle.std.proofs.Common.{◌≡◌, ℕ, ◌+◌, ◌^◌, ◌<◌, ◌≤◌, List, length, sym, ap, subst, ◌∙◌, arith, nat_eq, if◌then◌else◌}
 use Rattle.stk_terms.specs.declared.term.TermId.{TermId}
 use Rattle.stk_terms.specs.declared.term.TermOp.{TermOp}
-use Rattle.stk_terms.specs.Terms.{Stored, Term, StandsAt, term_of}
-use Rattle.stk_terms.specs.Fitting.{IsSound, AreResidues}
+use Rattle.stk_terms.specs.Terms.{Stored}
+use Rattle.stk_terms.specs.Fitting.{AreResidues}
 use Rattle.stk_terms.specs.Growth.{Keeps}
-use Rattle.stk_terms.specs.Values.{Bits, number_by, bits_of, meaning, meanings}
-use Rattle.stk_terms.proofs.Reading.{wide_same}
+use Rattle.stk_terms.specs.Values.{Bits, width_by, number_by, width_at, number_at}
+use Rattle.stk_rewrite.specs.Rights.{IsBuilt}
+use Rattle.stk_rewrite.specs.declared.right.Right.TheVariants.{Number, One, Two, Chosen}
 use Rattle.stk_terms.proofs.Adding.{keeps_same}
 use Rattle.stk_terms.proofs.Older.{keeps_then}
 use Rattle.stk_symbols.specs.Valued.{IsTerm, Obeys, Grown}
 
-pub exists_at : (ts : List Term) (i : ℕ) (t : Term) → StandsAt ts i t → i < length ts
-exists_at [] i t h = absurd (none-some _ h)
-exists_at (u ∷ ts) zero t h = omega arith
-exists_at (u ∷ ts) (suc i) t h = omega (arith, exists_at ts i t h)
+module _ (old new : Stored) (keeps : Keeps old new) (v : ℕ) (numbers : ℕ → ℕ) (o : Obeys new numbers) where
+  before : AreResidues old.inputs o.residues
+  before = subst (λ i. AreResidues i o.residues) keeps.inputs_stay o.in_range
 
-module _ (old new : Stored) (sound : IsSound old) (keeps : Keeps old new) (v : ℕ) (here : v < length new.terms) (numbers : ℕ → ℕ) (o : Obeys new numbers) where
-  argument : (a w : ℕ) → IsTerm old w a → meaning old o.residues a ≡ record { width = w; number = numbers a }
+  argument : (a w : ℕ) → IsTerm old w a → number_at old o.residues a ≡ numbers a
   argument a w t =
       let later : a < length new.terms = omega (arith, t.exists_, keeps.longer) in
-      let wide = wide_same old sound o.residues a ∙ t.wide in
-      let number = ap (λ (b : Bits). b.number) (sym (keeps.meant o.residues a t.exists_)) ∙ sym (o.are a later) in
-      λ j. record { width = wide j; number = number j }
+      sym (ap (λ (b : Bits). b.number) (keeps.meant o.residues a t.exists_)) ∙ sym (o.are a later)
 
-  pub leaf_valued : (op : TermOp) → meaning new o.residues v ≡ bits_of old.inputs o.residues (meanings old o.residues) (term_of op []) → numbers v ≡ number_by o.residues op 0 0 0 0 0
-  leaf_valued op e = o.are v here ∙ ap (λ (b : Bits). b.number) e
+  pub number_valued : (w n : ℕ) → IsBuilt old new (Number w n) v → numbers v ≡ n
+  number_valued w n b = o.are v b.normal.exists_ ∙ b.value o.residues before
 
-  pub one_valued : (op : TermOp) (a : TermId) (w : ℕ) → IsTerm old w a.0 → meaning new o.residues v ≡ bits_of old.inputs o.residues (meanings old o.residues) (term_of op (a ∷ [])) → numbers v ≡ number_by o.residues op w 0 (numbers a.0) 0 0
-  one_valued op a w t e = o.are v here ∙ (ap (λ (b : Bits). b.number) e ∙ (λ j. number_by o.residues op (argument a.0 w t j).width 0 (argument a.0 w t j).number 0 0))
+  pub one_valued : (op : TermOp) (a : TermId) (w : ℕ) → IsTerm old w a.0 → IsBuilt old new (One op a) v → numbers v ≡ number_by o.residues op w 0 (numbers a.0) 0 0
+  one_valued op a w t b = o.are v b.normal.exists_ ∙ (b.value o.residues before ∙ (λ j. number_by o.residues op (t.wide j) 0 (argument a.0 w t j) 0 0))
 
-  pub two_valued : (op : TermOp) (a b : TermId) (w x : ℕ) → IsTerm old w a.0 → IsTerm old x b.0 → meaning new o.residues v ≡ bits_of old.inputs o.residues (meanings old o.residues) (term_of op (a ∷ b ∷ [])) → numbers v ≡ number_by o.residues op w x (numbers a.0) (numbers b.0) 0
-  two_valued op a b w x t u e = o.are v here ∙ (ap (λ (b : Bits). b.number) e ∙ (λ j. number_by o.residues op (argument a.0 w t j).width (argument b.0 x u j).width (argument a.0 w t j).number (argument b.0 x u j).number 0))
+  pub two_valued : (op : TermOp) (a b : TermId) (w x : ℕ) → IsTerm old w a.0 → IsTerm old x b.0 → IsBuilt old new (Two op a b) v → numbers v ≡ number_by o.residues op w x (numbers a.0) (numbers b.0) 0
+  two_valued op a b w x t u y = o.are v y.normal.exists_ ∙ (y.value o.residues before ∙ (λ j. number_by o.residues op (t.wide j) (u.wide j) (argument a.0 w t j) (argument b.0 x u j) 0))
 
-  pub three_valued : (op : TermOp) (a b c : TermId) (w x y : ℕ) → IsTerm old w a.0 → IsTerm old x b.0 → IsTerm old y c.0 → meaning new o.residues v ≡ bits_of old.inputs o.residues (meanings old o.residues) (term_of op (a ∷ b ∷ c ∷ [])) → numbers v ≡ number_by o.residues op w x (numbers a.0) (numbers b.0) (numbers c.0)
-  three_valued op a b c w x y t u z e = o.are v here ∙ (ap (λ (b : Bits). b.number) e ∙ (λ j. number_by o.residues op (argument a.0 w t j).width (argument b.0 x u j).width (argument a.0 w t j).number (argument b.0 x u j).number (argument c.0 y z j).number))
+  pub three_valued : (a b c : TermId) (w x : ℕ) → IsTerm old w a.0 → IsTerm old x b.0 → IsTerm old x c.0 → IsBuilt old new (Chosen a b c) v → numbers v ≡ (if nat_eq (numbers a.0) 1 then numbers b.0 else numbers c.0)
+  three_valued a b c w x t u z y = o.are v y.normal.exists_ ∙ (y.value o.residues before ∙ (λ j. if nat_eq (argument a.0 w t j) 1 then argument b.0 x u j else argument c.0 x z j))
+
+-- what is made has its width
+module _ (old new : Stored) (v : ℕ) where
+  pub number_term : (w n : ℕ) → IsBuilt old new (Number w n) v → IsTerm new w v
+  number_term w n b = record { exists_ = b.normal.exists_; wide = b.wide }
+
+  pub one_term : (op : TermOp) (a : TermId) (w : ℕ) → IsTerm old w a.0 → IsBuilt old new (One op a) v → IsTerm new (width_by old.inputs op w 0) v
+  one_term op a w t b = record { exists_ = b.normal.exists_; wide = b.wide ∙ ap (λ x. width_by old.inputs op x 0) t.wide }
+
+  pub two_term : (op : TermOp) (a b : TermId) (w x : ℕ) → IsTerm old w a.0 → IsTerm old x b.0 → IsBuilt old new (Two op a b) v → IsTerm new (width_by old.inputs op w x) v
+  two_term op a b w x t u y = record { exists_ = y.normal.exists_; wide = y.wide ∙ (λ j. width_by old.inputs op (t.wide j) (u.wide j)) }
+
+  pub three_term : (a b c : TermId) (x : ℕ) → IsTerm old x b.0 → IsBuilt old new (Chosen a b c) v → IsTerm new x v
+  three_term a b c x u y = record { exists_ = y.normal.exists_; wide = y.wide ∙ u.wide }
 
 -- what stays
 pub term_kept : (old new : Stored) (c w v : ℕ) → Grown old new c → IsTerm old w v → IsTerm new w v

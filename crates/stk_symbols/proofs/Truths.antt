@@ -1,5 +1,5 @@
 -- Bits as truths.
-use Rattle.std.proofs.Common.{◌≡◌, ℕ, ◌-◌, ◌/◌, ◌%◌, ◌^◌, Bool, true, false, not, ◌&&◌, bit_and, bit_xor, nat_eq, if◌then◌else◌, refl, ap, ◌∙◌}
+use Rattle.std.proofs.Common.{◌≡◌, ℕ, ◌-◌, ◌/◌, ◌%◌, ◌^◌, Bool, true, false, not, ◌&&◌, ◌||◌, bit_and, bit_or, bit_xor, nat_eq, if◌then◌else◌, refl, ap, ◌∙◌}
 use Rattle.stk_terms.specs.Values.{bit}
 use Rattle.stk_symbols.specs.Valued.{differ}
 
@@ -18,6 +18,15 @@ and_truths false false = refl
 
 pub and_bit : (n m : ℕ) (a b : Bool) → n ≡ bit a → m ≡ bit b → bit_and n m ≡ bit (a && b)
 and_bit n m a b e f = (λ j. bit_and (e j) (f j)) ∙ and_truths a b
+
+or_truths : (a b : Bool) → bit_or (bit a) (bit b) ≡ bit (a || b)
+or_truths true true = refl
+or_truths true false = refl
+or_truths false true = refl
+or_truths false false = refl
+
+pub or_bit : (n m : ℕ) (a b : Bool) → n ≡ bit a → m ≡ bit b → bit_or n m ≡ bit (a || b)
+or_bit n m a b e f = (λ j. bit_or (e j) (f j)) ∙ or_truths a b
 
 xor_truths : (a b : Bool) → bit_xor (bit a) (bit b) ≡ bit (differ a b)
 xor_truths true true = refl

@@ -4,7 +4,7 @@ use Rattle.stk_terms.specs.Terms.{Stored}
 use Rattle.stk_terms.specs.Fitting.{AreResidues}
 use Rattle.stk_terms.specs.Values.{width_at, number_at}
 use Rattle.stk_terms.specs.Growth.{Keeps}
-use Rattle.stk_terms.specs.Cost.{total_cost}
+use Rattle.stk_terms.specs.Cost.{total_cost, IsClosed}
 
 -- v is a term of width w
 pub record IsTerm (s : Stored) (w v : ℕ) : Type 0 where
@@ -22,6 +22,12 @@ pub record Obeys (s : Stored) (numbers : ℕ → ℕ) : Type 0 where
 pub record Grown (old new : Stored) (charge : ℕ) : Type 0 where
   pub keeps : Keeps old new
   pub costs : total_cost new ≤ total_cost old + charge
+
+-- t is a bit with the numbers of the term v, and depends on no more than v
+pub record IsBitOf (s : Stored) (v t : ℕ) : Type 0 where
+  pub term : IsTerm s 1 t
+  pub same : (residues : List ℕ) → number_at s residues v ≡ number_at s residues t
+  pub reached : (chosen : ℕ → Bool) → IsClosed s chosen → chosen v ≡ true → chosen t ≡ true
 
 -- whether two truths differ
 abbrev pub differ : Bool → Bool → Bool

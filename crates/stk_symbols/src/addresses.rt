@@ -16,12 +16,13 @@ use crate::sizing::widened;
 use crate::tests::{all, fails, number};
 use stk_base::NoMemory;
 use stk_numbers::{IntKind, signed, width};
-use stk_terms::{TermId, TermOp, Terms};
+use stk_rewrite::NormalTerms;
+use stk_terms::{TermId, TermOp};
 
 /// How many elements of a size the first address is behind the second, of kind `Long`.
 #[tactic(auto, using(crate::proofs::Made::kept))]
 pub fn distance(
-    terms: &mut Terms,
+    terms: &mut NormalTerms,
     left: TermId,
     right: TermId,
     size: u64,
@@ -46,7 +47,12 @@ pub fn distance(
 
 // Whether a number of 64 bits is below a count, and not negative where it has a sign, as a bit.
 #[tactic(auto, using(crate::proofs::Made::kept))]
-fn inside(terms: &mut Terms, sign: bool, index: TermId, count: u64) -> Result<TermId, NoMemory>
+fn inside(
+    terms: &mut NormalTerms,
+    sign: bool,
+    index: TermId,
+    count: u64,
+) -> Result<TermId, NoMemory>
     requires { IsTerm terms.old 64 index.0 }
     ensures made { IfOk result (λ v. IsTerm terms.new 1 v.0) }
     ensures plain { sign ≡ false → IfOk result (λ v. (numbers : ℕ → ℕ) → Obeys terms.new numbers → numbers v.0 ≡ bit (nat_lt (numbers index.0) count)) }
@@ -68,7 +74,7 @@ fn inside(terms: &mut Terms, sign: bool, index: TermId, count: u64) -> Result<Te
 /// Whether an index is below 0 or at least the count of elements, as an Int.
 #[tactic(auto, using(crate::proofs::Made::kept))]
 pub fn breaks_bounds(
-    terms: &mut Terms,
+    terms: &mut NormalTerms,
     kind: IntKind,
     index: TermId,
     count: u64,

@@ -12,11 +12,12 @@ use crate::dividing;
 use crate::making::{one, two};
 use stk_base::NoMemory;
 use stk_numbers::{ArithOp, IntKind, signed, width};
-use stk_terms::{TermId, TermOp, Terms};
+use stk_rewrite::NormalTerms;
+use stk_terms::{TermId, TermOp};
 
 // A quotient.
 fn quotient(
-    terms: &mut Terms,
+    terms: &mut NormalTerms,
     kind: IntKind,
     left: TermId,
     right: TermId,
@@ -40,7 +41,7 @@ fn quotient(
 
 // A remainder.
 fn remainder(
-    terms: &mut Terms,
+    terms: &mut NormalTerms,
     kind: IntKind,
     left: TermId,
     right: TermId,
@@ -64,7 +65,7 @@ fn remainder(
 
 // An operator in a kind other than `_Bool`.
 fn operated(
-    terms: &mut Terms,
+    terms: &mut NormalTerms,
     op: ArithOp,
     kind: IntKind,
     left: TermId,
@@ -116,7 +117,7 @@ fn operated(
 
 // The remainder of two truths: the first, where the second is 0.
 #[tactic(auto, using(crate::proofs::Made::kept))]
-fn truth_remainder(terms: &mut Terms, left: TermId, right: TermId) -> Result<TermId, NoMemory>
+fn truth_remainder(terms: &mut NormalTerms, left: TermId, right: TermId) -> Result<TermId, NoMemory>
     requires first { IsTerm terms.old 1 left.0 }
     requires second { IsTerm terms.old 1 right.0 }
     ensures made { IfOk result (λ v. IsTerm terms.new 1 v.0) }
@@ -130,7 +131,7 @@ fn truth_remainder(terms: &mut Terms, left: TermId, right: TermId) -> Result<Ter
 
 // An operator in `_Bool`: a sum is an or, a difference an exclusive or, a product an and.
 fn of_truths(
-    terms: &mut Terms,
+    terms: &mut NormalTerms,
     op: ArithOp,
     left: TermId,
     right: TermId,
@@ -179,7 +180,7 @@ fn of_truths(
 
 /// An operator in a kind.
 pub fn arith(
-    terms: &mut Terms,
+    terms: &mut NormalTerms,
     op: ArithOp,
     kind: IntKind,
     left: TermId,

@@ -11,11 +11,12 @@ use crate::making::{chosen, two};
 use crate::tests::{fails, number, test};
 use stk_base::NoMemory;
 use stk_numbers::{CompareOp, IntKind, signed, width};
-use stk_terms::{TermId, TermOp, Terms};
+use stk_rewrite::NormalTerms;
+use stk_terms::{TermId, TermOp};
 
 /// Whether the first is below the second, as a bit.
 pub(crate) fn less(
-    terms: &mut Terms,
+    terms: &mut NormalTerms,
     kind: IntKind,
     left: TermId,
     right: TermId,
@@ -38,7 +39,7 @@ pub(crate) fn less(
 
 /// Whether both are equal, as a bit.
 pub(crate) fn equal(
-    terms: &mut Terms,
+    terms: &mut NormalTerms,
     kind: IntKind,
     left: TermId,
     right: TermId,
@@ -57,7 +58,7 @@ pub(crate) fn equal(
 // A comparison as a bit.
 #[tactic(auto, using(crate::proofs::Made::kept))]
 fn holds(
-    terms: &mut Terms,
+    terms: &mut NormalTerms,
     op: CompareOp,
     kind: IntKind,
     left: TermId,
@@ -103,7 +104,7 @@ fn holds(
 /// A comparison as an Int.
 #[tactic(auto, using(crate::proofs::Made::kept))]
 pub fn compare(
-    terms: &mut Terms,
+    terms: &mut NormalTerms,
     op: CompareOp,
     kind: IntKind,
     left: TermId,
@@ -123,7 +124,7 @@ pub fn compare(
 /// One of two numbers of a kind, by an Int that is 0 or 1.
 #[tactic(auto, using(crate::proofs::Made::kept))]
 pub fn choose(
-    terms: &mut Terms,
+    terms: &mut NormalTerms,
     value: TermId,
     kind: IntKind,
     yes: TermId,

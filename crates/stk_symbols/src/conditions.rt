@@ -15,11 +15,17 @@ use crate::sizing::{narrowed, widened};
 use crate::tests::{all, differing, fails, never, number};
 use stk_base::NoMemory;
 use stk_numbers::{ArithOp, IntKind, UbKind, signed, width};
-use stk_terms::{TermId, TermOp, Terms};
+use stk_rewrite::NormalTerms;
+use stk_terms::{TermId, TermOp};
 
 // Whether a signed sum leaves the range of w bits: it has another sign than both operands.
 #[tactic(auto, using(crate::proofs::Made::kept))]
-fn sum_leaves(terms: &mut Terms, width: u8, left: TermId, right: TermId) -> Result<TermId, NoMemory>
+fn sum_leaves(
+    terms: &mut NormalTerms,
+    width: u8,
+    left: TermId,
+    right: TermId,
+) -> Result<TermId, NoMemory>
     requires first { IsTerm terms.old width left.0 }
     requires second { IsTerm terms.old width right.0 }
     requires some { 1 ≤ width }
@@ -41,7 +47,7 @@ fn sum_leaves(terms: &mut Terms, width: u8, left: TermId, right: TermId) -> Resu
 // first.
 #[tactic(auto, using(crate::proofs::Made::kept))]
 fn difference_leaves(
-    terms: &mut Terms,
+    terms: &mut NormalTerms,
     width: u8,
     left: TermId,
     right: TermId,
@@ -66,7 +72,7 @@ fn difference_leaves(
 // Whether a signed product leaves the range of w bits: it isn't what its low bits stand for in twice the width.
 #[tactic(auto, using(crate::proofs::Made::kept))]
 fn product_leaves(
-    terms: &mut Terms,
+    terms: &mut NormalTerms,
     width: u8,
     left: TermId,
     right: TermId,
@@ -112,7 +118,7 @@ fn ones(width: u8) -> u128
 // Whether a number is the least of w signed bits, and another is -1.
 #[tactic(auto, using(crate::proofs::Made::kept))]
 fn quotient_leaves(
-    terms: &mut Terms,
+    terms: &mut NormalTerms,
     width: u8,
     left: TermId,
     right: TermId,
@@ -135,7 +141,7 @@ fn quotient_leaves(
 
 // Whether an operator in a signed kind overflows, as a bit.
 fn leaves(
-    terms: &mut Terms,
+    terms: &mut NormalTerms,
     op: ArithOp,
     kind: IntKind,
     left: TermId,
@@ -180,7 +186,7 @@ fn leaves(
 // Whether an operator in a kind overflows, as an Int.
 #[tactic(auto, using(crate::proofs::Made::kept))]
 fn overflow(
-    terms: &mut Terms,
+    terms: &mut NormalTerms,
     op: ArithOp,
     kind: IntKind,
     left: TermId,
@@ -212,7 +218,7 @@ fn divides(op: ArithOp) -> bool
 // Whether an operator divides by 0, as an Int.
 #[tactic(auto, using(crate::proofs::Made::kept))]
 fn zero_divisor(
-    terms: &mut Terms,
+    terms: &mut NormalTerms,
     op: ArithOp,
     kind: IntKind,
     right: TermId,
@@ -234,7 +240,7 @@ fn zero_divisor(
 
 /// Whether an operator in a kind violates a condition, as an Int.
 pub fn breaks(
-    terms: &mut Terms,
+    terms: &mut NormalTerms,
     what: UbKind,
     op: ArithOp,
     kind: IntKind,

@@ -15,7 +15,8 @@ use crate::sizing::resized;
 use crate::tests::fails;
 use stk_base::NoMemory;
 use stk_numbers::{IntKind, signed, width};
-use stk_terms::{TermId, Terms};
+use stk_rewrite::NormalTerms;
+use stk_terms::TermId;
 
 // The bits of a number in a width.
 fn bits(width: u8, number: i128) -> u128
@@ -27,7 +28,7 @@ fn bits(width: u8, number: i128) -> u128
 }
 
 /// The bits of a number in a kind.
-pub fn constant(terms: &mut Terms, kind: IntKind, number: i128) -> Result<TermId, NoMemory>
+pub fn constant(terms: &mut NormalTerms, kind: IntKind, number: i128) -> Result<TermId, NoMemory>
     ensures made { IfOk result (λ v. IsTerm terms.new (width_of kind) v.0) }
     ensures value { IfOk result (λ v. (numbers : ℕ → ℕ) → Obeys terms.new numbers → numbers v.0 ≡ bits_of kind number) }
     ensures grown { Grown terms.old terms.new 0 }
@@ -39,7 +40,11 @@ pub fn constant(terms: &mut Terms, kind: IntKind, number: i128) -> Result<TermId
 
 /// Whether a number of a kind is 0, as a bit.
 #[tactic(auto, using(crate::proofs::Made::kept))]
-pub(crate) fn is_zero(terms: &mut Terms, kind: IntKind, value: TermId) -> Result<TermId, NoMemory>
+pub(crate) fn is_zero(
+    terms: &mut NormalTerms,
+    kind: IntKind,
+    value: TermId,
+) -> Result<TermId, NoMemory>
     requires { IsTerm terms.old (width_of kind) value.0 }
     ensures made { IfOk result (λ v. IsTerm terms.new 1 v.0) }
     ensures value { IfOk result (λ v. (numbers : ℕ → ℕ) → Obeys terms.new numbers → numbers v.0 ≡ bit (int_eq (stands kind (numbers value.0)) (pos 0))) }
@@ -53,7 +58,7 @@ pub(crate) fn is_zero(terms: &mut Terms, kind: IntKind, value: TermId) -> Result
 
 // A number converted to `_Bool`.
 #[tactic(auto, using(crate::proofs::Made::kept))]
-fn truth(terms: &mut Terms, kind: IntKind, value: TermId) -> Result<TermId, NoMemory>
+fn truth(terms: &mut NormalTerms, kind: IntKind, value: TermId) -> Result<TermId, NoMemory>
     requires { IsTerm terms.old (width_of kind) value.0 }
     ensures made { IfOk result (λ v. IsTerm terms.new 1 v.0) }
     ensures value { IfOk result (λ v. (numbers : ℕ → ℕ) → Obeys terms.new numbers → numbers v.0 ≡ bits_of kinds.Bool (wrap kinds.Bool (stands kind (numbers value.0)))) }
@@ -66,7 +71,7 @@ fn truth(terms: &mut Terms, kind: IntKind, value: TermId) -> Result<TermId, NoMe
 
 /// A number converted from one kind to another.
 pub fn converted(
-    terms: &mut Terms,
+    terms: &mut NormalTerms,
     from: IntKind,
     to: IntKind,
     value: TermId,

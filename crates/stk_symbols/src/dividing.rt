@@ -7,10 +7,15 @@ ghost use Rattle.stk_symbols.specs.Valued.{IsTerm, Obeys, Grown};
 use crate::making::{chosen, one, two};
 use crate::tests::differing;
 use stk_base::NoMemory;
-use stk_terms::{TermId, TermOp, Terms};
+use stk_rewrite::NormalTerms;
+use stk_terms::{TermId, TermOp};
 
 /// Whether a signed number is negative: its top bit.
-pub(crate) fn negative(terms: &mut Terms, width: u8, value: TermId) -> Result<TermId, NoMemory>
+pub(crate) fn negative(
+    terms: &mut NormalTerms,
+    width: u8,
+    value: TermId,
+) -> Result<TermId, NoMemory>
     requires term { IsTerm terms.old width value.0 }
     requires some { 1 ≤ width }
     ensures made { IfOk result (λ v. IsTerm terms.new 1 v.0) }
@@ -24,7 +29,7 @@ pub(crate) fn negative(terms: &mut Terms, width: u8, value: TermId) -> Result<Te
 /// A number, with its sign turned where the test is 1.
 #[tactic(auto, using(crate::proofs::Made::kept))]
 pub(crate) fn turned(
-    terms: &mut Terms,
+    terms: &mut NormalTerms,
     width: u8,
     test: TermId,
     value: TermId,
@@ -43,7 +48,7 @@ pub(crate) fn turned(
 /// The magnitude of a signed number, whose sign is the test.
 #[tactic(auto, using(crate::proofs::Made::kept))]
 pub(crate) fn magnitude(
-    terms: &mut Terms,
+    terms: &mut NormalTerms,
     width: u8,
     sign: TermId,
     value: TermId,
@@ -61,7 +66,7 @@ pub(crate) fn magnitude(
 /// The quotient of two signed numbers, truncated towards zero; 0 by 0.
 #[tactic(auto, using(crate::proofs::Made::kept))]
 pub(crate) fn quotient(
-    terms: &mut Terms,
+    terms: &mut NormalTerms,
     width: u8,
     left: TermId,
     right: TermId,
@@ -86,7 +91,7 @@ pub(crate) fn quotient(
 /// The remainder of two signed numbers, with the sign of the first; the first by 0.
 #[tactic(auto, using(crate::proofs::Made::kept))]
 pub(crate) fn remainder(
-    terms: &mut Terms,
+    terms: &mut NormalTerms,
     width: u8,
     left: TermId,
     right: TermId,

@@ -14,11 +14,12 @@ use crate::sizing::{narrowed, widened};
 use crate::tests::{fails, number};
 use stk_base::NoMemory;
 use stk_numbers::{IntKind, signed, width};
-use stk_terms::{TermId, TermOp, Terms};
+use stk_rewrite::NormalTerms;
+use stk_terms::{TermId, TermOp};
 
 // A number times 2 to a place, modulo 2 to the width: its lowest bits in front of zeros.
 #[tactic(auto, using(crate::proofs::Made::kept))]
-fn raised(terms: &mut Terms, width: u8, place: u8, value: TermId) -> Result<TermId, NoMemory>
+fn raised(terms: &mut NormalTerms, width: u8, place: u8, value: TermId) -> Result<TermId, NoMemory>
     requires term { IsTerm terms.old width value.0 }
     requires place { place < width }
     requires most { width ≤ 128 }
@@ -39,7 +40,7 @@ fn raised(terms: &mut Terms, width: u8, place: u8, value: TermId) -> Result<Term
 // A base moved by 2 to a place times the step.
 #[tactic(auto, using(crate::proofs::Made::kept))]
 fn moved_once(
-    terms: &mut Terms,
+    terms: &mut NormalTerms,
     width: u8,
     place: u8,
     base: TermId,
@@ -67,7 +68,7 @@ fn moved_once(
 // A base moved by 2 to a place times the step, where the lowest bit of the size is 1.
 #[tactic(auto, using(crate::proofs::Made::kept))]
 fn moved_by_bit(
-    terms: &mut Terms,
+    terms: &mut NormalTerms,
     width: u8,
     place: u8,
     base: TermId,
@@ -93,7 +94,7 @@ fn moved_by_bit(
 
 // A base moved by so many elements of a size, modulo 2 to the width.
 fn moved_by(
-    terms: &mut Terms,
+    terms: &mut NormalTerms,
     width: u8,
     base: TermId,
     step: TermId,
@@ -121,7 +122,7 @@ fn moved_by(
 /// The address so many elements of a size, in bytes, before or behind a base, modulo 2^64. The step is of any kind.
 #[tactic(auto, using(crate::proofs::Made::kept))]
 pub fn moved(
-    terms: &mut Terms,
+    terms: &mut NormalTerms,
     base: TermId,
     kind: IntKind,
     step: TermId,
@@ -142,7 +143,7 @@ pub fn moved(
 
 // Whether a number of 96 bits has one of its upper 32 bits set.
 #[tactic(auto, using(crate::proofs::Made::kept))]
-fn has_upper(terms: &mut Terms, value: TermId) -> Result<TermId, NoMemory>
+fn has_upper(terms: &mut NormalTerms, value: TermId) -> Result<TermId, NoMemory>
     requires { IsTerm terms.old 96 value.0 }
     ensures made { IfOk result (λ v. IsTerm terms.new 1 v.0) }
     ensures value { IfOk result (λ v. (numbers : ℕ → ℕ) → Obeys terms.new numbers → numbers v.0 ≡ bit (not (nat_eq (numbers value.0 / 2 ^ 64 % 2 ^ 32) 0))) }
@@ -159,7 +160,7 @@ fn has_upper(terms: &mut Terms, value: TermId) -> Result<TermId, NoMemory>
 /// below 0 or above 2^64 - 1.
 #[tactic(auto, using(crate::proofs::Made::kept))]
 pub fn breaks_move(
-    terms: &mut Terms,
+    terms: &mut NormalTerms,
     base: TermId,
     kind: IntKind,
     step: TermId,

@@ -13,7 +13,8 @@ use crate::sizing::{narrowed, widened};
 use crate::tests::{fails, number};
 use stk_base::NoMemory;
 use stk_numbers::{IntKind, ShiftOp, signed, width};
-use stk_terms::{TermId, TermOp, Terms};
+use stk_rewrite::NormalTerms;
+use stk_terms::{TermId, TermOp};
 
 // The greater width of two kinds.
 fn wider(a: IntKind, b: IntKind) -> u8
@@ -29,7 +30,7 @@ fn wider(a: IntKind, b: IntKind) -> u8
 // A shift to the left, in the greater width of both kinds, and cut to that of the first.
 #[tactic(auto, using(crate::proofs::Made::kept))]
 fn left_shift(
-    terms: &mut Terms,
+    terms: &mut NormalTerms,
     kind: IntKind,
     left: TermId,
     count_kind: IntKind,
@@ -53,7 +54,7 @@ fn left_shift(
 // signed kind, and else with zeros.
 #[tactic(auto, using(crate::proofs::Made::kept))]
 fn right_shift(
-    terms: &mut Terms,
+    terms: &mut NormalTerms,
     kind: IntKind,
     left: TermId,
     count_kind: IntKind,
@@ -81,7 +82,7 @@ fn right_shift(
 
 /// A shift of a number of a kind by a count of any kind.
 pub fn shift(
-    terms: &mut Terms,
+    terms: &mut NormalTerms,
     op: ShiftOp,
     kind: IntKind,
     left: TermId,
@@ -109,7 +110,7 @@ pub fn shift(
 /// Whether a count is below 0 or at least the width of the kind that is shifted, as an Int.
 #[tactic(auto, using(crate::proofs::Made::kept))]
 pub fn breaks_shift(
-    terms: &mut Terms,
+    terms: &mut NormalTerms,
     kind: IntKind,
     count_kind: IntKind,
     count: TermId,

@@ -5,11 +5,12 @@ ghost use Rattle.stk_symbols.specs.Valued.{IsTerm, Obeys, Grown};
 
 use crate::making::one;
 use stk_base::NoMemory;
-use stk_terms::{TermId, TermOp, Terms};
+use stk_rewrite::NormalTerms;
+use stk_terms::{TermId, TermOp};
 
 /// The bits in front of which copies of the sign bit stand, or zeros.
 pub(crate) fn widened(
-    terms: &mut Terms,
+    terms: &mut NormalTerms,
     sign: bool,
     from: u8,
     to: u8,
@@ -34,7 +35,7 @@ pub(crate) fn widened(
 
 /// The lowest bits.
 pub(crate) fn narrowed(
-    terms: &mut Terms,
+    terms: &mut NormalTerms,
     from: u8,
     to: u8,
     value: TermId,
@@ -52,7 +53,7 @@ pub(crate) fn narrowed(
 
 /// The bits of a number in another width.
 pub(crate) fn resized(
-    terms: &mut Terms,
+    terms: &mut NormalTerms,
     sign: bool,
     from: u8,
     to: u8,

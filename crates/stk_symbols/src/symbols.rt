@@ -2,11 +2,13 @@
 ghost use Rattle.std.specs.Prelude.{◌≡◌, map, IfOk};
 ghost use Rattle.stk_numbers.specs.Kinds.{width_of};
 ghost use Rattle.stk_terms.specs.Terms.{no_terms};
+ghost use Rattle.stk_rewrite.specs.Normal.{AreNormal};
 
 use std::alloc::Global;
 use std::marker::Model;
 use stk_base::{List, NoMemory};
 use stk_numbers::{IntKind, width};
+use stk_rewrite::NormalTerms;
 use stk_terms::Terms;
 
 /// The store of values that are terms. The inputs of its terms are the keys of a function, in order, at the widths of
@@ -17,7 +19,7 @@ use stk_terms::Terms;
 #[derive(Drop)]
 pub struct Symbols {
     kinds: List<IntKind>,
-    pub(crate) terms: Terms,
+    pub(crate) terms: NormalTerms,
 }
 
 impl Model for Symbols {
@@ -38,15 +40,16 @@ impl Symbols {
         let own = copied(alloc, kinds)?;
         Ok(Symbols {
             kinds: own,
-            terms: Terms::new(alloc, widths),
+            terms: NormalTerms::new(alloc, widths),
         })
     }
 
-    /// The terms made so far.
+    /// The terms made so far, none of which is the left side of a rewriting rule.
     pub fn terms(&self) -> &Terms
-        ensures { result.now ≡ self.now.terms }
+        ensures same { result.now ≡ self.now.terms }
+        ensures normal { AreNormal self.now.terms }
     {
-        &self.terms
+        self.terms.terms()
     }
 }
 

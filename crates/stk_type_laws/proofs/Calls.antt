@@ -1,5 +1,5 @@
 -- What a call that fits tells of what it calls and of its arguments (C11 6.5.2.2).
-use Rattle.std.proofs.Common.{◌≡◌, ℕ, Bool, false, ◌||◌, List, [], Option, Some, None, refl, sym, ap, ◌∙◌}
+use Rattle.std.proofs.Common.{◌≡◌, ℕ, Bool, false, ◌||◌, List, [], length, Option, Some, None, refl, sym, ap, ◌∙◌}
 use Rattle.std.specs.Prelude.{if◌then◌else◌, option_and_then}
 use Rattle.stk_base.specs.declared.span.Span.{Span}
 use Rattle.stk_base.specs.Text.{text_of}
@@ -14,8 +14,7 @@ use Rattle.stk_type_rules.specs.Outcome.{Outcome, Good, and_then, finish}
 use Rattle.stk_type_rules.specs.Types.{is_struct}
 use Rattle.stk_typing.specs.Locals.{Local, find_local}
 use Rattle.stk_typing.specs.Scope.{callee_rule, signature_named, signature_as}
-use Rattle.stk_typing.specs.declared.calls.Arguments.{Arguments}
-use Rattle.stk_typing.specs.Calls.{parameter_count, takes, call_result, called, call_rule, name_in, callee_by}
+use Rattle.stk_typing.specs.Calls.{parameter_count, parameters_in, takes, have_misfit, have_struct, call_result, called, call_rule, name_in, callee_by}
 use Rattle.stk_typing.specs.Typing.{form_typed, callee_typed}
 use Rattle.stk_meaning.specs.Typings.{signature_in}
 use Rattle.stk_meaning.specs.Libraries.{called_form as called_form_name, called_name, called_signature, result_in}
@@ -26,29 +25,29 @@ use Rattle.stk_type_laws.proofs.Names.{World, typing, in_force}
 -- ---- the rule of a call
 
 -- a function is called, none of whose arguments is a struct
-pub record Called (c : Option SignatureTree) (a : Arguments) (y : Fact) : Type 0 where
+pub record Called (c : Option SignatureTree) (xs : List Fact) (y : Fact) : Type 0 where
   pub function : SignatureTree
   pub is : c ≡ Some function
   pub type : y.ty ≡ result_in (Some function)
-  pub plain : a.has_struct ≡ false
+  pub plain : have_struct xs ≡ false
 
-result_at : (a : Arguments) (y : Fact) (result : TypeTree) (params : TypeTrees) (more no_return : Bool) → call_result (signature result params more no_return) a ≡ Fits y → Called (Some (signature result params more no_return)) a y
-result_at a y result params more no_return e =
-    let h = held (takes more (parameter_count params) a.count) (if is_struct result || a.has_struct then Breaks 9 else Fits (value result)) 8 y e in
-    let p = passed (is_struct result || a.has_struct) (Fits (value result)) 9 y h.rule in
+result_at : (xs : List Fact) (y : Fact) (result : TypeTree) (params : TypeTrees) (more no_return : Bool) → call_result (signature result params more no_return) xs ≡ Fits y → Called (Some (signature result params more no_return)) xs y
+result_at xs y result params more no_return e =
+    let h = held (takes more (parameter_count params) (length xs)) (if is_struct result || have_struct xs then Breaks 9 else Fits (value result)) 8 y e in
+    let p = passed (is_struct result || have_struct xs) (Fits (value result)) 9 y h.rule in
     record {
       function = signature result params more no_return;
       is = refl;
       type = sym (ap (λ (z : Fact). z.ty) (same_fact (value result) y p.rule));
-      plain = (both_false (is_struct result) a.has_struct p.test).1;
+      plain = (both_false (is_struct result) (have_struct xs) p.test).1;
     }
 
-called_at : (c : Option SignatureTree) (a : Arguments) (y : Fact) → called c a ≡ Fits y → Called c a y
-called_at None a y e = absurd (not_broken 8 y e)
-called_at (Some (signature result params more no_return)) a y e = result_at a y result params more no_return e
+called_at : (c : Option SignatureTree) (xs : List Fact) (y : Fact) → called c xs ≡ Fits y → Called c xs y
+called_at None xs y e = absurd (not_broken 8 y e)
+called_at (Some (signature result params more no_return)) xs y e = result_at xs y result params more no_return e
 
-pub call_fits : (c : Option SignatureTree) (a : Arguments) (y : Fact) → call_rule c a ≡ Fits y → Called c a y
-call_fits c a y e = called_at c a y (passed a.has_other (called c a) 6 y e).rule
+pub call_fits : (c : Option SignatureTree) (xs : List Fact) (y : Fact) → call_rule c xs ≡ Fits y → Called c xs y
+call_fits c xs y e = called_at c xs y (passed (have_misfit (parameters_in c) xs) (called c xs) 6 y e).rule
 
 -- ---- what is called is what the name means at file scope
 

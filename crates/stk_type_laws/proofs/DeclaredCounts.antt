@@ -197,8 +197,8 @@ declarator_few_entries bytes mark defines word es t (s.declarator k count at tai
     let name = declared_name bytes at in
     let whole = starred count t in
     behind_within (tail_typed (at_file bytes es) defines tail)
-    (λ shape. and_then (finish k.number (declarator_rule (structs_of es) word (sort_of word shape whole) (find name es) init (made_for bytes es defines word whole init shape))) (λ x. Good (es ++ added name (sort_of word shape whole) mark (find name es) x.ty) []))
-    (λ shape. behind_within (finish k.number (declarator_rule (structs_of es) word (sort_of word shape whole) (find name es) init (made_for bytes es defines word whole init shape))) (λ x. Good (es ++ added name (sort_of word shape whole) mark (find name es) x.ty) [])
+    (λ shape. and_then (finish k.number (declarator_rule (structs_of es) word (sort_of word shape whole) (find name es) init (made_for bytes es (find name es) defines word whole init shape))) (λ x. Good (es ++ added name (sort_of word shape whole) mark (find name es) x.ty) []))
+    (λ shape. behind_within (finish k.number (declarator_rule (structs_of es) word (sort_of word shape whole) (find name es) init (made_for bytes es (find name es) defines word whole init shape))) (λ x. Good (es ++ added name (sort_of word shape whole) mark (find name es) x.ty) [])
     (λ x. good (let one = added_few name (sort_of word shape whole) mark (find name es) x.ty in let joined = length-append es (added name (sort_of word shape whole) mark (find name es) x.ty) in omega arith)))
 
 declarators_few : (bytes : List ℕ) (mark : Bool) (word : Option Storage) (es : List NameEntry) (t : TypeTree) (ds : DeclrTrees) → Within (λ x. x) (length es + length (more_declarators ds)) (declarators_declared bytes mark word es t ds)

@@ -20,8 +20,7 @@ use Rattle.stk_type_rules.specs.Rules.{paren_rule, dot_rule, arrow_rule, step_ru
 use Rattle.stk_type_rules.specs.Constants.{converted, negated, flipped}
 use Rattle.stk_typing.specs.Locals.{Local}
 use Rattle.stk_typing.specs.Literals.{text_as, text_rule}
-use Rattle.stk_typing.specs.declared.calls.Arguments.{Arguments}
-use Rattle.stk_typing.specs.Calls.{with_argument, call_rule}
+use Rattle.stk_typing.specs.Calls.{call_rule, have_struct}
 use Rattle.stk_typing.specs.Typing.{expression_typed, form_typed, callee_typed, arguments_typed, type_name_typed}
 use Rattle.stk_meaning.specs.Typings.{Typing, node_of, type_in, is_array, object_size}
 use Rattle.stk_meaning.specs.Libraries.{result_in}
@@ -264,13 +263,13 @@ mutual
         place = λ z. tt;
       }
 
-  arguments_known : (w : World) (es : ExprTrees) (n : ℕ) (ls : List Local) (own : Option ℕ) (a : Arguments) (ts : List Fact) → AreDeclared w ls → arguments_typed (in_force w ls own) es ≡ Good a ts
-      → Stand w.facts n ts → expressions_from n es → Part (arguments_visits (typing w) es) w.whole → a.has_struct ≡ false → EachVisit (RawVisit (ground_of w)) (arguments_visits (typing w) es)
-  arguments_known w s.no_expressions n ls own a ts declared eq stand from part plain = tt
-  arguments_known w (s.then_expression e es) n ls own a ts declared eq stand from part plain =
-      let o = steps (expression_typed (in_force w ls own) e) _ a ts eq in
-      let m = mapped (arguments_typed (in_force w ls own) es) (with_argument o.value) a o.rest o.then in
+  arguments_known : (w : World) (es : ExprTrees) (n : ℕ) (ls : List Local) (own : Option ℕ) (xs : List Fact) (ts : List Fact) → AreDeclared w ls → arguments_typed (in_force w ls own) es ≡ Good xs ts
+      → Stand w.facts n ts → expressions_from n es → Part (arguments_visits (typing w) es) w.whole → have_struct xs ≡ false → EachVisit (RawVisit (ground_of w)) (arguments_visits (typing w) es)
+  arguments_known w s.no_expressions n ls own xs ts declared eq stand from part plain = tt
+  arguments_known w (s.then_expression e es) n ls own xs ts declared eq stand from part plain =
+      let o = steps (expression_typed (in_force w ls own) e) _ xs ts eq in
+      let m = mapped (arguments_typed (in_force w ls own) es) (λ (z : List Fact). o.value ∷ z) xs o.rest o.then in
       let stand_b = rest_stands w.facts n (expression_nodes e) ts o.first o.rest o.all ((expression_count e (in_force w ls own)).by o.value o.first o.gives) stand in
-      let plains = both_false (is_struct o.value.ty) m.value.has_struct (ap (λ (z : Arguments). z.has_struct) m.is ∙ plain) in
+      let plains = both_false (is_struct o.value.ty) (have_struct m.value) (ap have_struct m.is ∙ plain) in
       let p = expression_known w e n reading ls own o.value o.first declared o.gives (first_stands w.facts n ts o.first o.rest o.all stand) from.0 (part_left (expression_visits (typing w) reading e) (arguments_visits (typing w) es) part) in
       (p.visits plains.0, arguments_known w es (n + expression_nodes e) ls own m.value o.rest declared m.gives stand_b from.1 (part_right (expression_visits (typing w) reading e) (arguments_visits (typing w) es) part) plains.1)

@@ -40,7 +40,7 @@ use Rattle.stk_declare.specs.Bases.{Based, plain_declared}
 use Rattle.stk_declare.specs.Enumerations.{Enumerated, none_enumerated, enumeration_rule, tag_before, with_value, enumerator_declared, enumerators_declared, enumeration_declared, with_enumeration}
 use Rattle.stk_declare.specs.Structs.{Membered, Opening, opening_new, opening, opening_named, struct_rule, member_name, has_member, is_empty, may_be_member, member_made, member_rule, member_size_first, with_member, member_typed, member_declarator, member_declarators, struct_closed, base_declared, form_declared, members_declared, member_declared, ends_members}
 use Rattle.stk_declare.specs.Declaring.{declared_name, count_for, made_for, definition_rule, definition_word, head_declared, declarator_declared, declarators_declared, declaration_declared, definition_declared, unit_declared}
-use Rattle.stk_declare.specs.Symbols.{is_open_array, was_marked, agreement, meaning, holding, says_more, added, sort_of, declarator_rule, lacks_size}
+use Rattle.stk_declare.specs.Symbols.{is_open_array, was_marked, agreement, meaning, holding, says_more, added, sort_of, declarator_rule, is_begun, lacks_size, says_otherwise}
 use Rattle.stk_declare.specs.declared.symbols.SymbolSort.{SymbolSort}
 use Rattle.stk_type_laws.specs.Orderly.{DeclaresObject, HaveObjectTypes, GivesMembers, AreOrderly, UnitsKeepOrder}
 use Rattle.stk_type_laws.proofs.Leaving.{Leaves, good, refused, then_leaves, behind_leaves, left_by, leaves_less}
@@ -363,13 +363,13 @@ added_names name what mark earlier t = name_if (says_more (was_marked earlier) m
 
 -- under what follows the name
 shape_kept : (bytes : List ℕ) (mark defines : Bool) (word : Option Storage) (es : List NameEntry) (k : ℕ) (name : List ℕ) (whole : TypeTree) (init : MaybeInitTree) (shape : TailShape) → AreOrderly es
-    → Leaves (Kept es) (and_then (finish k (declarator_rule (structs_of es) word (sort_of word shape whole) (find name es) init (made_for bytes es defines word whole init shape))) (λ x. Good (es ++ added name (sort_of word shape whole) mark (find name es) x.ty) []))
+    → Leaves (Kept es) (and_then (finish k (declarator_rule (structs_of es) word (sort_of word shape whole) (find name es) init (made_for bytes es (find name es) defines word whole init shape))) (λ x. Good (es ++ added name (sort_of word shape whole) mark (find name es) x.ty) []))
 shape_kept bytes mark defines word es k name whole init shape h =
     let what = sort_of word shape whole in
-    let rule = declarator_rule (structs_of es) word what (find name es) init (made_for bytes es defines word whole init shape) in
+    let rule = declarator_rule (structs_of es) word what (find name es) init (made_for bytes es (find name es) defines word whole init shape) in
     then_leaves (λ x. Good (es ++ added name what mark (find name es) x.ty) []) (fitting k rule (λ x. rule ≡ Fits x) (λ x e. e))
     (λ x e. good (names_kept es (added name what mark (find name es) x.ty) h
-    (added_objects (structs_of es) word defines (lacks_size word shape (count_for bytes shape whole init)) mark (count_for bytes shape whole init) whole shape name (find name es) init x (find_has name es h.objects) e)
+    (added_objects (structs_of es) word defines (says_otherwise (find name es) shape whole) (lacks_size word (is_begun init) shape (count_for bytes shape whole init)) mark (count_for bytes shape whole init) whole shape name (find name es) init x (find_has name es h.objects) e)
     (added_names name what mark (find name es) x.ty)))
 
 declarator_kept : (bytes : List ℕ) (mark defines : Bool) (word : Option Storage) (es : List NameEntry) (t : TypeTree) (d : DeclrTree) → AreOrderly es → Leaves (Kept es) (declarator_declared bytes mark defines word es t d)
@@ -377,7 +377,7 @@ declarator_kept bytes mark defines word es t (s.declarator k count at tail init)
     let name = declared_name bytes at in
     let whole = starred count t in
     behind_leaves (tail_typed (at_file bytes es) defines tail)
-    (λ shape. and_then (finish k.number (declarator_rule (structs_of es) word (sort_of word shape whole) (find name es) init (made_for bytes es defines word whole init shape))) (λ x. Good (es ++ added name (sort_of word shape whole) mark (find name es) x.ty) []))
+    (λ shape. and_then (finish k.number (declarator_rule (structs_of es) word (sort_of word shape whole) (find name es) init (made_for bytes es (find name es) defines word whole init shape))) (λ x. Good (es ++ added name (sort_of word shape whole) mark (find name es) x.ty) []))
     (λ shape. shape_kept bytes mark defines word es k.number name whole init shape h)
 
 declarators_kept : (bytes : List ℕ) (mark : Bool) (word : Option Storage) (ds : DeclrTrees) (es : List NameEntry) (t : TypeTree) → AreOrderly es → Leaves (Kept es) (declarators_declared bytes mark word es t ds)

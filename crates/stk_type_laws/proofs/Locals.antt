@@ -29,7 +29,7 @@ use Rattle.stk_declarators.specs.Counting.{given_count}
 use Rattle.stk_declarators.specs.Tails.{counted_sizes, are_scalars}
 use Rattle.stk_address_taken.specs.Statements.{is_static as taken_static}
 use Rattle.stk_function_types.specs.Bodies.{Body, with_more, is_in_block}
-use Rattle.stk_function_types.specs.Locals.{local_name, own_type, is_local_register, plain_nodes, initial_scope, initial_typed, refused_initial, by_initial, initial_rule, complete_rule, local_rule, lacks_size, declared_rule, own_local, local_by, local_sized, local_declared, locals_declared, declaration_typed}
+use Rattle.stk_function_types.specs.Locals.{local_name, is_refused, is_untyped, own_type, is_local_register, plain_nodes, initial_scope, initial_typed, refused_initial, by_initial, initial_rule, complete_rule, local_rule, lacks_size, declared_rule, own_local, local_by, local_sized, local_declared, locals_declared, declaration_typed}
 use Rattle.stk_meaning.specs.Typings.{Typing, is_array}
 use Rattle.stk_meaning.specs.Visits.{at_declarator, Visits, both_visits, one_visit, is_static, tail_visits, initial_visits, declarator_visits, declarators_visits, declaration_visits}
 use Rattle.stk_run_laws.specs.Visits.{EachVisit}
@@ -73,8 +73,9 @@ sized_count : (b : Body) (static : Bool) (name : List ℕ) (k : ℕ) (whole : Ty
 sized_count b static name k whole init sizes =
     let l = own_local (structs_of b.scope.entries) name k whole sizes in
     let rule : Leaves → Ruled = λ leaves. declared_rule b.scope.bytes (structs_of b.scope.entries) (is_in_block b name) static init whole sizes leaves in
-    counts_then (initial_typed b static l init) (λ leaves. and_then (finish k (rule leaves)) (λ x. Good (local_by name k x) [])) (maybe_initialiser_nodes init) 1 (maybe_initialiser_nodes init + 1) refl
-    (initial_count b static l init) (λ leaves. counts_mapped (λ x. local_by name k x) (counts_own k (rule leaves)))
+    let untyped = is_untyped static (declared_type (structs_of b.scope.entries) sizes whole) in
+    counts_then (initial_typed b untyped l init) (λ leaves. and_then (finish k (rule leaves)) (λ x. Good (local_by name k x) [])) (maybe_initialiser_nodes init) 1 (maybe_initialiser_nodes init + 1) refl
+    (initial_count b untyped l init) (λ leaves. counts_mapped (λ x. local_by name k x) (counts_own k (rule leaves)))
 
 local_count : (b : Body) (static : Bool) (t : TypeTree) (d : DeclrTree) → has_arrays d ≡ true → Counts (local_declared b static t d) (declarator_nodes d)
 local_count b static t (s.declarator node count at (s.arrays ds) init) arrays =
@@ -205,6 +206,34 @@ own_counted structs (Some n) [] whole x e object = own_as structs [] whole x e o
 own_counted structs (Some n) (Sized c ∷ sizes) whole x e object = own_as structs (Sized c ∷ sizes) whole x e object
 own_counted structs (Some n) (Open ∷ sizes) whole x e object = own_open structs n (has_open sizes || not (is_complete structs whole)) (nested structs sizes whole) x e
 
+-- its array parts make a type also where nothing is counted, so its initialiser is typed
+open_made : (n : ℕ) (structs : Structs) (lacks : Bool) (inner : Option TypeTree) (x : Fact) → (if lacks then Breaks 4 else declared_as (around structs (Sized (Number (pos n))) inner)) ≡ Fits x
+    → is_refused (if lacks then Breaks 4 else declared_as (around structs Open inner)) ≡ false
+open_made n structs true inner x e = absurd (not_broken 4 x e)
+open_made n structs false None x e = absurd (not_broken 5 x e)
+open_made n structs false (Some t) x e = refl
+
+own_made : (structs : Structs) (c : Option ℕ) (sizes : List Size) (whole : TypeTree) (x : Fact) → declared_type structs (counted_sizes c sizes) whole ≡ Fits x → is_refused (declared_type structs sizes whole) ≡ false
+own_made structs None sizes whole x e = ap is_refused e
+own_made structs (Some n) [] whole x e = ap is_refused e
+own_made structs (Some n) (Sized c ∷ sizes) whole x e = ap is_refused e
+own_made structs (Some n) (Open ∷ sizes) whole x e = open_made n structs (has_open sizes || not (is_complete structs whole)) (nested structs sizes whole) x e
+
+or_false : (b c : Bool) → c ≡ false → (b || c) ≡ b
+or_false true c e = refl
+or_false false c e = e
+
+-- the initialiser of an accepted local isn't typed where it is `static` alone
+pub typed_unless_static : (static : Bool) (made : Ruled) → is_refused made ≡ false → is_untyped static made ≡ static
+typed_unless_static static made e = or_false static (is_refused made) e
+
+pub accepted_made : (bytes : List ℕ) (structs : Structs) (twice static : Bool) (init : MaybeInitTree) (whole : TypeTree) (sizes : List Size) (leaves : Leaves) (x : Fact) → declared_rule bytes structs twice static init whole sizes leaves ≡ Fits x
+    → is_refused (declared_type structs sizes whole) ≡ false
+accepted_made bytes structs twice static init whole sizes leaves x e =
+    let counts = given_count bytes (are_scalars sizes whole) init in
+    let f = local_at structs twice (lacks_size counts sizes) static init leaves (declared_type structs (counted_sizes counts sizes) whole) x e in
+    own_made structs counts sizes whole x f.is
+
 -- ---- what is known of a local's declarator
 
 -- the locals that it brings into force are declared, and its evaluated nodes are as they are asked
@@ -247,12 +276,14 @@ sized_known w static node count at ds init n ls a whole sizes new ts declared eq
     let l = own_local structs name node.number whole sizes in
     let counts = given_count w.bytes (are_scalars sizes whole) init in
     let rule : Leaves → Ruled = λ leaves. declared_rule w.bytes structs (is_in_block b name) static init whole sizes leaves in
-    let o = steps (initial_typed b static l init) (λ leaves. and_then (finish node.number (rule leaves)) (λ x. Good (local_by name node.number x) [])) new ts eq in
+    let untyped = is_untyped static (declared_type structs sizes whole) in
+    let o = steps (initial_typed b untyped l init) (λ leaves. and_then (finish node.number (rule leaves)) (λ x. Good (local_by name node.number x) [])) new ts eq in
     let m = mapped (finish node.number (rule o.value)) (λ x. local_by name node.number x) new o.rest o.then in
     let x = m.value in
     let own = finished node.number (rule o.value) x o.rest m.gives in
     let f = local_at structs (is_in_block b name) (lacks_size counts sizes) static init o.value (declared_type structs (counted_sizes counts sizes) whole) x own.rule in
-    let stand_b = rest_stands w.facts n (maybe_initialiser_nodes init) ts o.first o.rest o.all ((initial_count b static l init).by o.value o.first o.gives) stand in
+    let stand_b = rest_stands w.facts n (maybe_initialiser_nodes init) ts o.first o.rest o.all ((initial_count b untyped l init).by o.value o.first o.gives) stand in
+    let gives = subst (λ (z : Bool). initial_typed b z l init ≡ Good o.value o.first) (typed_unless_static static (declared_type structs sizes whole) (own_made structs counts sizes whole x f.is)) o.gives in
     let place : n + maybe_initialiser_nodes init ≡ n + maybe_initialiser_nodes init + 0 = omega arith in
     let here : fact_at w.facts node.number ≡ x = ap (fact_at w.facts) (number ∙ place) ∙ last_stands w.facts (n + maybe_initialiser_nodes init) 0 o.rest [] x own.all (ap length own.all) stand_b in
     let type : (typing w).type_at node.number ≡ x.ty = ap (λ (z : Fact). z.ty) here in
@@ -267,7 +298,7 @@ sized_known w static node count at ds init n ls a whole sizes new ts declared eq
       visits = (
         dimensions_each (RawVisit (ground_of w)) (typing w) ds,
         (
-          initial_known w static init l n ls a o.value x.ty o.first declared self o.gives (first_stands w.facts n ts o.first o.rest o.all stand) from (part_left (initial_visits (typing w) static init) (one_visit (at_declarator node.number static (Some at) init)) rest) f.initial,
+          initial_known w static init l n ls a o.value x.ty o.first declared self gives (first_stands w.facts n ts o.first o.rest o.all stand) from (part_left (initial_visits (typing w) static init) (one_visit (at_declarator node.number static (Some at) init)) rest) f.initial,
           own_known (typing w) node.number static at init o.value x type f.initial,
         ),
       );

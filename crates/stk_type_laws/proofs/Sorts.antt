@@ -24,7 +24,7 @@ use Rattle.stk_compatible.specs.Making.{made}
 use Rattle.stk_compatible.proofs.Made.{shown}
 use Rattle.stk_declare.specs.declared.symbols.SymbolSort.{SymbolSort}
 use Rattle.stk_declare.specs.declared.symbols.SymbolSort.TheVariants as sort
-use Rattle.stk_declare.specs.Symbols.{sort_by_type, sort_by_tail, sort_of, clashes, agreement, may_be_object, may_be, may_begin, agreed_rule, made_rule, declarator_rule, size_first, was_marked, signature_in, function_meaning, meaning, holding, says_more, added}
+use Rattle.stk_declare.specs.Symbols.{agreement_first, is_begun, sort_by_type, sort_by_tail, sort_of, clashes, agreement, may_be_object, may_be, may_begin, agreed_rule, made_rule, declarator_rule, size_first, was_marked, signature_in, function_meaning, meaning, holding, says_more, added}
 use Rattle.stk_type_laws.specs.Orderly.{is_object_type, HasObjectType, HaveObjectTypes}
 
 -- ---- rules that fit
@@ -111,20 +111,21 @@ no_parts : (structs : Structs) (c : Option ℕ) (t : TypeTree) (y : Fact) → de
 no_parts structs None t y e = ap (λ (z : Fact). z.ty) (same_fact (declares t) y e)
 no_parts structs (Some n) t y e = ap (λ (z : Fact). z.ty) (same_fact (declares t) y e)
 
-no_void : (structs : Structs) (word : Option Storage) → may_be_object structs word void_type ≡ true → ⊥
-no_void structs None e = absurd cc
-no_void structs (Some storage.Typedef) e = absurd cc
-no_void structs (Some storage.Extern) e = absurd cc
-no_void structs (Some storage.Static) e = absurd cc
+no_void : (structs : Structs) (word : Option Storage) (begun : Bool) → may_be_object structs word begun void_type ≡ true → ⊥
+no_void structs None begun e = absurd cc
+no_void structs (Some storage.Typedef) begun e = absurd cc
+no_void structs (Some storage.Extern) true e = absurd cc
+no_void structs (Some storage.Extern) false e = absurd cc
+no_void structs (Some storage.Static) begun e = absurd cc
 
 -- the type alone decides
-type_suits : (structs : Structs) (word : Option Storage) (t : TypeTree) → may_be structs word (sort_by_type t) t ≡ true → SuitsSort (sort_by_type t) t
-type_suits structs word void_type e = absurd (no_void structs word e)
-type_suits structs word (integer_type k) e = refl
-type_suits structs word (pointer_type t) e = refl
-type_suits structs word (array_type t count) e = refl
-type_suits structs word (struct_type id) e = refl
-type_suits structs word (function_type f) e = refl
+type_suits : (structs : Structs) (word : Option Storage) (begun : Bool) (t : TypeTree) → may_be structs word (sort_by_type t) begun t ≡ true → SuitsSort (sort_by_type t) t
+type_suits structs word begun void_type e = absurd (no_void structs word begun e)
+type_suits structs word begun (integer_type k) e = refl
+type_suits structs word begun (pointer_type t) e = refl
+type_suits structs word begun (array_type t count) e = refl
+type_suits structs word begun (struct_type id) e = refl
+type_suits structs word begun (function_type f) e = refl
 
 function_suits : (structs : Structs) (defines : Bool) (t : TypeTree) (ps : List Parameter) (more : Bool) (y : Fact) → function_rule structs defines t ps more ≡ Fits y → is_function y.ty ≡ true
 function_suits structs defines t ps more y e =
@@ -132,47 +133,47 @@ function_suits structs defines t ps more y e =
     let p = passed (defines && have_unnamed ps) (Fits (declares (function_of t ps more))) 15 y h.rule in
     ap (λ (z : Fact). is_function z.ty) (sym (same_fact (declares (function_of t ps more)) y p.rule))
 
-tail_suits : (structs : Structs) (word : Option Storage) (defines : Bool) (c : Option ℕ) (t : TypeTree) (shape : TailShape) (y : Fact) → tail_type structs defines c t shape ≡ Fits y → may_be structs word (sort_by_tail shape t) y.ty ≡ true → SuitsSort (sort_by_tail shape t) y.ty
-tail_suits structs word defines c t (of_function ps more) y e may = function_suits structs defines t ps more y e
-tail_suits structs word defines c t (of_arrays (size ∷ sizes)) y e may = counted_object structs c size sizes t y e
-tail_suits structs word defines c t (of_arrays []) y e may =
+tail_suits : (structs : Structs) (word : Option Storage) (begun defines : Bool) (c : Option ℕ) (t : TypeTree) (shape : TailShape) (y : Fact) → tail_type structs defines c t shape ≡ Fits y → may_be structs word (sort_by_tail shape t) begun y.ty ≡ true → SuitsSort (sort_by_tail shape t) y.ty
+tail_suits structs word begun defines c t (of_function ps more) y e may = function_suits structs defines t ps more y e
+tail_suits structs word begun defines c t (of_arrays (size ∷ sizes)) y e may = counted_object structs c size sizes t y e
+tail_suits structs word begun defines c t (of_arrays []) y e may =
     let same = no_parts structs c t y e in
-    subst (λ z. SuitsSort (sort_by_type t) z) same (type_suits structs word t (subst (λ z. may_be structs word (sort_by_type t) z ≡ true) (sym same) may))
+    subst (λ z. SuitsSort (sort_by_type t) z) same (type_suits structs word begun t (subst (λ z. may_be structs word (sort_by_type t) begun z ≡ true) (sym same) may))
 
-sort_suits : (structs : Structs) (word : Option Storage) (defines : Bool) (c : Option ℕ) (t : TypeTree) (shape : TailShape) (y : Fact) → tail_type structs defines c t shape ≡ Fits y → may_be structs word (sort_of word shape t) y.ty ≡ true → SuitsSort (sort_of word shape t) y.ty
-sort_suits structs None defines c t shape y e may = tail_suits structs None defines c t shape y e may
-sort_suits structs (Some storage.Typedef) defines c t shape y e may = tt
-sort_suits structs (Some storage.Extern) defines c t shape y e may = tail_suits structs (Some storage.Extern) defines c t shape y e may
-sort_suits structs (Some storage.Static) defines c t shape y e may = tail_suits structs (Some storage.Static) defines c t shape y e may
+sort_suits : (structs : Structs) (word : Option Storage) (begun defines : Bool) (c : Option ℕ) (t : TypeTree) (shape : TailShape) (y : Fact) → tail_type structs defines c t shape ≡ Fits y → may_be structs word (sort_of word shape t) begun y.ty ≡ true → SuitsSort (sort_of word shape t) y.ty
+sort_suits structs None begun defines c t shape y e may = tail_suits structs None begun defines c t shape y e may
+sort_suits structs (Some storage.Typedef) begun defines c t shape y e may = tt
+sort_suits structs (Some storage.Extern) begun defines c t shape y e may = tail_suits structs (Some storage.Extern) begun defines c t shape y e may
+sort_suits structs (Some storage.Static) begun defines c t shape y e may = tail_suits structs (Some storage.Static) begun defines c t shape y e may
 
 -- ---- a declarator that fits
 
-record Fitting (structs : Structs) (word : Option Storage) (what : SymbolSort) (earlier : Option Symbol) (makes : Ruled) (x : Fact) : Type 0 where
+record Fitting (structs : Structs) (word : Option Storage) (what : SymbolSort) (earlier : Option Symbol) (begun : Bool) (makes : Ruled) (x : Fact) : Type 0 where
   clear : clashes earlier what ≡ false
   own : Fact
   is : makes ≡ Fits own
   type : own.ty ≡ x.ty
-  may : may_be structs word what own.ty ≡ true
+  may : may_be structs word what begun own.ty ≡ true
 
-allowed : (structs : Structs) (word : Option Storage) (what : SymbolSort) (i : MaybeInitTree) (t : TypeTree) (x : Fact) → (if may_be structs word what t then (if may_begin what t i then Fits (declares t) else Breaks 16) else Breaks 4) ≡ Fits x
-    → (may_be structs word what t ≡ true) × (t ≡ x.ty)
+allowed : (structs : Structs) (word : Option Storage) (what : SymbolSort) (i : MaybeInitTree) (t : TypeTree) (x : Fact) → (if may_be structs word what (is_begun i) t then (if may_begin what t i then Fits (declares t) else Breaks 16) else Breaks 4) ≡ Fits x
+    → (may_be structs word what (is_begun i) t ≡ true) × (t ≡ x.ty)
 allowed structs word what i t x e =
-    let h = held (may_be structs word what t) (if may_begin what t i then Fits (declares t) else Breaks 16) 4 x e in
+    let h = held (may_be structs word what (is_begun i) t) (if may_begin what t i then Fits (declares t) else Breaks 16) 4 x e in
     let g = held (may_begin what t i) (Fits (declares t)) 16 x h.rule in
     (h.test, ap (λ (z : Fact). z.ty) (same_fact (declares t) x g.rule))
 
-agreed_at : (structs : Structs) (word : Option Storage) (what : SymbolSort) (i : MaybeInitTree) (t : TypeTree) (a : Agreement) (x : Fact) → agreed_rule structs word what i t a ≡ Fits x → (may_be structs word what t ≡ true) × (t ≡ x.ty)
+agreed_at : (structs : Structs) (word : Option Storage) (what : SymbolSort) (i : MaybeInitTree) (t : TypeTree) (a : Agreement) (x : Fact) → agreed_rule structs word what i t a ≡ Fits x → (may_be structs word what (is_begun i) t ≡ true) × (t ≡ x.ty)
 agreed_at structs word what i t Differ x e = absurd (not_broken 3 x e)
 agreed_at structs word what i t Old x e = allowed structs word what i t x e
 agreed_at structs word what i t New x e = allowed structs word what i t x e
 
-made_at : (structs : Structs) (word : Option Storage) (what : SymbolSort) (earlier : Option Symbol) (i : MaybeInitTree) (makes : Ruled) (x : Fact) → clashes earlier what ≡ false → made_rule structs word what earlier i makes ≡ Fits x → Fitting structs word what earlier makes x
+made_at : (structs : Structs) (word : Option Storage) (what : SymbolSort) (earlier : Option Symbol) (i : MaybeInitTree) (makes : Ruled) (x : Fact) → clashes earlier what ≡ false → made_rule structs word what earlier i makes ≡ Fits x → Fitting structs word what earlier (is_begun i) makes x
 made_at structs word what earlier i (Breaks n) x clear e = absurd (not_broken n x e)
 made_at structs word what earlier i (Fits y) x clear e =
     let a = agreed_at structs word what i y.ty (agreement earlier y.ty) x e in
     record { clear = clear; own = y; is = refl; type = a.1; may = a.0 }
 
-fitting_at : (structs : Structs) (word : Option Storage) (what : SymbolSort) (earlier : Option Symbol) (i : MaybeInitTree) (makes : Ruled) (x : Fact) → declarator_rule structs word what earlier i makes ≡ Fits x → Fitting structs word what earlier makes x
+fitting_at : (structs : Structs) (word : Option Storage) (what : SymbolSort) (earlier : Option Symbol) (i : MaybeInitTree) (makes : Ruled) (x : Fact) → declarator_rule structs word what earlier i makes ≡ Fits x → Fitting structs word what earlier (is_begun i) makes x
 fitting_at structs word what earlier i makes x e =
     let p = passed (clashes earlier what) (made_rule structs word what earlier i makes) 3 x e in
     made_at structs word what earlier i makes x p.test p.rule
@@ -180,6 +181,10 @@ fitting_at structs word what earlier i makes x e =
 size_passed : (lacking : Bool) (r : Ruled) (y : Fact) → size_first lacking r ≡ Fits y → r ≡ Fits y
 size_passed lacking (Breaks n) y e = absurd (not_broken (if lacking then 4 else n) y e)
 size_passed lacking (Fits x) y e = e
+
+agreement_passed : (differs : Bool) (r : Ruled) (y : Fact) → agreement_first differs r ≡ Fits y → r ≡ Fits y
+agreement_passed differs (Breaks n) y e = absurd (not_broken (if differs then 3 else n) y e)
+agreement_passed differs (Fits x) y e = e
 
 -- ---- what is added
 
@@ -224,13 +229,13 @@ added_if true name x h = (h, tt)
 added_if false name x h = tt
 
 -- the entry that a declarator adds
-pub added_objects : (structs : Structs) (word : Option Storage) (defines lacking mark : Bool) (c : Option ℕ) (t : TypeTree) (shape : TailShape) (name : List ℕ) (earlier : Option Symbol) (i : MaybeInitTree) (x : Fact) → HasEarlier earlier
-    → declarator_rule structs word (sort_of word shape t) earlier i (size_first lacking (tail_type structs defines c t shape)) ≡ Fits x → HaveObjectTypes (added name (sort_of word shape t) mark earlier x.ty)
-added_objects structs word defines lacking mark c t shape name earlier i x has e =
+pub added_objects : (structs : Structs) (word : Option Storage) (defines differs lacking mark : Bool) (c : Option ℕ) (t : TypeTree) (shape : TailShape) (name : List ℕ) (earlier : Option Symbol) (i : MaybeInitTree) (x : Fact) → HasEarlier earlier
+    → declarator_rule structs word (sort_of word shape t) earlier i (agreement_first differs (size_first lacking (tail_type structs defines c t shape))) ≡ Fits x → HaveObjectTypes (added name (sort_of word shape t) mark earlier x.ty)
+added_objects structs word defines differs lacking mark c t shape name earlier i x has e =
     let what = sort_of word shape t in
-    let f = fitting_at structs word what earlier i (size_first lacking (tail_type structs defines c t shape)) x e in
-    let own = size_passed lacking (tail_type structs defines c t shape) f.own f.is in
-    let suits : SuitsSort what x.ty = subst (SuitsSort what) f.type (sort_suits structs word defines c t shape f.own own f.may) in
+    let f = fitting_at structs word what earlier i (agreement_first differs (size_first lacking (tail_type structs defines c t shape))) x e in
+    let own = size_passed lacking (tail_type structs defines c t shape) f.own (agreement_passed differs (size_first lacking (tail_type structs defines c t shape)) f.own f.is) in
+    let suits : SuitsSort what x.ty = subst (SuitsSort what) f.type (sort_suits structs word (is_begun i) defines c t shape f.own own f.may) in
     let holds = holds_suits what earlier x.ty (agreement earlier x.ty) has f.clear suits in
     added_if (says_more (was_marked earlier) mark (agreement earlier x.ty)) name (meaning what (mark || was_marked earlier) (holding earlier x.ty (agreement earlier x.ty)))
     (meaning_has what (mark || was_marked earlier) (holding earlier x.ty (agreement earlier x.ty)) holds)

@@ -13,7 +13,7 @@ use Rattle.stk_typing.specs.declared.arrays.Size.TheVariants.{Open, Sized}
 use Rattle.stk_typing.specs.Scope.{Scope, unevaluated, callee_rule, signature_named}
 use Rattle.stk_typing.specs.Arrays.{starred, sized_type}
 use Rattle.stk_typing.specs.Forms.{structs_in}
-use Rattle.stk_typing.specs.Calls.{no_argument, with_argument, call_rule, name_in, callee_by}
+use Rattle.stk_typing.specs.Calls.{call_rule, name_in, callee_by}
 use Rattle.stk_typing.specs.Typing.{base_typed, expression_typed, form_typed, callee_typed, arguments_typed, type_name_typed, dimension_typed, dimensions_typed}
 use Rattle.stk_type_laws.proofs.Stretches.{Counts, counts_own, counts_given, counts_refused, counts_one, counts_two, counts_three, counts_mapped, counts_joined, Ends, ends_own, ends_one, ends_two, ends_three}
 
@@ -102,8 +102,8 @@ mutual
   called_count (s.expression node f) scope = callee_count f node.number scope (form_count f node.number scope)
 
   pub arguments_count : (es : ExprTrees) (scope : Scope) → Counts (arguments_typed scope es) (expressions_nodes es)
-  arguments_count s.no_expressions scope = counts_given no_argument [] 0 refl
-  arguments_count (s.then_expression e es) scope = counts_joined with_argument (expression_count e scope) (arguments_count es scope)
+  arguments_count s.no_expressions scope = counts_given [] [] 0 refl
+  arguments_count (s.then_expression e es) scope = counts_joined (λ (x : Fact) (xs : List Fact). x ∷ xs) (expression_count e scope) (arguments_count es scope)
 
   pub type_name_count : (x : TypeNameTree) (scope : Scope) → Counts (type_name_typed scope x) (type_name_nodes x)
   type_name_count (s.type_name node b count ds) scope =

@@ -1,7 +1,7 @@
 -- How the answers of parts make the answer of the whole: three operands, calls, and one turn of a loop.
-use Rattle.std.proofs.Common.{ℕ, suc, ◌≡◌, ◌+◌, ◌<◌, ◌≤◌, Bool, true, false, ◌||◌, List, [], ◌∷◌, ◌++◌, length, drop, get_or, refl, sym, ap, subst, ◌∙◌, Result, Ok, Err, Option, Bor, Vec, Global, not, ◌&&◌, append_assoc, length-append, add-one, drop-cons, arith}
+use Rattle.std.proofs.Common.{ℕ, suc, ◌≡◌, ◌+◌, ◌<◌, ◌≤◌, Bool, true, false, ◌||◌, List, [], ◌∷◌, ◌++◌, length, drop, get_or, refl, sym, ap, subst, ◌∙◌, Result, Ok, Err, Option, Bor, Vec, Global, append_assoc, length-append, add-one, drop-cons, arith}
 use Rattle.std.specs.Option.{option_map, option_copied}
-use Rattle.stk_ctype.specs.Types.{SignatureTree, signature_of}
+use Rattle.stk_ctype.specs.Types.{SignatureTree, TypeTrees, signature_of}
 use Rattle.stk_ctype.specs.declared.ctype.Signature.{Signature}
 use Rattle.stk_tree.specs.Syntax.{ExprTree, ExprTrees, then_expression, DimensionTree, DimensionTrees, then_dimension}
 use Rattle.stk_type_rules.specs.declared.untyped.Untyped.{Untyped}
@@ -9,11 +9,11 @@ use Rattle.stk_type_rules.specs.declared.untyped.Untyped.TheVariants.{Rule, NoMe
 use Rattle.stk_type_rules.specs.Facts.{Fact, fact_at, Ruled}
 use Rattle.stk_type_rules.specs.Outcome.{Outcome, Good, Refused, and_then, finish, IsAt, Gives}
 use Rattle.stk_type_rules.proofs.Steps.{goes, stops, stays, two, second_stops}
-use Rattle.stk_type_rules.specs.Types.{decayed, is_scalar, is_struct}
+use Rattle.stk_type_rules.specs.Types.{is_struct}
 use Rattle.stk_typing.specs.declared.arrays.Size.{Size}
 use Rattle.stk_typing.specs.Scope.{Scope}
 use Rattle.stk_typing.specs.declared.calls.Arguments.{Arguments}
-use Rattle.stk_typing.specs.Calls.{no_argument, with_argument, behind, call_rule}
+use Rattle.stk_typing.specs.Calls.{AreArguments, begin_with_struct, behind_first, call_rule, have_misfit, have_struct, misfits, parameters_in, with_behind}
 use Rattle.stk_typing.specs.Typing.{expression_typed, arguments_typed, dimension_typed, dimensions_typed}
 
 -- ---- three operands
@@ -70,59 +70,62 @@ weaker P Q (Refused n r) (Err NoMemory) a b k h = tt
 abbrev pub IsSignature : Option SignatureTree → Option (Bor Signature) → Type 0
 IsSignature f r = option_map signature_of (option_copied r) ≡ f
 
-abbrev pub AreArguments : Arguments → Arguments → Type 0
-AreArguments a r = r ≡ a
+pub call_gives : (o : Outcome (Option SignatureTree)) (p : Outcome (List Fact)) (k : ℕ) (v : Option (Bor Signature)) (ts : TypeTrees) (w : Arguments) (result : Result ℕ Untyped) (a b c d : List Fact) →
+    Gives IsSignature o (Ok v) a b → ts ≡ parameters_in (option_map signature_of (option_copied v)) → Gives (AreArguments ts) p (Ok w) b c →
+    ((xs : List Fact) → AreArguments (parameters_in (option_map signature_of (option_copied v))) xs w → Gives (IsAt d) (finish k (call_rule (option_map signature_of (option_copied v)) xs)) result c d) →
+    Gives (IsAt d) (and_then o (λ f. and_then p (λ xs. finish k (call_rule f xs)))) result a d
+call_gives o p k v ts w result a b c d h same g r =
+    goes IsSignature (IsAt d) o (λ f. and_then p (λ xs. finish k (call_rule f xs))) v result a b d h
+    (λ f is. goes (AreArguments ts) (IsAt d) p (λ xs. finish k (call_rule f xs)) w result b c d g
+    (λ xs are. subst (λ (z : Option SignatureTree). Gives (IsAt d) (finish k (call_rule z xs)) result c d) is
+    (r xs (subst (λ (z : TypeTrees). AreArguments z xs w) same are))))
 
-pub call_gives : (o : Outcome (Option SignatureTree)) (p : Outcome Arguments) (k : ℕ) (v : Option (Bor Signature)) (w : Arguments) (result : Result ℕ Untyped) (a b c d : List Fact) →
-    Gives IsSignature o (Ok v) a b → Gives AreArguments p (Ok w) b c → Gives (IsAt d) (finish k (call_rule (option_map signature_of (option_copied v)) w)) result c d →
-    Gives (IsAt d) (and_then o (λ f. and_then p (λ x. finish k (call_rule f x)))) result a d
-call_gives o p k v w result a b c d h g r =
-    goes IsSignature (IsAt d) o (λ f. and_then p (λ x. finish k (call_rule f x))) v result a b d h
-    (λ f is. goes AreArguments (IsAt d) p (λ x. finish k (call_rule f x)) w result b c d g
-    (λ x are. subst (λ (z : Option SignatureTree). Gives (IsAt d) (finish k (call_rule z x)) result c d) is
-    (subst (λ (z : Arguments). Gives (IsAt d) (finish k (call_rule (option_map signature_of (option_copied v)) z)) result c d) are r)))
-
-pub arguments_stop : (o : Outcome (Option SignatureTree)) (p : Outcome Arguments) (f : Option SignatureTree → Arguments → Outcome Fact) (v : Option (Bor Signature)) (e : Untyped) (a b c d : List Fact) →
-    Gives IsSignature o (Ok v) a b → Gives AreArguments p (Err e) b c → Gives (IsAt d) (and_then o (λ x. and_then p (λ y. f x y))) (Err e) a d
-arguments_stop o p f v e a b c d h g = goes IsSignature (IsAt d) o (λ x. and_then p (λ y. f x y)) v (Err e) a b d h (λ x is. stops AreArguments (IsAt d) p (λ y. f x y) e b c b d g)
+pub arguments_stop : (o : Outcome (Option SignatureTree)) (p : Outcome (List Fact)) (f : Option SignatureTree → List Fact → Outcome Fact) (v : Option (Bor Signature)) (ts : TypeTrees) (e : Untyped) (a b c d : List Fact) →
+    Gives IsSignature o (Ok v) a b → Gives (AreArguments ts) p (Err e) b c → Gives (IsAt d) (and_then o (λ x. and_then p (λ y. f x y))) (Err e) a d
+arguments_stop o p f v ts e a b c d h g = goes IsSignature (IsAt d) o (λ x. and_then p (λ y. f x y)) v (Err e) a b d h (λ x is. stops (AreArguments ts) (IsAt d) p (λ y. f x y) e b c b d g)
 
 -- ---- arguments, one after the other
-
--- arguments, and others behind them
-abbrev pub merged : Arguments → Arguments → Arguments
-merged a b = record { count = a.count + b.count; has_other = a.has_other || b.has_other; has_struct = a.has_struct || b.has_struct }
-
-or_false : (p : Bool) → (p || false) ≡ p
-or_false true = refl
-or_false false = refl
 
 or_assoc : (p q r : Bool) → ((p || q) || r) ≡ (p || (q || r))
 or_assoc true q r = refl
 or_assoc false q r = refl
 
-pub none_merged : (a : Arguments) → merged no_argument a ≡ a
-none_merged a = let c : 0 + a.count ≡ a.count = omega arith in λ j. record { count = c j; has_other = a.has_other; has_struct = a.has_struct }
+or_false : (p : Bool) → (p || false) ≡ p
+or_false true = refl
+or_false false = refl
 
-pub merged_none : (a : Arguments) → merged a no_argument ≡ a
-merged_none a =
-    let c : a.count + 0 ≡ a.count = omega arith in
-    λ j. record { count = c j; has_other = or_false a.has_other j; has_struct = or_false a.has_struct j }
+-- what is known of arguments behind these ones, for what is left of the parameters
+pub record AreBehind (params : TypeTrees) (acc : Arguments) (xs : List Fact) (a : Arguments) : Type 0 where
+  pub count : a.count ≡ acc.count + length xs
+  pub misfit : a.has_misfit ≡ (acc.has_misfit || have_misfit params xs)
+  pub struct : a.has_struct ≡ (acc.has_struct || have_struct xs)
 
-merged_turn : (acc a : Arguments) (x : Fact) → merged (behind acc x) a ≡ merged acc (with_argument x a)
-merged_turn acc a x =
-    let c : acc.count + 1 + a.count ≡ acc.count + (a.count + 1) = omega arith in
-    λ j. record { count = c j; has_other = or_assoc acc.has_other (not (is_scalar (decayed x.ty)) && not (is_struct x.ty)) a.has_other j; has_struct = or_assoc acc.has_struct (is_struct x.ty) a.has_struct j }
+-- none behind them
+pub none_behind : (params : TypeTrees) (acc : Arguments) → AreBehind params acc [] acc
+none_behind params acc = record { count = omega arith; misfit = sym (or_false acc.has_misfit); struct = sym (or_false acc.has_struct) }
 
-abbrev pub Merges : Arguments → Arguments → Arguments → Type 0
-Merges acc a r = r ≡ merged acc a
+-- all of them, from none on
+pub all_behind : (params : TypeTrees) (none : Arguments) (xs : List Fact) (a : Arguments) → AreArguments params [] none → AreBehind params none xs a → AreArguments params xs a
+all_behind params none xs a n b = record {
+  count = let c : none.count ≡ 0 = n.count in let d : a.count ≡ none.count + length xs = b.count in omega arith;
+  misfit = b.misfit ∙ ap (λ (z : Bool). z || have_misfit params xs) n.misfit;
+  struct = b.struct ∙ ap (λ (z : Bool). z || have_struct xs) n.struct;
+}
 
-pub arguments_turn : (scope : Scope) (acc next : Arguments) (e : ExprTree) (es : ExprTrees) (i : ℕ) (result : Result Arguments Untyped) (a b c : List Fact) →
-    Gives (IsAt b) (expression_typed scope e) (Ok i) a b → next ≡ behind acc (fact_at b i) → Gives (Merges next) (arguments_typed scope es) result b c →
-    Gives (Merges acc) (arguments_typed scope (then_expression e es)) result a c
-arguments_turn scope acc next e es i result a b c h is g =
-    goes (IsAt b) (Merges acc) (expression_typed scope e) (λ x. and_then (arguments_typed scope es) (λ y. Good (with_argument x y) [])) i result a b c h
-    (λ x at. mapped (Merges next) (Merges acc) (arguments_typed scope es) (with_argument x) result b c
-    (λ y r m. m ∙ ap (λ (z : Arguments). merged z y) (is ∙ ap (behind acc) at.is) ∙ merged_turn acc y x) g)
+behind_turn : (params : TypeTrees) (acc : Arguments) (x : Fact) (xs : List Fact) (a : Arguments) → AreBehind (behind_first params) (with_behind (begin_with_struct params) acc x) xs a → AreBehind params acc (x ∷ xs) a
+behind_turn params acc x xs a b = record {
+  count = let c : a.count ≡ acc.count + 1 + length xs = b.count in omega arith;
+  misfit = b.misfit ∙ or_assoc acc.has_misfit (misfits (begin_with_struct params) x) (have_misfit (behind_first params) xs);
+  struct = b.struct ∙ or_assoc acc.has_struct (is_struct x.ty) (have_struct xs);
+}
+
+pub arguments_turn : (scope : Scope) (params : TypeTrees) (acc next : Arguments) (e : ExprTree) (es : ExprTrees) (i : ℕ) (result : Result Arguments Untyped) (a b c : List Fact) →
+    Gives (IsAt b) (expression_typed scope e) (Ok i) a b → next ≡ with_behind (begin_with_struct params) acc (fact_at b i) → Gives (AreBehind (behind_first params) next) (arguments_typed scope es) result b c →
+    Gives (AreBehind params acc) (arguments_typed scope (then_expression e es)) result a c
+arguments_turn scope params acc next e es i result a b c h is g =
+    goes (IsAt b) (AreBehind params acc) (expression_typed scope e) (λ x. and_then (arguments_typed scope es) (λ xs. Good (x ∷ xs) [])) i result a b c h
+    (λ x at. mapped (AreBehind (behind_first params) next) (AreBehind params acc) (arguments_typed scope es) (λ xs. x ∷ xs) result b c
+    (λ xs r m. behind_turn params acc x xs r (subst (λ (z : Arguments). AreBehind (behind_first params) z xs r) (is ∙ ap (with_behind (begin_with_struct params) acc) at.is) m)) g)
 
 -- ---- array parts, one after the other
 

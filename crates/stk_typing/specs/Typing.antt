@@ -13,8 +13,7 @@ use Rattle.stk_typing.specs.Scope.{Scope, unevaluated, name_rule}
 use Rattle.stk_typing.specs.Literals.{number_rule, character_rule, text_rule}
 use Rattle.stk_typing.specs.Bases.{base_rule}
 use Rattle.stk_typing.specs.Arrays.{starred, sized_type}
-use Rattle.stk_typing.specs.declared.calls.Arguments.{Arguments}
-use Rattle.stk_typing.specs.Calls.{no_argument, with_argument, call_rule, name_in, callee_by}
+use Rattle.stk_typing.specs.Calls.{call_rule, name_in, callee_by}
 use Rattle.stk_typing.specs.Forms.{structs_in}
 use Rattle.stk_ctype.specs.Types.{SignatureTree}
 use Rattle.std.specs.Prelude.{Option}
@@ -36,7 +35,7 @@ abbrev mutual
   form_typed scope k (s.text parts) = finish k (text_rule scope.bytes parts)
   form_typed scope k (s.paren e) = and_then (expression_typed scope e) (λ x. finish k (paren_rule x))
   form_typed scope k (s.index a b) = and_then (expression_typed scope a) (λ x. and_then (expression_typed scope b) (λ y. finish k (index_rule (structs_in scope) x y)))
-  form_typed scope k (s.call f args) = and_then (callee_typed scope f) (λ c. and_then (arguments_typed scope args) (λ a. finish k (call_rule c a)))
+  form_typed scope k (s.call f args) = and_then (callee_typed scope f) (λ c. and_then (arguments_typed scope args) (λ xs. finish k (call_rule c xs)))
   form_typed scope k (s.dot e at) = and_then (expression_typed scope e) (λ x. finish k (dot_rule (structs_in scope) x (text_of scope.bytes at)))
   form_typed scope k (s.arrow e at) = and_then (expression_typed scope e) (λ x. finish k (arrow_rule (structs_in scope) x (text_of scope.bytes at)))
   form_typed scope k (s.step op e) = and_then (expression_typed scope e) (λ x. finish k (step_rule (structs_in scope) x))
@@ -53,9 +52,9 @@ abbrev mutual
   callee_typed scope (s.expression n f) = callee_by scope n.number (name_in f) (form_typed scope n.number f)
 
   -- arguments, the first one first
-  pub arguments_typed : Scope → ExprTrees → Outcome Arguments
-  arguments_typed scope s.no_expressions = Good no_argument []
-  arguments_typed scope (s.then_expression e es) = and_then (expression_typed scope e) (λ x. and_then (arguments_typed scope es) (λ a. Good (with_argument x a) []))
+  pub arguments_typed : Scope → ExprTrees → Outcome (List Fact)
+  arguments_typed scope s.no_expressions = Good [] []
+  arguments_typed scope (s.then_expression e es) = and_then (expression_typed scope e) (λ x. and_then (arguments_typed scope es) (λ xs. Good (x ∷ xs) []))
 
   -- a type name: its base, its array parts, itself
   pub type_name_typed : Scope → TypeNameTree → Outcome Fact

@@ -2,17 +2,17 @@
 
 ghost use Rattle.std.specs.Prelude.{◌≡◌, map, OnOk, IfOk, IfSome, Option};
 ghost use Rattle.std.specs.Option.{option_map, option_copied};
-ghost use Rattle.stk_ctype.specs.Types.{signature_of};
+ghost use Rattle.stk_ctype.specs.Types.{row_of, signature_of, type_of};
 ghost use Rattle.stk_ctype.specs.Structs.{structs_of};
 ghost use Rattle.stk_ctype.specs.Sound.{IsSoundSignature};
 ghost use Rattle.stk_tree.specs.View.{view_expression, view_type_name, view_base, view_dimension, view_expression_form, expressions, dimensions};
 ghost use Rattle.stk_type_rules.specs.Facts.{AreSoundFacts, fact_of};
 ghost use Rattle.stk_type_rules.specs.Outcome.{Gives, IsAt};
 ghost use Rattle.stk_typing.specs.Scope.{IsSoundScope, scope_of, unevaluated};
-ghost use Rattle.stk_typing.specs.Calls.{name_in};
+ghost use Rattle.stk_typing.specs.Calls.{AreArguments, name_in};
 ghost use Rattle.stk_typing.specs.Typing.{expression_typed, callee_typed, arguments_typed, type_name_typed, dimension_typed, dimensions_typed, base_typed};
 
-use crate::calls::Arguments;
+use crate::calls::{Arguments, begin_with_struct, behind_first, parameters_in};
 use crate::leaves::{
     by_base, by_call, by_callee, by_cast, by_choice, by_leaf, by_pair, by_single, by_size,
     by_type_name, by_type_size,
@@ -20,7 +20,7 @@ use crate::leaves::{
 use crate::scope::signature_of_name;
 use crate::{Scoped, Size};
 use stk_base::Span;
-use stk_ctype::Signature;
+use stk_ctype::{CType, Signature};
 use stk_tree::{Base, Dimension, Expr, ExprForm, TypeName};
 use stk_type_rules::{NodeFact, Untyped, fact};
 
@@ -80,7 +80,7 @@ pub fn expression(s: &Scoped, facts: &mut Vec<NodeFact>, e: &Expr) -> Result<usi
         }
         ExprForm::Call(f, args) => {
             let signature = callee(s, facts, f.get())?;
-            let a = arguments(s, facts, args.as_slice())?;
+            let a = arguments(s, facts, args.as_slice(), parameters_in(signature))?;
             by_call(s, facts, k, signature, a)
         }
     }
@@ -136,18 +136,25 @@ fn callee<'a>(
     }
 }
 
-// What is known of the arguments of a call, typed one after the other.
+// What is known of the arguments of a call for these parameters, typed one after the other.
 #[cycle(expression)]
-fn arguments(s: &Scoped, facts: &mut Vec<NodeFact>, list: &[Expr]) -> Result<Arguments, Untyped>
+fn arguments(
+    s: &Scoped,
+    facts: &mut Vec<NodeFact>,
+    list: &[Expr],
+    params: &[CType],
+) -> Result<Arguments, Untyped>
     requires scope { IsSoundScope (scope_of s.now) }
     requires sound { AreSoundFacts (structs_of s.now.names.now) (map fact_of facts.old.items) }
-    ensures gives { Gives (λ a r. r ≡ a) (arguments_typed (scope_of s.now) (expressions (map view_expression list.now))) result (map fact_of facts.old.items) (map fact_of facts.new.items) }
+    ensures gives { Gives (AreArguments (row_of (map type_of params.now))) (arguments_typed (scope_of s.now) (expressions (map view_expression list.now))) result (map fact_of facts.old.items) (map fact_of facts.new.items) }
     ensures sound { OnOk result (AreSoundFacts (structs_of s.now.names.now) (map fact_of facts.new.items)) }
 {
     let mut all = Arguments::none();
+    let mut left = params;
     for e in list {
         let i = expression(s, facts, e)?;
-        all = all.behind(fact(facts, i));
+        all = all.behind(begin_with_struct(left), fact(facts, i));
+        left = behind_first(left);
     }
     Ok(all)
 }

@@ -1,19 +1,19 @@
 //! The node of each form behind its operands: what its rule makes of the facts of these.
 
-ghost use Rattle.std.specs.Prelude.{◌≡◌, ◌<◌, map, vec_len, IfOk, OnOk, IfSome, Option};
+ghost use Rattle.std.specs.Prelude.{◌≡◌, ◌<◌, map, vec_len, IfOk, OnOk, IfSome, List, Option};
 ghost use Rattle.std.specs.Option.{option_map, option_copied};
 ghost use Rattle.stk_base.specs.Text.{text_of};
 ghost use Rattle.stk_ctype.specs.Types.{type_of, signature_of};
 ghost use Rattle.stk_ctype.specs.Structs.{structs_of};
 ghost use Rattle.stk_ctype.specs.Sound.{IsSound, IsSoundSignature};
 ghost use Rattle.stk_tree.specs.View.{view_expression_form, view_base_form};
-ghost use Rattle.stk_type_rules.specs.Facts.{AreSoundFacts, fact_of, fact_at};
+ghost use Rattle.stk_type_rules.specs.Facts.{AreSoundFacts, Fact, fact_of, fact_at};
 ghost use Rattle.stk_type_rules.specs.Outcome.{Gives, IsAt, MakesFact, finish};
 ghost use Rattle.stk_type_rules.specs.Rules.{size_rule, type_size_rule, cast_rule, choice_rule};
 ghost use Rattle.stk_typing.specs.Scope.{IsSoundScope, scope_of, callee_rule};
 ghost use Rattle.stk_typing.specs.Bases.{base_rule};
 ghost use Rattle.stk_typing.specs.Arrays.{starred, sized_type};
-ghost use Rattle.stk_typing.specs.Calls.{call_rule};
+ghost use Rattle.stk_typing.specs.Calls.{AreArguments, call_rule, parameters_in};
 ghost use Rattle.stk_typing.specs.Forms.{structs_in, leaf_rule, single_rule, pair_rule};
 
 use crate::arrays::sized_type;
@@ -252,7 +252,7 @@ pub(crate) fn by_call(
     requires scope { IsSoundScope (scope_of s.now) }
     requires sound { AreSoundFacts (structs_of s.now.names.now) (map fact_of facts.old.items) }
     requires function { IfSome (option_copied f) (λ g. IsSoundSignature (structs_of s.now.names.now) (signature_of g)) }
-    ensures gives { Gives (IsAt (map fact_of facts.new.items)) (finish k (call_rule (option_map signature_of (option_copied f.entry)) a)) result (map fact_of facts.old.items) (map fact_of facts.new.items) }
+    ensures gives { (xs : List Fact) → AreArguments (parameters_in (option_map signature_of (option_copied f.entry))) xs a → Gives (IsAt (map fact_of facts.new.items)) (finish k (call_rule (option_map signature_of (option_copied f.entry)) xs)) result (map fact_of facts.old.items) (map fact_of facts.new.items) }
     ensures sound { OnOk result (AreSoundFacts (structs_of s.now.names.now) (map fact_of facts.new.items)) }
 {
     let made = call_rule(s.alloc, f, a);

@@ -24,4 +24,3 @@ pub use initialiser_leaves::Leaves;
 pub use initialisers::initialiser;
 pub use locals::{LocalName, Locals};
 pub use scope::Scoped;
-pub use specifiers::{Sign, Specifiers, Width};

@@ -1,3 +1,4 @@
 pub mod Charges
 pub mod Keeping
 pub mod Standing
+pub mod Walks

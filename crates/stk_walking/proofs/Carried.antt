@@ -1,7 +1,7 @@
 -- What was made and what is shown, from store to store.
-use Rattle.std.proofs.Common.{◌≡◌, ℕ, suc, zero, ◌+◌, ◌<◌, Bool, true, false, ◌&&◌, not, List, [], ◌∷◌, ◌++◌, length, ℤ, pos, Option, Some, None, refl, sym, ap, ◌∙◌, subst, append_assoc, get_or, set, arith}
+use Rattle.std.proofs.Common.{◌≡◌, ℕ, ◌+◌, Bool, true, false, ◌&&◌, not, List, [], ◌∷◌, ◌++◌, ℤ, Some, None, refl, sym, ap, ◌∙◌, append_assoc}
 use Rattle.std.proofs.lemmas.List.{append-nil}
-use Rattle.std.specs.Prelude.{if◌then◌else◌, slice_get}
+use Rattle.std.specs.Prelude.{if◌then◌else◌}
 use Rattle.stk_ctype.specs.declared.kind.IntKind.{IntKind}
 use Rattle.stk_ctype.specs.declared.kind.IntKind.TheVariants.{Int}
 use Rattle.stk_numbers.specs.declared.conditions.CandKind.TheVariants.{Arm, AlwaysTrue, AlwaysFalse, Algebra}
@@ -18,7 +18,7 @@ use Rattle.stk_walking.specs.declared.state.GuardedEvent.{GuardedEvent}
 use Rattle.stk_walking.specs.declared.state.WalkState.{WalkState}
 use Rattle.stk_walking.specs.Events.{Live, hit, one_if, differs, entry_events, events_of, events_in}
 use Rattle.stk_kinded.specs.Kinds.{register_kind, cell_kind}
-use Rattle.stk_walking.specs.Stands.{RowShows, CellShows, CellsShow, Stands, RowMade, CellsMade, StepsMade, IsMade}
+use Rattle.stk_walking.specs.Stands.{RowShows, CellsShow, Stands, RowMade, CellsMade, StepsMade, IsMade}
 
 -- a store after two calls
 pub keeps_then : {S V : Type 0} (serves : S → List ℤ → Type 0) (has_key : S → ℕ → IntKind → Type 0) (made : S → IntKind → V → Type 0) (shows : S → List ℤ → IntKind → V → ℤ → Type 0) (a b c : S) → Keeps serves has_key made shows a b → Keeps serves has_key made shows b c → Keeps serves has_key made shows a c

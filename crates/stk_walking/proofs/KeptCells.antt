@@ -5,7 +5,7 @@ use Rattle.stk_ctype.specs.declared.kind.IntKind.{IntKind}
 use Rattle.stk_ctype.specs.declared.kind.IntKind.TheVariants.{Int}
 use Rattle.stk_meaning.specs.Operations.{bit}
 use Rattle.stk_meaning.specs.Paths.{KeptNumbers}
-use Rattle.stk_guarded.specs.Cells.{content, read_of, removed_from}
+use Rattle.stk_guarded.specs.Cells.{content, read_of}
 use Rattle.stk_guarded.proofs.Cells.{after_store, after_read, after_removal, set_under}
 use Rattle.stk_walking.specs.declared.state.KeptCell.{KeptCell}
 use Rattle.stk_walking.specs.Stands.{CellShows, CellsShow, CellsMade}

@@ -1,19 +1,19 @@
 -- What parts of a walk leave together, at one input map.
-use Rattle.std.proofs.Common.{◌≡◌, ℕ, Bool, true, false, ◌&&◌, ◌||◌, not, List, [], ◌∷◌, ◌++◌, ℤ, refl, sym, ap, ◌∙◌, subst}
+use Rattle.std.proofs.Common.{◌≡◌, ℕ, Bool, true, false, ◌&&◌, ◌||◌, not, List, [], ◌++◌, ℤ, refl}
 use Rattle.std.specs.Prelude.{if◌then◌else◌}
 use Rattle.stk_ctype.specs.declared.kind.IntKind.{IntKind}
 use Rattle.stk_ctype.specs.declared.kind.IntKind.TheVariants.{Int}
 use Rattle.stk_meaning.specs.declared.entry.Entry.{Entry}
-use Rattle.stk_meaning.specs.Worlds.{Ran, Went, Cut, after, and_then, gives, Flow, Normal, Break, Continue, Return, next, give_back, again, behind_body, Turned, Ended, left_switch}
+use Rattle.stk_meaning.specs.Worlds.{Ran, after, and_then, gives, Flow, Normal, next, give_back, again, behind_body, Turned, Ended, left_switch}
 use Rattle.stk_meaning.specs.Operations.{bit}
 use Rattle.stk_meaning.specs.Places.{Setting}
 use Rattle.stk_meaning.specs.Paths.{KeptNumbers}
-use Rattle.stk_guarded.specs.Standing.{Standing, live, added, moved_to, Goes}
-use Rattle.stk_guarded.specs.Statements.{Flows, Declares, breaking, continuing, given_back_to}
+use Rattle.stk_guarded.specs.Standing.{Standing, live, added, moved_to}
+use Rattle.stk_guarded.specs.Statements.{given_back_to}
 use Rattle.stk_guarded.specs.Turns.{opened, closed, no_more, turn_end}
 use Rattle.stk_guarded.specs.Sections.{begun, past}
-use Rattle.stk_guarded.proofs.Evaluations.{then_goes, after_goes, gives_goes, adds_goes, branch_goes, either_goes}
-use Rattle.stk_guarded.proofs.Statements.{then_flows, next_flows, after_flows, branch_flows, either_flows, scope_flows, empty_flows, break_flows, continue_flows, return_flows, start_flows, declares_flows, goes_declares}
+use Rattle.stk_guarded.proofs.Evaluations.{then_goes, after_goes, gives_goes, branch_goes, either_goes}
+use Rattle.stk_guarded.proofs.Statements.{then_flows, next_flows, branch_flows, either_flows, scope_flows}
 use Rattle.stk_guarded.proofs.Turns.{turn_flows, tested_flows, moved_flows}
 use Rattle.stk_guarded.proofs.Sections.{left_flows}
 use Rattle.stk_walking.specs.declared.state.WalkState.{WalkState}

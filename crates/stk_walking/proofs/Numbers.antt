@@ -1,17 +1,14 @@
 -- Numbers that conversions leave as they are, and moves by elements of size 0.
-use Rattle.std.proofs.Common.{◌≡◌, ℕ, ◌+◌, ◌-◌, ◌^◌, ◌%◌, ◌*◌, ◌<◌, ◌≤ℤ◌, Bool, true, false, ◌&&◌, ℤ, pos, negsuc, ◌+ℤ◌, ◌-ℤ◌, ◌*ℤ◌, refl, sym, ap, ◌∙◌, subst, arith, if◌then◌else◌}
+use Rattle.std.proofs.Common.{◌≡◌, ◌+◌, ◌-◌, ◌^◌, ◌%◌, ◌≤ℤ◌, true, false, ◌&&◌, ℤ, pos, ◌-ℤ◌, refl, sym, ap, ◌∙◌, arith, if◌then◌else◌}
 use Rattle.std.specs.Prelude.{int_le, IsTrue}
 use Rattle.std.specs.Ordering.{int_eq}
 use Rattle.std.proofs.lemmas.Int.{ints}
-use Rattle.std.proofs.Math.Nat.{mod-eq_of_lt}
 use Rattle.stk_ctype.specs.declared.kind.IntKind.{IntKind}
 use Rattle.stk_ctype.specs.declared.kind.IntKind.TheVariants as kind
 use Rattle.stk_numbers.specs.Kinds.{width_of, is_bool, is_signed, least, greatest, residue, decoded, fits, wrap, promote}
-use Rattle.stk_numbers.specs.Values.{moved, exact_move}
 use Rattle.stk_numbers.proofs.Bounds.{both_ends, within_ends}
-use Rattle.stk_numbers.proofs.Residues.{residue_below, residue_sub}
+use Rattle.stk_numbers.proofs.Residues.{residue_sub}
 use Rattle.stk_numbers.proofs.Wrapping.{wrap_congruent, wrap_stays}
-use Rattle.stk_meaning.specs.Operations.{to_address}
 
 -- no promoted kind is `_Bool`
 pub promoted_is_plain : (k : IntKind) → is_bool (promote k) ≡ false

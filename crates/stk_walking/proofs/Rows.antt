@@ -1,6 +1,6 @@
 -- Registers of a walk, read and set.
-use Rattle.std.proofs.Common.{◌≡◌, ℕ, suc, zero, ◌+◌, ◌<◌, ◌≤◌, Bool, true, false, List, [], ◌∷◌, length, ℤ, pos, Option, Some, None, refl, sym, ap, ◌∙◌, subst, get_or, set, arith}
-use Rattle.std.specs.Prelude.{if◌then◌else◌, slice_get}
+use Rattle.std.proofs.Common.{◌≡◌, ℕ, suc, zero, ◌+◌, ◌<◌, ◌≤◌, Bool, true, false, List, [], ◌∷◌, length, ℤ, pos, refl, sym, ap, subst, get_or, set, arith}
+use Rattle.std.specs.Prelude.{if◌then◌else◌}
 use Rattle.stk_ctype.specs.declared.kind.IntKind.{IntKind}
 use Rattle.stk_walking.specs.Stands.{RowShows, RowMade}
 use Rattle.stk_walking.proofs.Carried.{row_shown}

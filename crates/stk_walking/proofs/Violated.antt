@@ -1,12 +1,15 @@
 -- The events of tests one after another.
-use Rattle.std.proofs.Common.{◌≡◌, ℕ, Bool, true, false, not, ◌&&◌, if◌then◌else◌, List, [], ◌∷◌, ◌++◌, ℤ, map, refl, sym, ap, ◌∙◌, subst, append_assoc}
+use Rattle.std.proofs.Common.{◌≡◌, ℕ, Bool, true, false, not, ◌&&◌, if◌then◌else◌, List, [], ◌∷◌, ◌++◌, ℤ, refl, sym, ap, ◌∙◌, append_assoc}
 use Rattle.std.proofs.lemmas.List.{append-nil}
 use Rattle.stk_numbers.specs.declared.conditions.Kinds.{Kinds}
 use Rattle.stk_numbers.specs.Taken.{is_taken}
 use Rattle.stk_meaning.specs.declared.entry.Entry.{Entry}
 use Rattle.stk_meaning.specs.declared.entry.Entry.TheVariants.{Ub}
+use Rattle.stk_tree.specs.Syntax.{ExprFormTree}
 use Rattle.stk_meaning.specs.Operations.{Test}
-use Rattle.stk_meaning.specs.Conditions.{violated, conditions_of}
+use Rattle.stk_meaning.specs.Conditions.{violated, form_tests}
+use Rattle.stk_meaning.specs.Places.{Setting}
+use Rattle.stk_meaning.specs.Expressions.{breaks}
 use Rattle.stk_walking.specs.declared.state.Event.{Event}
 use Rattle.stk_walking.specs.declared.state.Event.TheVariants.{Broken}
 use Rattle.stk_walking.specs.Events.{one_if, events_of}
@@ -67,3 +70,10 @@ both_events w n ts us t =
 pub events_violated : (g : Bool) (t a : List Entry) → events_of t ++ (if g then events_of a else []) ≡ events_of (t ++ (if g then a else []))
 events_violated true t a = sym (events_append t a)
 events_violated false t a = append-nil (events_of t) ∙ ap events_of (sym (append-nil t))
+
+-- the same of what is asked of a form at a node
+pub events_broken : (G : Setting) (w : Kinds) (n : ℕ) (ts : List Test) (accessed : Bool) (f : ExprFormTree) (x y z : ℤ) (g : Bool) (t : List Entry) → w ≡ G.without → form_tests G.typing accessed f ≡ ts →
+    events_of t ++ (if g then events_of (violated n (kept_of w ts) x y z) else []) ≡ events_of (t ++ (if g then breaks G n accessed f x y z else []))
+events_broken G w n ts accessed f x y z g t e h =
+    events_violated g t (violated n (kept_of w ts) x y z)
+    ∙ ap (λ l. events_of (t ++ (if g then violated n l x y z else []))) (ap (λ v. kept_of v ts) e ∙ ap (kept_of G.without) (sym h))

@@ -4,3 +4,6 @@ pub mod Leads
 pub mod Operands
 pub mod Keyed
 pub mod NodeTests
+pub mod ExpressionEvents
+pub mod Walks
+pub mod StatementEvents

@@ -1,5 +1,5 @@
 -- The tests of a node one by one, and its operands.
-use Rattle.std.specs.Prelude.{ℕ, ◌≡◌, Bool, true, false, not, List, map, filter, ℤ, pos}
+use Rattle.std.specs.Prelude.{ℕ, ◌≡◌, false, not, List, [], ◌∷◌, map, filter, Option, Some, None, ℤ, pos}
 use Rattle.std.specs.Ordering.{int_eq}
 use Rattle.stk_ctype.specs.declared.kind.IntKind.{IntKind}
 use Rattle.stk_numbers.specs.declared.operators.ArithOp.TheVariants.{Sub}
@@ -11,6 +11,8 @@ use Rattle.stk_numbers.specs.Values.{is_oversized}
 use Rattle.stk_numbers.specs.Conditions.{violates, leaves_memory, is_outside, overlaps}
 use Rattle.stk_meaning.specs.Operations.{Test, tested, to_address}
 use Rattle.stk_meaning.specs.Conditions.{null_test, conditions_of}
+use Rattle.stk_operators.specs.declared.node_tests.NodeTests.{NodeTests}
+use Rattle.stk_operators.specs.declared.node_tests.NodeTests.TheVariants as node_tests
 use Rattle.stk_walking.specs.declared.state.Event.{Event}
 use Rattle.stk_walking.specs.declared.state.Event.TheVariants.{Broken}
 use Rattle.stk_walking.specs.declared.node_tests.Operands.{Operands}
@@ -60,3 +62,26 @@ pub record OperandsShow {V : Type 0} (shows : IntKind → V → ℤ → Type 0) 
   pub first : shows xs.first.kind xs.first.value x
   pub second : shows xs.second.kind xs.second.value y
   pub third : shows xs.third.kind xs.third.value z
+
+-- ---- the tests that a node asks for
+
+-- one that may be missing
+abbrev pub maybe_tests : Option NodeTest → List Test
+maybe_tests None = []
+maybe_tests (Some t) = test_of t ∷ []
+
+abbrev pub MaybeIsTestOf : IntKind → Option NodeTest → Type 0
+MaybeIsTestOf j None = Unit {0}
+MaybeIsTestOf j (Some t) = IsTestOf j t
+
+-- the same of all that are asked for
+abbrev pub IsAskedOf : IntKind → NodeTests → Type 0
+IsAskedOf j node_tests.Nothing = Unit {0}
+IsAskedOf j (node_tests.Operation operation) = Unit {0}
+IsAskedOf j (node_tests.Negation k) = Unit {0}
+IsAskedOf j node_tests.Target = Unit {0}
+IsAskedOf j (node_tests.Moved size) = Unit {0}
+IsAskedOf j (node_tests.TargetMoved size) = Unit {0}
+IsAskedOf j (node_tests.Bounds count) = Unit {0}
+IsAskedOf j (node_tests.Absolute k) = k ≡ j
+IsAskedOf j node_tests.Copy = Unit {0}

@@ -1,8 +1,9 @@
 //! What a walk asks of a function, besides what a path run asks.
 
-ghost use Rattle.std.specs.Prelude.{◌≡◌, ℕ, ℤ, IfSome, List, length, ◌<◌, slice_get, Some};
+ghost use Rattle.std.specs.Prelude.{◌≡◌, ℕ, ℤ, IfSome, List, length, ◌<◌, slice_get, Some, option_map};
 ghost use Rattle.stk_ctype.specs.declared.kind.IntKind as kinds;
 ghost use Rattle.stk_tree.specs.View.{view_statement_form};
+ghost use Rattle.stk_numbers.specs.Kinds.{wrap};
 ghost use Rattle.stk_meaning.specs.Changes.{assigned_in, forgotten_in};
 ghost use Rattle.stk_meaning.specs.Paths.{InputMap};
 ghost use Rattle.stk_kinded.specs.Kinds.{key_kind};
@@ -10,6 +11,8 @@ ghost use Rattle.stk_walking.specs.Keyed.{key_shown, placed};
 
 use crate::keys::InputKey;
 use stk_eval_expr::PathSetting;
+use stk_numbers::IntKind;
+use stk_operators::Word;
 use stk_tree::StmtForm;
 
 /// What a walk asks of a function: the setting of its path runs, and the places of its input keys. What a `PathSetting`
@@ -25,6 +28,11 @@ pub trait WalkSetting: PathSetting {
     fn place_of(&self, key: InputKey) -> Option<u32>
         ensures number { (m : List ℤ) → under self.now m (key_shown key) ≡ placed result m }
         ensures kind { IfSome result (λ p. slice_get (kinds self.now) p ≡ Some (key_kind (Self.setting self.now) (key_shown key))) };
+
+    /// The number of a node in a kind, where it has one by itself: as the constant of a `case` in the kind of its
+    /// `switch`.
+    fn number_in(&self, kind: IntKind, node: u32) -> Option<Word>
+        ensures { result ≡ option_map (λ z. wrap kind z) ((Self.setting self.now).typing.number_at node) };
 
     /// How many registers the loop of a form at a node sets first.
     fn count_slots(&self, node: u32, form: &StmtForm) -> usize

@@ -6,14 +6,18 @@ ghost use Rattle.stk_ctype.specs.declared.kind.IntKind as kinds;
 ghost use Rattle.stk_ctype.specs.declared.kind.IntKind.TheVariants.{Int};
 ghost use Rattle.stk_tree.specs.View.{view_statement_form};
 ghost use Rattle.stk_meaning.specs.Operations.{bit};
-ghost use Rattle.stk_meaning.specs.Changes.{forgotten_in};
-ghost use Rattle.stk_meaning.specs.Paths.{KeptNumbers, forgotten};
+ghost use Rattle.stk_meaning.specs.Changes.{assigned_in, forgotten_in};
+ghost use Rattle.stk_meaning.specs.Paths.{KeptNumbers, reset_all, forgotten};
 ghost use Rattle.stk_values.specs.Keeping.{Keeps};
-ghost use Rattle.stk_walking.specs.Stands.{CellsShow, CellsMade};
+ghost use Rattle.stk_guarded.specs.Standing.{Standing, moved_to};
+ghost use Rattle.stk_walking.specs.Events.{events_in};
+ghost use Rattle.stk_walking.specs.Keyed.{AreThere};
+ghost use Rattle.stk_walking.specs.Stands.{CellsShow, CellsMade, Stands, IsMade};
 
 use crate::asked::WalkSetting;
 use crate::cells::keep_only;
-use crate::state::KeptCell;
+use crate::loop_registers::begin_registers;
+use crate::state::{KeptCell, WalkState};
 use stk_base::NoMemory;
 use stk_tree::StmtForm;
 use stk_values::Values;
@@ -62,5 +66,28 @@ pub fn begin_cells<O: WalkSetting, V: Values>(
     for place in 0..cells.len() {
         begin_cell(out, node, form, values, stays, cells, place)?;
     }
+    Ok(())
+}
+
+/// Begins the loop of a form at a node, where the guard is true: its registers have the numbers of their keys, and what
+/// it may change isn't kept.
+pub fn begin_loop<O: WalkSetting, V: Values>(
+    out: &O,
+    node: u32,
+    form: &StmtForm,
+    values: &mut V,
+    state: &mut WalkState<V::Value>,
+) -> Result<(), NoMemory>
+    requires known { O.knows out.now node (view_statement_form form.now) }
+    requires keys { AreThere (V.has_key values.old) (O.kinds out.now) }
+    requires made { IsMade (V.made values.old) (O.setting out.now) state.old }
+    ensures made { OnOk result (IsMade (V.made values.new) (O.setting out.now) state.new) }
+    ensures events { OnOk result (events_in state.new.steps.items ≡ events_in state.old.steps.items) }
+    ensures stands { OnOk result ((m : List ℤ) (s : Standing) → V.serves values.old m → Stands (V.shows values.old m) (O.setting out.now) state.old s → Stands (V.shows values.new m) (O.setting out.now) state.new (moved_to (reset_all (O.under out.now m) node (assigned_in (O.setting out.now) (view_statement_form form.now)) s.numbers) (forgotten (forgotten_in (O.setting out.now) (view_statement_form form.now)) s.kept) s)) }
+    ensures keeps { OnOk result (Keeps V.serves V.has_key V.made V.shows values.old values.new) }
+{
+    let guard = state.guard;
+    begin_registers(out, node, form, values, guard, &mut state.registers)?;
+    begin_cells(out, node, form, values, guard, &mut state.cells)?;
     Ok(())
 }

@@ -150,24 +150,24 @@ fn measured<V: Values>(
 /// The value of an operation on two operands, also where it violates a condition (C11 6.5.5 to 6.5.12).
 pub fn operated<V: Values>(
     values: &mut V,
-    operation: Operation,
+    operation: &Operation,
     left: Operand<V::Value>,
     right: Operand<V::Value>,
 ) -> Result<V::Value, NoMemory>
     requires left { V.made values.old left.kind left.value }
     requires right { V.made values.old right.kind right.value }
-    requires shifts { IsShiftOf left.kind (operation_shown operation) }
-    ensures makes { IfOk result (λ v. V.made values.new (operation_kind (operation_shown operation)) v) }
-    ensures value { IfOk result (λ v. (m : List ℤ) (x y : ℤ) → V.serves values.old m → V.shows values.old m left.kind left.value x → V.shows values.old m right.kind right.value y → V.shows values.new m (operation_kind (operation_shown operation)) v (operated (operation_shown operation) x y)) }
+    requires shifts { IsShiftOf left.kind (operation_shown operation.now) }
+    ensures makes { IfOk result (λ v. V.made values.new (operation_kind (operation_shown operation.now)) v) }
+    ensures value { IfOk result (λ v. (m : List ℤ) (x y : ℤ) → V.serves values.old m → V.shows values.old m left.kind left.value x → V.shows values.old m right.kind right.value y → V.shows values.new m (operation_kind (operation_shown operation.now)) v (operated (operation_shown operation.now) x y)) }
     ensures keeps { Keeps V.serves V.has_key V.made V.shows values.old values.new }
 {
     match operation {
-        Operation::InKind(op, kind) => in_kind(values, op, kind, left, right),
-        Operation::ShiftIn(op, kind) => shifted(values, op, kind, left, right),
-        Operation::CompareIn(op, kind) => compared(values, op, kind, left, right),
-        Operation::Move(minus, size) => moved_address(values, left, right, size, minus),
-        Operation::MoveBehind(size) => moved_address(values, right, left, size, false),
-        Operation::Measure(size) => measured(values, left, right, size),
+        Operation::InKind(op, kind) => in_kind(values, *op, *kind, left, right),
+        Operation::ShiftIn(op, kind) => shifted(values, *op, *kind, left, right),
+        Operation::CompareIn(op, kind) => compared(values, *op, *kind, left, right),
+        Operation::Move(minus, size) => moved_address(values, left, right, *size, *minus),
+        Operation::MoveBehind(size) => moved_address(values, right, left, *size, false),
+        Operation::Measure(size) => measured(values, left, right, *size),
     }
 }
 
@@ -236,19 +236,20 @@ pub fn absolute<V: Values>(
     Ok(found)
 }
 
-/// The truth of `y op 0`, or of `0 op y`, for an operand y, in the common kind of y and `int`.
+/// The truth of `y op 0`, or of `0 op y`, for an operand y, in the common kind of a kind and `int`.
 pub fn replaced_test<V: Values>(
     values: &mut V,
     zero_first: bool,
     op: CompareOp,
+    kept: IntKind,
     operand: Operand<V::Value>,
 ) -> Result<V::Value, NoMemory>
     requires { V.made values.old operand.kind operand.value }
     ensures makes { IfOk result (λ v. V.made values.new Int v) }
-    ensures value { IfOk result (λ v. (m : List ℤ) (y : ℤ) → V.serves values.old m → V.shows values.old m operand.kind operand.value y → V.shows values.new m Int v (bit (replaced_truth zero_first op operand.kind y))) }
+    ensures value { IfOk result (λ v. (m : List ℤ) (y : ℤ) → V.serves values.old m → V.shows values.old m operand.kind operand.value y → V.shows values.new m Int v (bit (replaced_truth zero_first op kept y))) }
     ensures keeps { Keeps V.serves V.has_key V.made V.shows values.old values.new }
 {
-    let kind = common(operand.kind, IntKind::Int);
+    let kind = common(kept, IntKind::Int);
     let y = converted(values, operand.kind, kind, operand.value)?;
     let none = zero(values, kind)?;
     let (left, right) = if zero_first { (none, y) } else { (y, none) };

@@ -1,5 +1,6 @@
-use Rattle.std.proofs.Common.{ℕ, ◌≡◌, ◌+◌, map, drop, List, [], sym, ap, subst, ◌∙◌, Ok, Err, arith, rules}
+use Rattle.std.proofs.Common.{ℕ, Bool, ◌≡◌, ◌+◌, map, drop, List, [], sym, ap, subst, ◌∙◌, Ok, Err, arith, rules}
 use Rattle.std.proofs.lemmas.List.{drop_all, length-map}
+use Rattle.stk_ctype.specs.Types.{row_of, type_of}
 use Rattle.stk_tree.specs.declared.expression.Expr.{out-Expr}
 use Rattle.stk_tree.specs.declared.declaration.TypeName.{out-TypeName}
 use Rattle.stk_tree.specs.View.{expressions, dimensions, view_base, view_dimension, view_expression, view_expression_form, view_type_name}
@@ -12,10 +13,10 @@ use Rattle.stk_typing.specs.declared.arrays.Size.TheVariants.{Sized}
 use Rattle.stk_typing.specs.Scope.{scope_of}
 use Rattle.stk_typing.specs.Arrays.{starred, sized_type}
 use Rattle.stk_typing.specs.declared.calls.Arguments.{Arguments}
-use Rattle.stk_typing.specs.Calls.{behind}
+use Rattle.stk_typing.specs.Calls.{AreArguments, begin_with_struct, with_behind}
 use Rattle.stk_typing.specs.Forms.{structs_in, single_rule, pair_rule}
 use Rattle.stk_typing.specs.Typing.{base_typed, expression_typed, callee_typed, arguments_typed, type_name_typed, dimensions_typed}
-use Rattle.stk_typing.proofs.Turns.{three, third_stops, below, longer, call_gives, arguments_stop, arguments_turn, dimensions_turn, named_gives, next_of, nil, size_gives, IsSignature, IsSize}
+use Rattle.stk_typing.proofs.Turns.{AreBehind, all_behind, three, third_stops, below, longer, call_gives, arguments_stop, arguments_turn, dimensions_turn, named_gives, next_of, nil, size_gives, weaker, IsSignature, IsSize}
 use Rattle.stk_typing.proofs.Views.{single_typed, pair_typed, choice_typed, size_typed, type_size_typed, cast_typed, call_typed, callee_other, named_typed, sized_typed}
 use Rattle.stk_typing.proofs.expressions.+expression.Goals as goal
 
@@ -114,12 +115,12 @@ pub expression-returns-in_err-a-in-Call-clause-gives : goal.expression-returns-i
 expression-returns-in_err-a-in-Call-clause-gives t c =
     let same : c.from_residual-in_err-a-in-Call.result ≡ Err c.in_err-a-in-Call.field-0.0 = search rules in
     rw (call_typed (scope_of c.args.s.now) c.args.e.now c.in-Call.f c.in-Call.args c.in-Call.is, same, ← c.get-in-Call.ensures, ← c.as_slice.ensures)
-    (arguments_stop (callee_typed (scope_of c.args.s.now) (view_expression c.get-in-Call.result.now)) (arguments_typed (scope_of c.args.s.now) (expressions (map view_expression c.as_slice.result.now))) _ c.in_ok-signature-in-Call.signature _ _ (map fact_of c.callee.new.facts.items) _ (map fact_of c.arguments.new.facts.items) c.in_ok-signature-in-Call.ensures.gives c.in_err-a-in-Call.ensures.gives)
+    (arguments_stop (callee_typed (scope_of c.args.s.now) (view_expression c.get-in-Call.result.now)) (arguments_typed (scope_of c.args.s.now) (expressions (map view_expression c.as_slice.result.now))) _ c.in_ok-signature-in-Call.signature (row_of (map type_of c.parameters_in.result.now)) _ _ (map fact_of c.callee.new.facts.items) _ (map fact_of c.arguments.new.facts.items) c.in_ok-signature-in-Call.ensures.gives c.in_err-a-in-Call.ensures.gives)
 
 pub expression-returns-in_ok-a-in-Call-clause-gives : goal.expression-returns-in_ok-a-in-Call-clause-gives
 expression-returns-in_ok-a-in-Call-clause-gives t c =
     rw (call_typed (scope_of c.args.s.now) c.args.e.now c.in-Call.f c.in-Call.args c.in-Call.is, ← c.get-in-Call.ensures, ← c.as_slice.ensures)
-    (call_gives (callee_typed (scope_of c.args.s.now) (view_expression c.get-in-Call.result.now)) (arguments_typed (scope_of c.args.s.now) (expressions (map view_expression c.as_slice.result.now))) _ c.in_ok-signature-in-Call.signature c.in_ok-a-in-Call.a c.by_call.result _ (map fact_of c.callee.new.facts.items) (map fact_of c.arguments.new.facts.items) _ c.in_ok-signature-in-Call.ensures.gives c.in_ok-a-in-Call.ensures.gives c.by_call.ensures.gives)
+    (call_gives (callee_typed (scope_of c.args.s.now) (view_expression c.get-in-Call.result.now)) (arguments_typed (scope_of c.args.s.now) (expressions (map view_expression c.as_slice.result.now))) _ c.in_ok-signature-in-Call.signature (row_of (map type_of c.parameters_in.result.now)) c.in_ok-a-in-Call.a c.by_call.result _ (map fact_of c.callee.new.facts.items) (map fact_of c.arguments.new.facts.items) _ c.in_ok-signature-in-Call.ensures.gives c.parameters_in.ensures c.in_ok-a-in-Call.ensures.gives c.by_call.ensures.gives)
 
 pub callee-returns-in_err-expression-in-None-clause-gives : goal.callee-returns-in_err-expression-in-None-clause-gives
 callee-returns-in_err-expression-in-None-clause-gives t c =
@@ -127,16 +128,28 @@ callee-returns-in_err-expression-in-None-clause-gives t c =
     rw (callee_other (scope_of c.args.s.now) c.args.e.now (sym c.name_of.ensures ∙ c.in-None.is), same)
     (stops (IsAt (map fact_of c.expression.new.facts.items)) IsSignature (expression_typed (scope_of c.args.s.now) (view_expression c.args.e.now)) _ _ _ _ _ _ c.in_err-expression-in-None.ensures.gives)
 
+pub arguments-loop-e-init : goal.arguments-loop-e-init
+arguments-loop-e-init t c =
+    let params = row_of (map type_of c.args.params.now) in
+    let none = c.none-all.ensures params in
+    record {
+      count = none.count;
+      sound = c.requires.sound;
+      rest = λ result new h. weaker (AreBehind params c.none-all.result) (AreArguments params) (arguments_typed (scope_of c.args.s.now) (expressions (map view_expression c.args.list.now))) result (map fact_of c.args.facts.now.items) new (λ xs a b. all_behind params c.none-all.result xs a none b) h;
+    }
+
 pub arguments-loop-e-preserved : goal.arguments-loop-e-preserved
 arguments-loop-e-preserved t c =
     let step = next_of c.args.list.now c.loop-e.e-index c.e-item.result c.loop-e-test.true c.e-item.is in
-    let next = c.behind-all.ensures ∙ ap (behind c.loop-e.all) c.fact.ensures.is in
+    let params = row_of (map type_of c.loop-e.left.now) in
+    let at = fact_at (map fact_of c.expression.new.facts.items) c.in_ok-i.i in
+    let next : c.behind-all.result ≡ with_behind (begin_with_struct params) c.loop-e.all at = c.behind-all.ensures ∙ ap (λ (b : Bool). with_behind b c.loop-e.all (fact_of c.fact.result.now)) c.begin_with_struct.ensures ∙ ap (with_behind (begin_with_struct params) c.loop-e.all) c.fact.ensures.is in
     record {
       count = ap (λ (a : Arguments). a.count) c.behind-all.ensures ∙ ap (λ (n : ℕ). n + 1) c.loop-e.invariant.count;
       sound = c.in_ok-i.ensures.sound;
       rest = λ result new h.
           c.loop-e.invariant.rest result new
-          (rw step (arguments_turn (scope_of c.args.s.now) c.loop-e.all c.behind-all.result (view_expression c.e-item.result) (expressions (map view_expression (drop (c.loop-e.e-index + 1) c.args.list.now))) c.in_ok-i.i result (map fact_of c.loop-e.facts.items) (map fact_of c.expression.new.facts.items) new c.in_ok-i.ensures.gives next h));
+          (rw step (arguments_turn (scope_of c.args.s.now) params c.loop-e.all c.behind-all.result (view_expression c.e-item.result) (expressions (map view_expression (drop (c.loop-e.e-index + 1) c.args.list.now))) c.in_ok-i.i result (map fact_of c.loop-e.facts.items) (map fact_of c.expression.new.facts.items) new c.in_ok-i.ensures.gives next (rw c.behind_first-left.ensures at h)));
     }
 
 pub type_name-returns-clause-gives : goal.type_name-returns-clause-gives

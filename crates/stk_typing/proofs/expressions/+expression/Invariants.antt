@@ -1,5 +1,6 @@
 use Rattle.std.proofs.Common.{◌≡◌, drop, map, List, [], Result, Vec, Global}
 use Rattle.stk_ctype.specs.Structs.{structs_of}
+use Rattle.stk_ctype.specs.Types.{row_of, type_of}
 use Rattle.stk_tree.specs.View.{expressions, dimensions, view_expression, view_dimension}
 use Rattle.stk_type_rules.specs.declared.untyped.Untyped.{Untyped}
 use Rattle.stk_type_rules.specs.Facts.{AreSoundFacts, Fact, fact_of}
@@ -8,7 +9,8 @@ use Rattle.stk_typing.specs.declared.arrays.Size.{Size}
 use Rattle.stk_typing.specs.Scope.{scope_of}
 use Rattle.stk_typing.specs.declared.calls.Arguments.{Arguments}
 use Rattle.stk_typing.specs.Typing.{arguments_typed, dimensions_typed}
-use Rattle.stk_typing.proofs.Turns.{AreArguments, Merges, AreSizes}
+use Rattle.stk_typing.specs.Calls.{AreArguments}
+use Rattle.stk_typing.proofs.Turns.{AreBehind, AreSizes}
 use Rattle.stk_typing.proofs.expressions.+expression.Given as goal
 
 -- what completes the rest completes the whole
@@ -17,8 +19,8 @@ invariant-arguments-loop-e l = record {
   count : l.all.count ≡ l.e-index;
   sound : AreSoundFacts (structs_of l.s.names.now) (map fact_of l.facts.items);
   rest : (result : Result Arguments Untyped) (new : List Fact) →
-      Gives (Merges l.all) (arguments_typed (scope_of l.s) (expressions (map view_expression (drop l.e-index l.list)))) result (map fact_of l.facts.items) new →
-      Gives AreArguments (arguments_typed (scope_of l.s) (expressions (map view_expression l.list))) result (map fact_of l.initial.facts.items) new;
+      Gives (AreBehind (row_of (map type_of l.left)) l.all) (arguments_typed (scope_of l.s) (expressions (map view_expression (drop l.e-index l.list)))) result (map fact_of l.facts.items) new →
+      Gives (AreArguments (row_of (map type_of l.params))) (arguments_typed (scope_of l.s) (expressions (map view_expression l.list))) result (map fact_of l.initial.facts.items) new;
 }
 
 abbrev pub invariant-dimensions-loop-d : goal.invariant-dimensions-loop-d

@@ -1,6 +1,4 @@
-use Rattle.std.proofs.Common.{◌≡◌, ◌<◌, ◌≤◌, length, get_or, set, not, ℕ, ℤ, List, Option, Some, None, sym, ap, ◌∙◌, subst, arith, length-set}
-use Rattle.std.specs.Prelude.{if◌then◌else◌}
-use Rattle.stk_ctype.specs.declared.kind.IntKind.{IntKind}
+use Rattle.std.proofs.Common.{◌<◌, ◌≤◌, length, not, ℕ, None, sym, subst, arith, length-set}
 use Rattle.stk_meaning.specs.Paths.{KeptNumbers}
 use Rattle.stk_walking.specs.Stands.{CellsShow}
 use Rattle.stk_walking.proofs.Carried.{cells_made}

@@ -1,8 +1,8 @@
-use Rattle.std.proofs.Common.{◌≡◌, ◌<◌, ◌≤◌, length, get_or, ℕ, ℤ, List, Option, Some, None, sym, ap, ◌∙◌, subst, arith}
+use Rattle.std.proofs.Common.{◌<◌, ◌≤◌, length, get_or, ℤ, Option, Some, None, sym, ap, ◌∙◌, subst, arith}
 use Rattle.std.specs.Prelude.{if◌then◌else◌}
 use Rattle.stk_ctype.specs.declared.kind.IntKind.{IntKind}
 use Rattle.stk_meaning.specs.Paths.{KeptNumbers}
-use Rattle.stk_guarded.specs.Cells.{read_of, content}
+use Rattle.stk_guarded.specs.Cells.{read_of}
 use Rattle.stk_guarded.proofs.Cells.{read_is}
 use Rattle.stk_walking.specs.Stands.{CellsShow}
 use Rattle.stk_walking.proofs.Carried.{cells_made}

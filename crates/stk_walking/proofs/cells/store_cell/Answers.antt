@@ -1,8 +1,8 @@
-use Rattle.std.proofs.Common.{◌≡◌, ◌<◌, ◌≤◌, length, get_or, ℕ, ℤ, List, Some, sym, ap, ◌∙◌, subst, arith}
+use Rattle.std.proofs.Common.{◌<◌, ◌≤◌, length, Some, sym, ap, ◌∙◌, subst, arith}
 use Rattle.std.specs.Prelude.{if◌then◌else◌}
 use Rattle.stk_ctype.specs.declared.kind.IntKind.{IntKind}
 use Rattle.stk_meaning.specs.Paths.{KeptNumbers}
-use Rattle.stk_walking.specs.Stands.{CellsShow, CellShows}
+use Rattle.stk_walking.specs.Stands.{CellsShow}
 use Rattle.stk_walking.proofs.Carried.{cells_made}
 use Rattle.stk_walking.proofs.Rows.{zero_then}
 use Rattle.stk_walking.proofs.KeptCells.{cell_in, cells_length, cell_made_in, cells_made_set, set_past, cells_stored}

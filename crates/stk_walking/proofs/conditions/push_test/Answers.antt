@@ -1,4 +1,4 @@
-use Rattle.std.proofs.Common.{◌≡◌, Bool, true, false, ◌&&◌, List, [], ◌∷◌, ◌++◌, sym, ap, ◌∙◌, subst, if◌then◌else◌}
+use Rattle.std.proofs.Common.{◌&&◌, List, [], ◌++◌, sym, ap, ◌∙◌, subst, if◌then◌else◌}
 use Rattle.stk_ctype.specs.declared.kind.IntKind.TheVariants.{Int}
 use Rattle.stk_numbers.specs.declared.conditions.UbKind.{UbKind}
 use Rattle.stk_numbers.specs.Taken.{is_taken}
@@ -6,8 +6,8 @@ use Rattle.stk_meaning.specs.Operations.{Test}
 use Rattle.stk_meaning.specs.Conditions.{violated}
 use Rattle.stk_walking.specs.declared.state.Event.{Event}
 use Rattle.stk_walking.specs.declared.state.Event.TheVariants.{Broken}
-use Rattle.stk_walking.specs.Events.{Live, one_if, events_of, events_in}
-use Rattle.stk_walking.specs.NodeTests.{test_of, kept_of, test_events}
+use Rattle.stk_walking.specs.Events.{Live, one_if, events_of}
+use Rattle.stk_walking.specs.NodeTests.{test_of}
 use Rattle.stk_walking.proofs.Carried.{live_shown, steps_made}
 use Rattle.stk_walking.proofs.Violated.{kept_is, one_event}
 use Rattle.stk_walking.proofs.conditions.push_test.Goals as goal

@@ -1,9 +1,5 @@
-use Rattle.std.proofs.Common.{◌≡◌, false, ◌||◌}
-use Rattle.stk_ctype.specs.declared.kind.IntKind.{IntKind}
-use Rattle.stk_guarded.specs.Standing.{live}
-use Rattle.stk_guarded.specs.Statements.{breaking, continuing}
-use Rattle.stk_guarded.specs.Turns.{opened}
-use Rattle.stk_guarded.proofs.Statements.{break_flows, continue_flows, return_flows}
+use Rattle.stk_guarded.specs.Statements.{breaking}
+use Rattle.stk_guarded.proofs.Statements.{break_flows}
 use Rattle.stk_walking.proofs.Carried.{is_made_still, stands_still}
 use Rattle.stk_walking.proofs.jumps.leave_by_break.Goals as goal
 

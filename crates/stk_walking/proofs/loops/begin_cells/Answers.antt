@@ -1,5 +1,4 @@
-use Rattle.std.proofs.Common.{◌≡◌, ℕ, Bool, length, refl, sym, ap, ◌∙◌, subst, arith}
-use Rattle.std.specs.Prelude.{if◌then◌else◌}
+use Rattle.std.proofs.Common.{◌≡◌, length, refl, ap, ◌∙◌, subst, arith}
 use Rattle.stk_tree.specs.View.{view_statement_form}
 use Rattle.stk_meaning.specs.Changes.{forgotten_in}
 use Rattle.stk_meaning.specs.Paths.{KeptNumbers}

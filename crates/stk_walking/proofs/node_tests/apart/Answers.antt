@@ -1,4 +1,4 @@
-use Rattle.std.proofs.Common.{◌≡◌, ℤ, pos, ◌-ℤ◌, subst}
+use Rattle.std.proofs.Common.{ℤ, pos, ◌-ℤ◌, subst}
 use Rattle.std.specs.Prelude.{int_lt}
 use Rattle.stk_ctype.specs.declared.kind.IntKind.TheVariants.{ULong}
 use Rattle.stk_numbers.specs.Kinds.{wrap}

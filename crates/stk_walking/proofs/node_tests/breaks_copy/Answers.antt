@@ -1,4 +1,4 @@
-use Rattle.std.proofs.Common.{◌≡◌, ℤ, pos}
+use Rattle.std.proofs.Common.{pos}
 use Rattle.stk_numbers.specs.Conditions.{apart}
 use Rattle.stk_meaning.specs.Operations.{to_address}
 use Rattle.stk_walking.proofs.node_tests.breaks_copy.Goals as goal

@@ -1,4 +1,4 @@
-use Rattle.std.proofs.Common.{◌≡◌, ℤ, pos}
+use Rattle.std.proofs.Common.{pos}
 use Rattle.stk_walking.proofs.node_tests.breaks_negation.Goals as goal
 
 pub returns-clause-value : goal.returns-clause-value

@@ -1,4 +1,4 @@
-use Rattle.std.proofs.Common.{◌≡◌, ℤ, pos}
+use Rattle.std.proofs.Common.{pos}
 use Rattle.std.specs.Prelude.{int_lt, ◌-ℤ◌}
 use Rattle.stk_numbers.specs.Kinds.{wrap}
 use Rattle.stk_walking.proofs.operations.absolute.Goals as goal

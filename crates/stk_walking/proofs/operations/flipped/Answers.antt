@@ -1,5 +1,4 @@
-use Rattle.std.proofs.Common.{◌≡◌, ℤ, pos, negsuc, ◌-ℤ◌, sym, ap, ◌∙◌, subst}
-use Rattle.stk_ctype.specs.declared.kind.IntKind.{IntKind}
+use Rattle.std.proofs.Common.{ℤ, negsuc, ap, ◌∙◌, subst}
 use Rattle.stk_numbers.specs.Kinds.{wrap, is_bool}
 use Rattle.stk_numbers.proofs.Machine.{shown}
 use Rattle.stk_walking.proofs.Numbers.{difference_wraps, promoted_is_plain}

@@ -1,5 +1,4 @@
-use Rattle.std.proofs.Common.{◌≡◌, ℤ, pos, sym, ap, ◌∙◌, subst}
-use Rattle.stk_ctype.specs.declared.kind.IntKind.{IntKind}
+use Rattle.std.proofs.Common.{ℤ, sym, ap, ◌∙◌, subst}
 use Rattle.stk_numbers.specs.Kinds.{wrap, promote}
 use Rattle.stk_numbers.specs.Values.{shifted}
 use Rattle.stk_walking.proofs.Numbers.{promoted_stays}

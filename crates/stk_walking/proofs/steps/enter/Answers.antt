@@ -1,11 +1,7 @@
-use Rattle.std.proofs.Common.{Bool, List, [], ◌∷◌, ◌++◌, ap, sym, ◌∙◌, subst, true, false}
-use Rattle.std.specs.Prelude.{if◌then◌else◌}
+use Rattle.std.proofs.Common.{[], ◌∷◌, ◌++◌, subst}
 use Rattle.stk_ctype.specs.declared.kind.IntKind.TheVariants.{Int}
 use Rattle.stk_numbers.specs.declared.conditions.CandKind.TheVariants.{Arm}
-use Rattle.stk_meaning.specs.declared.entry.Entry.TheVariants.{Enter}
-use Rattle.stk_meaning.specs.Operations.{bit}
-use Rattle.stk_walking.specs.declared.state.Event.{Event}
-use Rattle.stk_walking.specs.Events.{Live, one_if, hit, events_of}
+use Rattle.stk_walking.specs.Events.{Live, hit, events_of}
 use Rattle.stk_walking.proofs.Carried.{live_more, steps_more, events_entered, events_more}
 use Rattle.stk_walking.proofs.steps.enter.Goals as goal
 

@@ -1,6 +1,5 @@
 use Rattle.std.proofs.Common.{◌&&◌}
 use Rattle.stk_ctype.specs.declared.kind.IntKind.TheVariants.{Int}
-use Rattle.stk_meaning.specs.Operations.{bit}
 use Rattle.stk_walking.proofs.Carried.{live_shown, live_more, steps_made, steps_more, events_more}
 use Rattle.stk_walking.proofs.steps.push_step.Goals as goal
 

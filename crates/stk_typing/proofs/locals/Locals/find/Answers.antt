@@ -1,4 +1,4 @@
-use Rattle.std.proofs.Common.{arith, ◌∙◌, ap, sym, ◌≡◌, Some, map, length}
+use Rattle.std.proofs.Common.{arith, ◌∙◌, ap, sym, Some, map, length}
 use Rattle.std.specs.Prelude.{slice_index_or}
 use Rattle.stk_typing.specs.Locals.{local_of}
 use Rattle.stk_typing.proofs.Found.{at_place, no_place, found_at, found_sound}

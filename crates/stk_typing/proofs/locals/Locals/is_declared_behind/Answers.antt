@@ -1,5 +1,4 @@
 use Rattle.std.proofs.Common.{◌∙◌, ap, sym}
-use Rattle.stk_typing.specs.Places.{place_of}
 use Rattle.stk_typing.proofs.Found.{stands_behind_first, is_behind}
 use Rattle.stk_typing.proofs.locals.Locals.is_declared_behind.Goals as goal
 

@@ -1,4 +1,4 @@
-use Rattle.std.proofs.Common.{◌≡◌, ◌++◌, ◌∷◌, [], ap, ◌∙◌, rules}
+use Rattle.std.proofs.Common.{◌≡◌, ◌++◌, ◌∷◌, [], rules}
 use Rattle.stk_typing.proofs.Found.{pushed_place}
 use Rattle.stk_typing.proofs.locals.Locals.push.Goals as goal
 

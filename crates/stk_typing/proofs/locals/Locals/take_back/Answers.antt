@@ -1,4 +1,3 @@
-use Rattle.std.proofs.Common.{◌≡◌, ◌++◌, ◌∷◌, [], rules}
 use Rattle.stk_typing.proofs.Found.{popped_place}
 use Rattle.stk_typing.proofs.locals.Locals.take_back.Goals as goal
 

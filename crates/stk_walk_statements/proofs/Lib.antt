@@ -1,0 +1,10 @@
+mod Walking
+mod Returning
+mod Saving
+mod Views
+mod Sectioning
+mod Declaring
+mod Sizes
+mod Kinding
+mod Turning
+mod Leading

@@ -1,0 +1,3 @@
+pub mod Walked
+pub mod Saved
+pub mod Selected
