@@ -1,6 +1,6 @@
 //! Reading a unit and declaring what it declares.
 
-ghost use Rattle.std.specs.Prelude.{◌≡◌, ◌≤◌, None, IfOk, IfSome, OnOk, length};
+ghost use Rattle.std.specs.Prelude.{◌≡◌, ◌≤◌, None, IfOk, IfSome, OnErr, OnOk, length};
 ghost use Rattle.stk_base.specs.Limits.{most_bytes};
 ghost use Rattle.stk_tree.specs.Syntax.{UnitTree};
 ghost use Rattle.stk_tree.specs.View.{view_unit};
@@ -96,7 +96,8 @@ fn leave_head(
     names: &mut Names,
 ) -> Result<(), NoMemory>
     requires { length tokens.now ≤ most_bytes }
-    ensures { OnOk result (LeavesHead bytes.now mark names.old tokens.now names.new) }
+    ensures leaves { OnOk result (LeavesHead bytes.now mark names.old tokens.now names.new) }
+    ensures kept { OnErr result (names.new ≡ names.old) }
 {
     let found = head_of(alloc, bytes, tokens, names)?;
     let Some(unit) = &found else {
@@ -119,7 +120,8 @@ fn leave(
     names: &mut Names,
 ) -> Result<(), NoMemory>
     requires { length tokens.now ≤ most_bytes }
-    ensures { OnOk result (Leaves bytes.now mark names.old tokens.now body names.new) }
+    ensures leaves { OnOk result (Leaves bytes.now mark names.old tokens.now body names.new) }
+    ensures kept { OnErr result (names.new ≡ names.old) }
 {
     match body {
         None => Ok(()),
@@ -137,7 +139,7 @@ fn leave(
 /// `Tree` is the unit, which is accepted, and the names are those that it leaves: what a declaration declares, or the
 /// head of a function. `Refused` says why it isn't accepted. The names then stay as they were, but for a unit with a
 /// body: what the tokens before it declare as a declaration holds where that is accepted. The only other answer is want
-/// of memory.
+/// of memory, and the names are then as they were.
 pub fn accept(
     alloc: Global,
     bytes: &[u8],
@@ -147,7 +149,8 @@ pub fn accept(
     names: &mut Names,
 ) -> Result<Accepted, NoMemory>
     requires { length tokens.now ≤ most_bytes }
-    ensures { IfOk result (λ a. IsAnswered bytes.now mark names.old tokens.now body a names.new) }
+    ensures answered { IfOk result (λ a. IsAnswered bytes.now mark names.old tokens.now body a names.new) }
+    ensures kept { OnErr result (names.new ≡ names.old) }
 {
     let Some(unit) = tree_of(alloc, bytes, tokens, names)? else {
         leave(alloc, bytes, mark, tokens, body, names)?;

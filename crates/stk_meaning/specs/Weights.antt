@@ -73,23 +73,10 @@ step_weight w (measure size) = 2048 + 2048 * count_ones size
 abbrev pub greatest_bits : ℕ → ℕ → ℕ → ℕ
 greatest_bits a b c = max a (max b c)
 
-abbrev pub replaced_weight : Option Replaced → ℕ
-replaced_weight None = 0
-replaced_weight (Some found) = 2048
-
--- of a comparison its replacement, where it has one
-abbrev pub comparison_weight : Operation → Option Replaced → ℕ
-comparison_weight (in_kind op k) found = 0
-comparison_weight (shift_in op k) found = 0
-comparison_weight (compare_in op k) found = replaced_weight found
-comparison_weight (move minus size) found = 0
-comparison_weight (move_behind size) found = 0
-comparison_weight (measure size) found = 0
-
 abbrev pub binary_weight : Typing → ℕ → BinarySort → ExprTree → ExprTree → ℕ
 binary_weight ty k (operates op) a b =
     let how = operation_of ty op (type_in ty a) (type_in ty b) in
-    operation_weight (max (greatest_bits (bits_in (type_in ty a)) (bits_in (type_in ty b)) (bits_in (ty.type_at k))) (operation_bits how)) how + comparison_weight how (replacement ty a b)
+    operation_weight (max (greatest_bits (bits_in (type_in ty a)) (bits_in (type_in ty b)) (bits_in (ty.type_at k))) (operation_bits how)) how
 binary_weight ty k joins a b = 0
 binary_weight ty k or_else a b = 32 * greatest_bits (bits_in (type_in ty a)) (bits_in (type_in ty b)) (bits_in (ty.type_at k))
 binary_weight ty k and_also a b = 32 * greatest_bits (bits_in (type_in ty a)) (bits_in (type_in ty b)) (bits_in (ty.type_at k))
@@ -110,12 +97,6 @@ assigned_weight ty (Some op) a b =
     let w = greatest_bits (bits_in (type_in ty a)) (bits_in (type_in ty b)) (operation_bits how) in
     32 * w + operation_weight w how
 
--- a call of the library
-abbrev pub library_weight : Option Library → ℕ
-library_weight None = 0
-library_weight (Some (absolute_in k)) = 48 * width_of k
-library_weight (Some copy_bytes) = 4096
-
 -- what each form adds to its node, evaluated or not
 abbrev pub form_weight : Typing → ℕ → ExprFormTree → ℕ
 form_weight ty k (s.name at) = 0
@@ -124,7 +105,7 @@ form_weight ty k (s.character at) = 0
 form_weight ty k (s.text parts) = 0
 form_weight ty k (s.paren e) = 0
 form_weight ty k (s.index a b) = 2048 + 2048 * count_ones (stride_in ty (type_in ty a))
-form_weight ty k (s.call e es) = library_weight (called_library ty e)
+form_weight ty k (s.call e es) = 0
 form_weight ty k (s.dot e at) = 2048
 form_weight ty k (s.arrow e at) = 2048
 form_weight ty k (s.step op e) =
@@ -156,25 +137,52 @@ store_weight kept w (in_kept q) = 16 * w
 store_weight kept w (in_object o) = 0
 store_weight kept w unnamed = 16 * kept
 
--- what an evaluated form adds for the kept objects
-abbrev pub kept_weight : Setting → ℕ → Role → ExprFormTree → ℕ
-kept_weight g k role (s.name at) = read_weight g.typing k role.use_of (form_target g k (s.name at))
-kept_weight g k role (s.number at) = 0
-kept_weight g k role (s.character at) = 0
-kept_weight g k role (s.text parts) = 0
-kept_weight g k role (s.paren e) = 0
-kept_weight g k role (s.index a b) = 0
-kept_weight g k role (s.call e es) = 16 * length g.kept
-kept_weight g k role (s.dot e at) = 0
-kept_weight g k role (s.arrow e at) = 0
-kept_weight g k role (s.step op e) = store_weight (length g.kept) (bits_in (type_in g.typing e)) (target_of g e)
-kept_weight g k role (s.unary op e) = 0
-kept_weight g k role (s.size_expression e) = 0
-kept_weight g k role (s.size_name t) = 0
-kept_weight g k role (s.cast t e) = 0
-kept_weight g k role (s.binary op a b) = 0
-kept_weight g k role (s.choice a b c) = 0
-kept_weight g k role (s.assign op a b) = store_weight (length g.kept) (bits_in (type_in g.typing a)) (target_of g a)
+-- ---- what is evaluated
+
+-- a comparison that has a replacement
+abbrev pub replaced_weight : Option Replaced → ℕ
+replaced_weight None = 0
+replaced_weight (Some found) = 2048
+
+abbrev pub comparison_weight : Operation → Option Replaced → ℕ
+comparison_weight (in_kind op k) found = 0
+comparison_weight (shift_in op k) found = 0
+comparison_weight (compare_in op k) found = replaced_weight found
+comparison_weight (move minus size) found = 0
+comparison_weight (move_behind size) found = 0
+comparison_weight (measure size) found = 0
+
+abbrev pub compared_weight : Typing → BinarySort → ExprTree → ExprTree → ℕ
+compared_weight ty (operates op) a b = comparison_weight (operation_of ty op (type_in ty a) (type_in ty b)) (replacement ty a b)
+compared_weight ty joins a b = 0
+compared_weight ty or_else a b = 0
+compared_weight ty and_also a b = 0
+
+-- a call of the library
+abbrev pub library_weight : Option Library → ℕ
+library_weight None = 0
+library_weight (Some (absolute_in k)) = 48 * width_of k
+library_weight (Some copy_bytes) = 4096
+
+-- what a form adds only where it is evaluated: for the kept objects, for a call of the library and for a replacement
+abbrev pub evaluated_weight : Setting → ℕ → Role → ExprFormTree → ℕ
+evaluated_weight g k role (s.name at) = read_weight g.typing k role.use_of (form_target g k (s.name at))
+evaluated_weight g k role (s.number at) = 0
+evaluated_weight g k role (s.character at) = 0
+evaluated_weight g k role (s.text parts) = 0
+evaluated_weight g k role (s.paren e) = 0
+evaluated_weight g k role (s.index a b) = 0
+evaluated_weight g k role (s.call e es) = 16 * length g.kept + library_weight (called_library g.typing e)
+evaluated_weight g k role (s.dot e at) = 0
+evaluated_weight g k role (s.arrow e at) = 0
+evaluated_weight g k role (s.step op e) = store_weight (length g.kept) (bits_in (type_in g.typing e)) (target_of g e)
+evaluated_weight g k role (s.unary op e) = 0
+evaluated_weight g k role (s.size_expression e) = 0
+evaluated_weight g k role (s.size_name t) = 0
+evaluated_weight g k role (s.cast t e) = 0
+evaluated_weight g k role (s.binary op a b) = compared_weight g.typing (sort_of op) a b
+evaluated_weight g k role (s.choice a b c) = 0
+evaluated_weight g k role (s.assign op a b) = store_weight (length g.kept) (bits_in (type_in g.typing a)) (target_of g a)
 
 -- ---- declarators and statements
 
@@ -259,7 +267,7 @@ labels_weight (s.then_label l ls) = label_weight l + labels_weight ls
 
 -- what a visit adds to its node
 abbrev pub visit_weight : Setting → Bool → Visit → ℕ
-visit_weight g evaluated (at_expression k role f) = form_weight g.typing k f + (if evaluated then kept_weight g k role f else 0)
+visit_weight g evaluated (at_expression k role f) = form_weight g.typing k f + (if evaluated then evaluated_weight g k role f else 0)
 visit_weight g evaluated (at_declarator k static at init) = if static then 0 else initial_weight g k (g.typing.type_at k) init
 visit_weight g evaluated (at_statement k arm f) = statement_weight g f
 visit_weight g evaluated (at_section k ls) = labels_weight ls

@@ -72,7 +72,8 @@ fn are_true(store: &Store, values: &[bool]) -> bool {
 
 /// What the search answers of these clauses.
 pub(crate) fn answered(alloc: Global, cnf: &Cnf, budget: u32) -> Result<Outcome, NoMemory> {
-    if !cnf.is_within() || cnf.store.count() > 1_000_000 || budget > 200_000 {
+    let small = cnf.vars < 1 << 31 && cnf.store.count() <= 1_000_000 && budget <= 200_000;
+    if !cnf.is_within() || !small {
         return Ok(Outcome::Refused);
     }
     match solve(alloc, cnf, budget)? {

@@ -9,9 +9,6 @@ use std::alloc::Global;
 use stk_base::{Bits, List, NoMemory};
 use stk_clauses::{Cnf, Derivation};
 
-/// Literals are numbers below 2^32, so they name the variables below 2^31.
-const MOST_VARS: u32 = 1 << 31;
-
 /// What a search ends with: values that satisfy the clauses, a derivation that refutes them, or a spent log.
 #[derive(Drop)]
 pub enum Answer {
@@ -25,15 +22,13 @@ pub enum Answer {
 /// `Satisfied` has one value for each variable, and they satisfy every clause. `Refuted` has a derivation of at most
 /// `budget` + 1 steps that refutes the clauses, so a checker accepts it. `Spent` comes only with a spent log of the
 /// budget: exactly `budget` clauses, each by its hints and new, after which one more conflict above level 0 stands.
-/// Lists over 2^31 variables or more, for which no memory would do, are answered `NoMemory`.
+/// Literals are numbers below 2^32, so they name the variables below 2^31.
 pub fn solve(alloc: Global, cnf: &Cnf, budget: u32) -> Result<Answer, NoMemory>
     requires within { All (AreBelow cnf.now.vars) cnf.now.store }
+    requires vars { cnf.now.vars < 2 ^ 31 }
     requires room { length cnf.now.store + budget < 2 ^ 31 - 1 }
     ensures { IfOk result (IsAnswer cnf.now.vars cnf.now.store budget) }
 {
-    if cnf.vars >= MOST_VARS {
-        return Err(NoMemory);
-    }
     let mut search = Search::start(alloc, cnf)?;
     let given = &cnf.store;
     loop {

@@ -26,14 +26,14 @@ load-marked_visits evaluated (both_visits a b) = omega (arith, load-append (mark
 load-marked_visits evaluated (scope ks a) = load-marked_visits evaluated a
 load-marked_visits evaluated (unevaluated a) = load-marked_visits false a
 
-limit_parts : (n k : ℕ) → (256 * n + 138240) * k ≡ 256 * (n * k) + 138240 * k
+limit_parts : (n k : ℕ) → (256 * n + 140288) * k ≡ 256 * (n * k) + 140288 * k
 limit_parts n k = grind arith
 
-together : (w own count limit few l : ℕ) → w ≡ own + 256 * count → own ≤ 138240 * l → count ≤ few → limit ≡ 256 * few + 138240 * l → w ≤ limit
+together : (w own count limit few l : ℕ) → w ≡ own + 256 * count → own ≤ 140288 * l → count ≤ few → limit ≡ 256 * few + 140288 * l → w ≤ limit
 together w own count limit few l e f g h = omega (arith, e, f, g, h)
 
 -- of visits
 pub visits_limited : (g : Setting) (v : Visits) → IsLimited g (marked_visits true v) → visits_weight g true v ≤ visit_limit g * load v
 visits_limited g v h =
-    let own : marked_weight g (marked_visits true v) ≤ 138240 * load v = subst (λ n. marked_weight g (marked_visits true v) ≤ 138240 * n) (load-marked_visits true v) h in
+    let own : marked_weight g (marked_visits true v) ≤ 140288 * load v = subst (λ n. marked_weight g (marked_visits true v) ≤ 140288 * n) (load-marked_visits true v) h in
     together (visits_weight g true v) (marked_weight g (marked_visits true v)) (total (λ r. counts g r v) g.registers) (visit_limit g * load v) (length g.registers * load v) (load v) (weight_parts g true v) own (all_few g v) (limit_parts (length g.registers) (load v))

@@ -36,11 +36,11 @@ marked_load (m ∷ ms) = visit_load m.visit + marked_load ms
 
 -- the most that a visit adds for each of these
 abbrev pub visit_limit : Setting → ℕ
-visit_limit g = 256 * length g.registers + 138240
+visit_limit g = 256 * length g.registers + 140288
 
 -- a visit, and visits, that add no more without the registers that are assigned in branches and loops
 abbrev pub IsMetLimited : Setting → MarkedVisit → Type 0
-IsMetLimited g m = marked_visit_weight g m ≤ 138240 * visit_load m.visit
+IsMetLimited g m = marked_visit_weight g m ≤ 140288 * visit_load m.visit
 
 abbrev pub IsLimited : Setting → List MarkedVisit → Type 0
-IsLimited g ms = marked_weight g ms ≤ 138240 * marked_load ms
+IsLimited g ms = marked_weight g ms ≤ 140288 * marked_load ms

@@ -1,30 +1,24 @@
 //! What the forms of expressions add to the weight of their nodes, evaluated or not.
 
-ghost use Rattle.std.specs.Prelude.{◌≡◌, ◌≤◌, ◌+◌, ◌*◌, ℕ, IfOk, max, count_ones};
+ghost use Rattle.std.specs.Prelude.{◌≡◌, ◌≤◌, ◌+◌, ◌*◌, ℕ, max, count_ones};
 ghost use Rattle.std.specs.Option.{option_map};
 ghost use Rattle.stk_tree.specs.View.{view_expression, view_expression_form};
 ghost use Rattle.stk_function_types.specs.Nodes.{typing_in};
 ghost use Rattle.stk_operators.specs.Shown.{operator_shown, operation_shown};
 ghost use Rattle.stk_meaning.specs.Typings.{type_in, stride_in};
 ghost use Rattle.stk_meaning.specs.Operations.{operates, operation_of, sort_of, step_operation};
-ghost use Rattle.stk_meaning.specs.Replacements.{replacement};
-ghost use Rattle.stk_meaning.specs.Weights.{bits_in, greatest_bits, operation_bits, step_weight, comparison_weight, binary_weight, assigned_weight, form_weight};
+ghost use Rattle.stk_meaning.specs.Weights.{bits_in, greatest_bits, operation_bits, step_weight, binary_weight, assigned_weight, form_weight};
 
 use crate::operations::{
-    bits_in, greater, library_weight, move_weight, operation_bits, operation_weight, step_weight,
-    unary_weight,
+    bits_in, greater, move_weight, operation_bits, operation_weight, step_weight, unary_weight,
 };
-use std::alloc::Global;
-use stk_base::NoMemory;
 use stk_cands::stride_of;
 use stk_ctype::CType;
-use stk_function_env::called_library;
 use stk_function_types::FunctionTypes;
 use stk_numbers::IntKind;
 use stk_operators::{
     BinarySort, Operation, Operator, assigned_operator, operation_of, sort_of, step_operator,
 };
-use stk_replacements::replacement;
 use stk_tree::{BinaryOp, Expr, ExprForm, StepOp};
 
 // The bits of the type of a node.
@@ -52,8 +46,13 @@ fn greatest_bits(types: &FunctionTypes, a: &Expr, b: &Expr, bits: u64) -> u64
     greater(bits_of(types, a), greater(bits_of(types, b), bits))
 }
 
-// What an operator does to operands of the types of two expressions.
-fn operation_between(types: &FunctionTypes, op: Operator, a: &Expr, b: &Expr) -> Operation
+/// What an operator does to operands of the types of two expressions.
+pub(crate) fn operation_between(
+    types: &FunctionTypes,
+    op: Operator,
+    a: &Expr,
+    b: &Expr,
+) -> Operation
     ensures { operation_shown result ≡ operation_of (typing_in types.now) (operator_shown op) (type_in (typing_in types.now) (view_expression a.now)) (type_in (typing_in types.now) (view_expression b.now)) }
 {
     let first = types.type_at(a.node.number);
@@ -82,66 +81,27 @@ fn step_operation(types: &FunctionTypes, op: StepOp, e: &Expr) -> Operation
     )
 }
 
-// What the replacement of a comparison adds, where an operation is one and has a replacement.
-fn comparison_weight(
-    alloc: Global,
-    types: &FunctionTypes,
-    how: &Operation,
-    a: &Expr,
-    b: &Expr,
-) -> Result<u64, NoMemory>
-    ensures is { IfOk result (λ n. n ≡ comparison_weight (operation_shown how.now) (replacement (typing_in types.now) (view_expression a.now) (view_expression b.now))) }
-    ensures few { IfOk result (λ n. n ≤ 2048) }
-{
-    match how {
-        Operation::CompareIn(_, _) => match replacement(alloc, types, a, b)? {
-            None => Ok(0),
-            Some(_) => Ok(2048),
-        },
-        Operation::InKind(_, _)
-        | Operation::ShiftIn(_, _)
-        | Operation::Move(_, _)
-        | Operation::MoveBehind(_)
-        | Operation::Measure(_) => Ok(0),
-    }
-}
-
 // What an operator on two numbers adds, at a node of so many bits.
-fn operator_weight(
-    alloc: Global,
-    types: &FunctionTypes,
-    bits: u64,
-    op: Operator,
-    a: &Expr,
-    b: &Expr,
-) -> Result<u64, NoMemory>
+fn operator_weight(types: &FunctionTypes, bits: u64, op: Operator, a: &Expr, b: &Expr) -> u64
     requires { bits ≤ 64 }
-    ensures is { (k : ℕ) → bits ≡ bits_in ((typing_in types.now).type_at k) → IfOk result (λ n. n ≡ binary_weight (typing_in types.now) k (operates (operator_shown op)) (view_expression a.now) (view_expression b.now)) }
-    ensures few { IfOk result (λ n. n ≤ 135168) }
+    ensures is { (k : ℕ) → bits ≡ bits_in ((typing_in types.now).type_at k) → result ≡ binary_weight (typing_in types.now) k (operates (operator_shown op)) (view_expression a.now) (view_expression b.now) }
+    ensures few { result ≤ 133120 }
 {
     let how = operation_between(types, op, a, b);
     let w = greater(greatest_bits(types, a, b, bits), operation_bits(&how));
-    let replaced = comparison_weight(alloc, types, &how, a, b)?;
-    Ok(operation_weight(w, &how) + replaced)
+    operation_weight(w, &how)
 }
 
 // What a binary operator adds to its node.
-fn binary_weight(
-    alloc: Global,
-    types: &FunctionTypes,
-    node: u32,
-    op: BinaryOp,
-    a: &Expr,
-    b: &Expr,
-) -> Result<u64, NoMemory>
-    ensures is { IfOk result (λ n. n ≡ binary_weight (typing_in types.now) node (sort_of op) (view_expression a.now) (view_expression b.now)) }
-    ensures few { IfOk result (λ n. n ≤ 135168) }
+fn binary_weight(types: &FunctionTypes, node: u32, op: BinaryOp, a: &Expr, b: &Expr) -> u64
+    ensures is { result ≡ binary_weight (typing_in types.now) node (sort_of op) (view_expression a.now) (view_expression b.now) }
+    ensures few { result ≤ 133120 }
 {
     let bits = bits_at(types, node);
     match sort_of(op) {
-        BinarySort::Operates(op) => operator_weight(alloc, types, bits, op, a, b),
-        BinarySort::Joins => Ok(0),
-        BinarySort::OrElse | BinarySort::AndAlso => Ok(32 * greatest_bits(types, a, b, bits)),
+        BinarySort::Operates(op) => operator_weight(types, bits, op, a, b),
+        BinarySort::Joins => 0,
+        BinarySort::OrElse | BinarySort::AndAlso => 32 * greatest_bits(types, a, b, bits),
     }
 }
 
@@ -187,15 +147,10 @@ fn choice_weight(types: &FunctionTypes, bits: u64, a: &Expr, b: &Expr, c: &Expr)
     32 * greater(bits_of(types, a), greatest_bits(types, b, c, bits))
 }
 
-/// What an expression of this form adds to its node.
-pub(crate) fn form_weight(
-    alloc: Global,
-    types: &FunctionTypes,
-    node: u32,
-    f: &ExprForm,
-) -> Result<u64, NoMemory>
-    ensures is { IfOk result (λ n. n ≡ form_weight (typing_in types.now) node (view_expression_form f.now)) }
-    ensures few { IfOk result (λ n. n ≤ 135168) }
+/// What an expression of this form adds to its node, evaluated or not.
+pub(crate) fn form_weight(types: &FunctionTypes, node: u32, f: &ExprForm) -> u64
+    ensures is { result ≡ form_weight (typing_in types.now) node (view_expression_form f.now) }
+    ensures few { result ≤ 135168 }
 {
     match f {
         ExprForm::Name(_)
@@ -203,27 +158,27 @@ pub(crate) fn form_weight(
         | ExprForm::Character(_)
         | ExprForm::Text(_)
         | ExprForm::Paren(_)
+        | ExprForm::Call(_, _)
         | ExprForm::SizeExpr(_)
-        | ExprForm::SizeName(_) => Ok(0),
-        ExprForm::Index(a, _) => Ok(indexed_weight(types, a.get())),
-        ExprForm::Call(callee, _) => Ok(library_weight(called_library(types, callee.get()))),
-        ExprForm::Dot(_, _) | ExprForm::Arrow(_, _) => Ok(2048),
-        ExprForm::Step(op, e) => Ok(stepped_weight(types, *op, e.get())),
+        | ExprForm::SizeName(_) => 0,
+        ExprForm::Index(a, _) => indexed_weight(types, a.get()),
+        ExprForm::Dot(_, _) | ExprForm::Arrow(_, _) => 2048,
+        ExprForm::Step(op, e) => stepped_weight(types, *op, e.get()),
         ExprForm::Unary(op, e) => {
             let w = greater(bits_of(types, e.get()), bits_at(types, node));
-            Ok(unary_weight(w, *op))
+            unary_weight(w, *op)
         }
         ExprForm::Cast(_, e) => {
             let w = greater(bits_of(types, e.get()), bits_at(types, node));
-            Ok(32 * w)
+            32 * w
         }
-        ExprForm::Binary(op, a, b) => binary_weight(alloc, types, node, *op, a.get(), b.get()),
+        ExprForm::Binary(op, a, b) => binary_weight(types, node, *op, a.get(), b.get()),
         ExprForm::Choice(a, b, c) => {
             let bits = bits_at(types, node);
-            Ok(choice_weight(types, bits, a.get(), b.get(), c.get()))
+            choice_weight(types, bits, a.get(), b.get(), c.get())
         }
         ExprForm::Assign(op, a, b) => {
-            Ok(assigned_weight(types, assigned_operator(*op), a.get(), b.get()))
+            assigned_weight(types, assigned_operator(*op), a.get(), b.get())
         }
     }
 }

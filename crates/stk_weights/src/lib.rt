@@ -8,6 +8,7 @@
 #![tactic(auto)]
 
 mod counting;
+mod evaluated;
 mod events;
 mod forms;
 mod objects;

@@ -1,21 +1,21 @@
 //! What kept objects add to the weight of the nodes that read or change them.
 
 ghost use Rattle.std.specs.Prelude.{◌≡◌, ◌≤◌, length};
-ghost use Rattle.stk_tree.specs.View.{view_expression, view_expression_form};
+ghost use Rattle.stk_tree.specs.View.{view_expression};
 ghost use Rattle.stk_function_types.specs.Nodes.{typing_in};
 ghost use Rattle.stk_meaning.specs.Typings.{type_in};
 ghost use Rattle.stk_meaning.specs.Places.{target_of};
-ghost use Rattle.stk_meaning.specs.Weights.{bits_in, read_weight, store_weight, kept_weight};
-ghost use Rattle.stk_function_types.specs.Visits.{role_in, use_in};
+ghost use Rattle.stk_meaning.specs.Weights.{bits_in, read_weight, store_weight};
+ghost use Rattle.stk_function_types.specs.Visits.{use_in};
 ghost use Rattle.stk_function_env.specs.Settings.{setting_in};
 ghost use Rattle.stk_operators.specs.Targets.{target_shown};
 
 use crate::forms::bits_of;
 use crate::operations::bits_in;
 use stk_function_env::Setting;
-use stk_function_types::{FunctionTypes, Role, Use};
+use stk_function_types::{FunctionTypes, Use};
 use stk_operators::Target;
-use stk_tree::{Expr, ExprForm};
+use stk_tree::Expr;
 
 /// How many kept objects there are.
 pub(crate) fn kept_count(setting: &Setting) -> u64
@@ -25,8 +25,8 @@ pub(crate) fn kept_count(setting: &Setting) -> u64
     setting.kept().len() as u64
 }
 
-// What a read of a place that is used so adds at a node.
-fn read_weight(types: &FunctionTypes, node: u32, used: Use, place: Target) -> u64
+/// What a read of a place that is used so adds at a node.
+pub(crate) fn read_weight(types: &FunctionTypes, node: u32, used: Use, place: Target) -> u64
     ensures is { result ≡ read_weight (typing_in types.now) node (use_in used) (target_shown place) }
     ensures few { result ≤ 2048 }
 {
@@ -54,8 +54,8 @@ pub(crate) fn store_weight(kept: u64, w: u64, place: Target) -> u64
     }
 }
 
-// What a store to an expression adds.
-fn stored_weight(setting: &Setting, e: &Expr) -> u64
+/// What a store to an expression adds.
+pub(crate) fn stored_weight(setting: &Setting, e: &Expr) -> u64
     ensures is { result ≡ store_weight (length (setting_in setting.now).kept) (bits_in (type_in (setting_in setting.now).typing (view_expression e.now))) (target_of (setting_in setting.now) (view_expression e.now)) }
     ensures few { result ≤ 1024 }
 {
@@ -64,32 +64,4 @@ fn stored_weight(setting: &Setting, e: &Expr) -> u64
         bits_of(setting.types(), e),
         setting.target_of(e),
     )
-}
-
-/// What an evaluated expression of this form at a node adds for the kept objects.
-pub(crate) fn kept_weight(setting: &Setting, node: u32, role: Role, f: &ExprForm) -> u64
-    ensures is { result ≡ kept_weight (setting_in setting.now) node (role_in role) (view_expression_form f.now) }
-    ensures few { result ≤ 2048 }
-{
-    match f {
-        ExprForm::Name(_) => {
-            let place = setting.form_target(node, f);
-            read_weight(setting.types(), node, role.use_of, place)
-        }
-        ExprForm::Call(_, _) => 16 * kept_count(setting),
-        ExprForm::Step(_, e) | ExprForm::Assign(_, e, _) => stored_weight(setting, e.get()),
-        ExprForm::Number(_)
-        | ExprForm::Character(_)
-        | ExprForm::Text(_)
-        | ExprForm::Paren(_)
-        | ExprForm::Index(_, _)
-        | ExprForm::Dot(_, _)
-        | ExprForm::Arrow(_, _)
-        | ExprForm::Unary(_, _)
-        | ExprForm::SizeExpr(_)
-        | ExprForm::SizeName(_)
-        | ExprForm::Cast(_, _)
-        | ExprForm::Binary(_, _, _)
-        | ExprForm::Choice(_, _, _) => 0,
-    }
 }

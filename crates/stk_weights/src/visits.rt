@@ -11,9 +11,9 @@ ghost use Rattle.stk_weights.specs.Sums.{capped};
 ghost use Rattle.stk_weights.specs.MarkedVisit.{marked_visit_weight, marked_weight};
 ghost use Rattle.stk_weights.specs.Loads.{cases_in, IsMetLimited, IsLimited};
 
+use crate::evaluated::evaluated_weight;
 use crate::forms::form_weight;
 use crate::statements::{initial_weight, labels_weight, statement_weight};
-use crate::storing::kept_weight;
 use std::alloc::Global;
 use stk_base::NoMemory;
 use stk_function_env::Setting;
@@ -30,11 +30,12 @@ fn expression_weight(
     f: &ExprForm,
 ) -> Result<u64, NoMemory>
     ensures is { IfOk result (λ n. n ≡ visit_weight (setting_in setting.now) is_evaluated (at_expression node (role_in role) (view_expression_form f.now))) }
-    ensures few { IfOk result (λ n. n ≤ 137216) }
+    ensures few { IfOk result (λ n. n ≤ 139776) }
 {
-    let own = form_weight(alloc, setting.types(), node, f)?;
+    let own = form_weight(setting.types(), node, f);
     if is_evaluated {
-        Ok(own + kept_weight(setting, node, role, f))
+        let more = evaluated_weight(alloc, setting, node, role, f)?;
+        Ok(own + more)
     } else {
         Ok(own)
     }
@@ -55,7 +56,7 @@ fn declarator_weight(setting: &Setting, node: u32, is_static: bool, init: &Optio
 // What the labels of a section add, or 2^64 - 1 where that is more.
 fn section_weight(list: &[Label]) -> u64
     ensures is { result ≡ capped (labels_weight (labels (map view_label list.now))) }
-    ensures limited { labels_weight (labels (map view_label list.now)) ≤ 138240 * (1 + cases_in (labels (map view_label list.now))) }
+    ensures limited { labels_weight (labels (map view_label list.now)) ≤ 140288 * (1 + cases_in (labels (map view_label list.now))) }
 {
     labels_weight(list)
 }

@@ -9,19 +9,19 @@ use Rattle.stk_accept.specs.Accepting.{LeavesHead, declared_head, no_head, refus
 use Rattle.stk_accept.proofs.Answered.{left_by_answer, refusal_of}
 use Rattle.stk_accept.proofs.accepting.leave_head.Goals as goal
 
-pub returns-in_default : goal.returns-in_default
-returns-in_default c = no_head (c.in_ok-found.ensures.none c.in_default.is)
+pub returns-in_default-clause-leaves : goal.returns-in_default-clause-leaves
+returns-in_default-clause-leaves c = no_head (c.in_ok-found.ensures.none c.in_default.is)
 
-pub returns-in-Ok : goal.returns-in-Ok
-returns-in-Ok c =
+pub returns-in-Ok-clause-leaves : goal.returns-in-Ok-clause-leaves
+returns-in-Ok-clause-leaves c =
     let tree = rw c.in-Some.is at c.in_ok-found.ensures.found in
     let now = c.declare.new.names in
     let given = subst (λ (x : UnitCode). Answers (λ es u. now ≡ es) (unit_declared c.args.bytes.now c.args.mark c.args.names.now (view_unit x)) (Ok tt)) c.get.ensures c.in-Ok.ensures.gives in
     let left = left_by_answer (unit_declared c.args.bytes.now c.args.mark c.args.names.now (view_unit c.in-Some.unit)) now tt given in
     declared_head (view_unit c.in-Some.unit) now left.0 tree left.1
 
-pub returns-in-Err-Rule : goal.returns-in-Err-Rule
-returns-in-Err-Rule c =
+pub returns-in-Err-Rule-clause-leaves : goal.returns-in-Err-Rule-clause-leaves
+returns-in-Err-Rule-clause-leaves c =
     let tree = rw c.in-Some.is at c.in_ok-found.ensures.found in
     let now = c.declare.new.names in
     let outcome = unit_declared c.args.bytes.now c.args.mark c.args.names.now (view_unit c.in-Some.unit) in
