@@ -10,7 +10,7 @@ ghost use Rattle.stk_function_types.specs.Visits.{marked_visit};
 ghost use Rattle.stk_function_types.specs.Gathered.{given, gathered};
 ghost use Rattle.stk_function_env.specs.Settings.{setting_in};
 ghost use Rattle.stk_path_runs.specs.Places.{IsKeyIndex, slot_in};
-ghost use Rattle.stk_path_runs.specs.Rows.{loop_slots, is_loop, form_loops, visit_loops, IsRowOf, AreRowsOf, AddsRows, AreRowPlaces, row_at};
+ghost use Rattle.stk_path_runs.specs.Rows.{loop_slots, forgets_in, is_loop, form_loops, visit_loops, IsRowOf, AreRowsOf, AddsRows, AreRowPlaces, row_at};
 
 use crate::{KeyIndex, Slots};
 use std::alloc::Global;
@@ -35,6 +35,15 @@ pub struct LoopRow {
     pub registers: Vec<LoopSlot>,
     pub each_kept: bool,
     pub kept: Slots,
+}
+
+impl LoopRow {
+    /// Whether the loop may change a kept object, by its position.
+    pub fn forgets(&self, position: usize) -> bool
+        ensures { result ≡ forgets_in self.now position }
+    {
+        self.each_kept || self.kept.get(position).is_some()
+    }
 }
 
 /// The rows of the loops of a function, and for each node the place of its row.

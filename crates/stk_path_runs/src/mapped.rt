@@ -56,18 +56,11 @@ fn set_slots(list: &[LoopSlot], numbers: &[Word], registers: &mut Vec<Word>)
     }
 }
 
-// Whether a row has a kept object as changed.
-fn forgets(row: &LoopRow, position: usize) -> bool
-    ensures { result ≡ forgets_in row.now position }
-{
-    row.each_kept || row.kept.get(position).is_some()
-}
-
 // Forgets what is kept at a position, where a row has it as changed.
 fn forget_one(row: &LoopRow, position: usize, kept: &mut Vec<Option<Word>>)
     ensures { kept.new.items ≡ (if forgets_in row.now position then set kept.old.items position None else kept.old.items) }
 {
-    if forgets(row, position) {
+    if row.forgets(position) {
         put_kept(kept, position, None);
     }
 }

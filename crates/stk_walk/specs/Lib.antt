@@ -1,0 +1,5 @@
+pub mod Validity
+pub mod Located
+pub mod Starting
+pub mod Steps
+pub mod Walks

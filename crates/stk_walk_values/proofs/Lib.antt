@@ -1,0 +1,12 @@
+mod Checking
+mod Naming
+mod Asking
+mod Replacing
+mod Depths
+mod Composing
+mod Forms
+mod Collecting
+mod Taking
+mod Calling
+mod Lasting
+mod Storing

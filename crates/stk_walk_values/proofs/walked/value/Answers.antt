@@ -1,0 +1,7 @@
+use Rattle.stk_walk_values.proofs.walked.value.Goals as goal
+
+pub value-requires-clause-ready : goal.value-requires-clause-ready
+value-requires-clause-ready g c = record { keys = c.requires.keys; values_made = c.requires.made }
+
+pub returns-clause-follows : goal.returns-clause-follows
+returns-clause-follows g c = λ m s served at. c.in_ok-found.ensures.leads m s served tt at
