@@ -45,11 +45,11 @@ weight_few ty w f h limited =
     let visits : load (function_visits ty f) ≤ 2 * function_nodes f = function_few ty f in
     let objects : length (objects_of ty w f) ≤ 3 * function_nodes f = objects_few ty w f in
     let kept = (setting_of ty w f).kept in
-    let most = product_few (visit_limit (setting_of ty w f)) (load (function_visits ty f)) 15498240 40000 (omega (arith, h, registers)) (omega (arith, h, visits)) in
+    let most = product_few (visit_limit (setting_of ty w f)) (load (function_visits ty f)) 15500288 40000 (omega (arith, h, registers)) (omega (arith, h, visits)) in
     let squares = product_few (length (objects_of ty w f)) (length (objects_of ty w f)) 60000 60000 (omega (arith, h, objects)) (omega (arith, h, objects)) in
     below (function_nodes f) (visits_weight (setting_of ty w f) true (function_visits ty f)) (length (objects_of ty w f)) (pairs_among kept (objects_of ty w f)) h (omega (arith, limited, most)) (omega (arith, h, objects)) (omega (arith, pairs_few kept (objects_of ty w f), squares))
   where
-    below : (k v n p : ℕ) → k ≤ 20000 → v ≤ 15498240 * 40000 → n ≤ 60000 → p ≤ 60000 * 60000 → 128 * (k + 1) + v + 2048 * n + 2048 * p ≤ 2 ^ 63
+    below : (k v n p : ℕ) → k ≤ 20000 → v ≤ 15500288 * 40000 → n ≤ 60000 → p ≤ 60000 * 60000 → 128 * (k + 1) + v + 2048 * n + 2048 * p ≤ 2 ^ 63
     below k v n p a b c d = omega (arith, a, b, c, d)
 
 pub exactly : (a b : ℕ) → a ≡ capped b → b ≤ 2 ^ 63 → a ≡ b

@@ -1,0 +1,6 @@
+//! Laws of lawful reports: what a report shows of its set of conditions.
+#![tactic(auto)]
+
+mod reports;
+
+pub use reports::reports_show_their_sets;
