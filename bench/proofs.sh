@@ -44,7 +44,7 @@ fn again(alloc: Global, clauses: &[u8]) -> Result<Vec<u8>, Text> {
 /// The derivation that refutes the clauses; `satisfied`, or `spent`.
 fn refutation(alloc: Global, clauses: &[u8]) -> Result<Vec<u8>, Text> {
     let cnf = read_dimacs(alloc, clauses)?;
-    if cnf.store.count() > 1_000_000 || !cnf.is_within() {
+    if cnf.vars >= 1 << 31 || cnf.store.count() > 1_000_000 || !cnf.is_within() {
         return Err(Text::NoMemory);
     }
     match solve(alloc, &cnf, BUDGET)? {
