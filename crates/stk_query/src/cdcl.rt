@@ -65,12 +65,9 @@ impl Decider for Cdcl {
         ensures tried { sum terms.now.inputs ≤ 16 → IsNever terms.now goal.0 → IfOk result (λ v. v ≡ Verdict.Tried) }
         ensures rose { IfOk result (λ v. is_undecided v ≡ true → Rose self.old self.new) }
         ensures later { self.old ≤ self.new }
-        ensures below { self.new < 2 ^ 64 }
         ensures counts { IfOk result (λ v. self.new ≡ (if is_undecided v then one_more self.old else self.old)) }
         ensures kept { OnErr result (self.new ≡ self.old) }
     {
-        // For the prover: the count keeps its range.
-        let _ = self.given_up;
         if are_few(terms) {
             let verdict = tried(self.alloc, terms, goal)?;
             return Ok(verdict);

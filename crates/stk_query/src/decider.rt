@@ -16,7 +16,8 @@ pub const MOST_BUDGET: u32 = 200_000;
 
 /// Decides goals. A contract sees how many it gave up.
 pub trait Decider {
-    /// How many goals were given up, a number below 2^64 that doesn't fall, and stays at its last value.
+    /// How many goals were given up, a number that doesn't fall. A decider that counts in a u64 stays at its last
+    /// value.
     ghost given_up: { Self → ℕ };
 
     /// Whether some inputs of the terms make the goal 1, a term of width 1 of which no part is the left side of a
@@ -40,6 +41,5 @@ pub trait Decider {
         ensures no { IfOk result (λ v. is_no v ≡ true → IsNever terms.now goal.0) }
         ensures tried { sum terms.now.inputs ≤ 16 → IsNever terms.now goal.0 → IfOk result (λ v. v ≡ Verdict.Tried) }
         ensures rose { IfOk result (λ v. is_undecided v ≡ true → Rose (given_up self.old) (given_up self.new)) }
-        ensures later { given_up self.old ≤ given_up self.new }
-        ensures below { given_up self.new < 2 ^ 64 };
+        ensures later { given_up self.old ≤ given_up self.new };
 }
