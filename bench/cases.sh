@@ -1,8 +1,8 @@
 #!/bin/bash
 # Compares what the checker writes, and its status, with files that say what it is (bench/cases/README.md).
 #   bash bench/cases.sh [PROGRAM [FOLDER..]]
-# PROGRAM is ./stack where none is named, and the FOLDERs of bench/cases are judged, rules, skipped, weights and words
-# where none is named. Each FILE.c of a folder is given on standard input, with the words in FILE.words where that
+# PROGRAM is ./stack where none is named, and the FOLDERs of bench/cases are judged, rules, skipped, weights, words and
+# wide where none is named. Each FILE.c of a folder is given on standard input, with the words in FILE.words where that
 # stands; the output is compared with FILE.records, and the status with FILE.status. Of the folder `wide` the numbers
 # of starts become `_` before. It prints the first lines that differ and ends with `N passed, M failed`, and with
 # status 1 where one failed or none passed.
@@ -10,7 +10,7 @@ set -eu
 top=$(cd "$(dirname "${BASH_SOURCE[0]}")/.." && pwd)
 program=${1:-$top/stack}
 [ $# -lt 1 ] || shift
-[ $# -gt 0 ] || set -- judged rules skipped weights words
+[ $# -gt 0 ] || set -- judged rules skipped weights words wide
 case $program in */*) program=$(realpath "$program") ;; esac
 for folder in "$@"; do
     if ! ls "$top/bench/cases/$folder"/*.records >/dev/null 2>&1; then

@@ -1,5 +1,5 @@
--- Where all maps are tried and each query has a first answer or none, each candidate has a lawful finding.
-use Rattle.std.proofs.Common.{◌≡◌, true, List, [], ◌∷◌, ◌++◌, ℤ, sym, subst, append_assoc}
+-- Where each query has a first answer or none, each candidate has a lawful finding.
+use Rattle.std.proofs.Common.{Bool, true, false, List, [], ◌∷◌, ◌++◌, ℤ, sym, subst, append_assoc}
 use Rattle.stk_numbers.specs.declared.conditions.Candidate.{Candidate}
 use Rattle.stk_numbers.specs.declared.conditions.Condition.{Condition}
 use Rattle.stk_meaning.specs.declared.finding.Finding.{Finding}
@@ -12,16 +12,20 @@ pub data FirstOrNone (q : Subject) (c : Candidate) (set : List Condition) : Type
   an_answer : (start : List ℤ) → IsFirstAnswer q c set start → FirstOrNone q c set
   no_answer : NoAnswer q c set → FirstOrNone q c set
 
--- What a subject needs for each candidate to have a finding: all maps are tried, each query has a first answer or none,
--- and for a candidate that is unstable a set that suffices in the runs suffices.
+-- What a subject needs for each candidate to have a finding: each query has a first answer or none, and for a candidate
+-- that is unstable a set that suffices in the runs suffices.
 pub record IsDecided (q : Subject) : Type 0 where
-  pub all : q.tries_all ≡ true
   pub asked : (c : Candidate) (set : List Condition) → FirstOrNone q c set
   pub suffices : (c : Candidate) (set : List Condition) → IsUnstable q c → NoAnswer q c set → q.Suffices c set
 
 module _ (q : Subject) (d : IsDecided q) (c : Candidate) where
+  -- the first answer may be printed, whether all maps are tried or not
+  printed_by : (all : Bool) (set : List Condition) (start : List ℤ) → IsFirstAnswer q c set start → IsPrintedOf q c all set start
+  printed_by true set start a = a
+  printed_by false set start a = a.answers
+
   printed : (set : List Condition) (start : List ℤ) → IsFirstAnswer q c set start → IsPrinted q c set start
-  printed set start a = subst (λ b. IsPrintedOf q c b set start) (sym d.all) a
+  printed set start a = printed_by q.tries_all set start a
 
   -- the members of a set that is minimal by deletion and suffices in the runs
   record AreNeeds (below rest : List Condition) : Type 0 where

@@ -7,16 +7,15 @@ ghost use Rattle.stk_tree.specs.Nodes.{unit_nodes};
 ghost use Rattle.stk_numbers.specs.declared.conditions.Candidate.{Candidate};
 ghost use Rattle.stk_numbers.specs.declared.conditions.Kinds.{Kinds};
 ghost use Rattle.stk_meaning.specs.Typings.{Typing};
-ghost use Rattle.stk_meaning.specs.Keys.{keys_of, input_bits};
 ghost use Rattle.stk_meaning.specs.Lists.{candidates};
 ghost use Rattle.stk_meaning.specs.declared.finding.Finding.{Finding};
 ghost use Rattle.stk_meaning.specs.Findings.{AreLawful};
 ghost use Rattle.stk_judge.specs.PathSubjects.{path_subject};
 
-/// Each candidate of a function of at most 16 input bits has a lawful finding by the function's path runs: there are
-/// finitely many input maps, so each query has a first answer or none.
+/// Each candidate of a function has a lawful finding by the function's path runs, whatever the number of its input
+/// bits: there are finitely many input maps, so each query has a first answer or none.
 pub fn each_candidate_has_a_finding()
-    ensures { (ty : Typing) → (without : Kinds) → (f : FunctionTree) → input_bits (keys_of ty without f) ≤ 16 → (cs : List Candidate) → (xs : List Finding) × AreLawful (path_subject ty without f) cs xs }
+    ensures { (ty : Typing) → (without : Kinds) → (f : FunctionTree) → (cs : List Candidate) → (xs : List Finding) × AreLawful (path_subject ty without f) cs xs }
 {}
 
 /// A function has at most four candidates for each node of its unit: an expression may be a branch, and be seen true,

@@ -1,3 +1,4 @@
 pub mod Units
 mod Going
 mod Complete
+mod Budget

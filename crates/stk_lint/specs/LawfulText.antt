@@ -15,6 +15,7 @@ use Rattle.stk_records.specs.declared.counts.Counts.{Counts}
 use Rattle.stk_records.specs.declared.line.Line.{Line}
 use Rattle.stk_records.specs.Counts.{nothing_counted, counts_sum}
 use Rattle.stk_unit_lines.specs.UnitLines.{IsUnitLines}
+use Rattle.stk_unit_lines.specs.Marks.{lines_marks}
 use Rattle.stk_lint.specs.Form.{written_lines, written_summary}
 
 -- the status where so many candidates are unstable, and so many undecided
@@ -22,13 +23,6 @@ abbrev pub status_of : ℕ → ℕ → Status
 status_of zero zero = Stable
 status_of zero (suc m) = Unsure
 status_of (suc n) m = Found
-
--- what is written of a unit of these tokens, what it counts for, and the names that it leaves in force, where these are
--- in force before it: lawful lines in the form that the options ask for
-pub record IsUnitText (bytes : List ℕ) (o : Options) (mark : Bool) (es : List NameEntry) (body : Option ℕ) (tokens : List Token) (text : List ℕ) (counts : Counts) (now : List NameEntry) : Type 0 where
-  pub lines : List Line
-  pub are : IsUnitLines bytes o.without mark es body tokens lines counts now
-  pub same_text : text ≡ written_lines o.json lines
 
 -- the tokens of a unit, among those of its file
 abbrev pub tokens_of_piece : List Token → Piece → List Token
@@ -38,22 +32,24 @@ tokens_of_piece tokens p = take (p.to - p.from) (drop p.from tokens)
 abbrev pub body_of_piece : Piece → Option ℕ
 body_of_piece p = option_map (λ at. at - p.from) p.body
 
--- what is written of units, one after the other, each under the names that those before it leave, and their counts
+-- the lawful lines of units, one after the other, each under the names that those before it leave, and their counts
 -- together
-pub data AreUnitTexts (bytes : List ℕ) (o : Options) (tokens : List Token) : List NameEntry → List Piece → List ℕ → Counts → Type 0 where
-  no_unit : {es : List NameEntry} → AreUnitTexts bytes o tokens es [] [] nothing_counted
-  then_unit : {es now : List NameEntry} {p : Piece} {ps : List Piece} {text others : List ℕ} {counts more : Counts} → IsUnitText bytes o p.no_return es (body_of_piece p) (tokens_of_piece tokens p) text counts now
-      → AreUnitTexts bytes o tokens now ps others more → AreUnitTexts bytes o tokens es (p ∷ ps) (text ++ others) (counts_sum counts more)
+pub data AreUnitsLines (bytes : List ℕ) (o : Options) (tokens : List Token) : List NameEntry → List Piece → List Line → Counts → Type 0 where
+  no_unit : {es : List NameEntry} → AreUnitsLines bytes o tokens es [] [] nothing_counted
+  then_unit : {es now : List NameEntry} {p : Piece} {ps : List Piece} {lines others : List Line} {counts more : Counts} → IsUnitLines bytes o.without o.budget p.no_return es (body_of_piece p) (tokens_of_piece tokens p) lines counts now
+      → AreUnitsLines bytes o tokens now ps others more → AreUnitsLines bytes o tokens es (p ∷ ps) (lines ++ others) (counts_sum counts more)
 
 -- ---- the text
 
--- A lawful text of these bytes under these options, and the status that goes with it: what is written of each unit of
--- the bytes, in order, with no names in force before the first, and then the summary with their counts.
-pub record IsLawfulText (bytes : List ℕ) (o : Options) (text : List ℕ) (status : Status) : Type 0 where
+-- A lawful text of these bytes under these options, the status that goes with it, and how often it says that a query was
+-- given up: in the form that the options ask for, the lawful lines of each unit of the bytes, in order, with no names in
+-- force before the first, and then the summary with their counts.
+pub record IsLawfulText (bytes : List ℕ) (o : Options) (text : List ℕ) (status : Status) (marks : ℕ) : Type 0 where
   pub tokens : List Token
   pub cut : IsCut bytes tokens
-  pub lines : List ℕ
+  pub lines : List Line
   pub counts : Counts
-  pub units : AreUnitTexts bytes o (kept_tokens bytes tokens) [] (units_of bytes (kept_tokens bytes tokens) (notes_of bytes tokens)) lines counts
-  pub same_text : text ≡ lines ++ written_summary o.json o.without counts
+  pub units : AreUnitsLines bytes o (kept_tokens bytes tokens) [] (units_of bytes (kept_tokens bytes tokens) (notes_of bytes tokens)) lines counts
+  pub same_text : text ≡ written_lines o.json lines ++ written_summary o.json o.without counts
   pub same_status : status ≡ status_of counts.unstable counts.undecided
+  pub same_marks : marks ≡ lines_marks lines

@@ -13,6 +13,7 @@ use Rattle.stk_records.specs.declared.options.Options.{Options}
 use Rattle.stk_records.specs.Words.{AreLegal}
 use Rattle.stk_lint.specs.declared.lint.Stop.{Stop}
 use Rattle.stk_lint.specs.declared.lint.Stop.TheVariants as stops
+use Rattle.stk_spent_queries.specs.Marks.{AreCounted}
 use Rattle.stk_lint.specs.LawfulText.{IsLawfulText}
 
 -- the records were written: the run ended stable, or found something, or is unsure
@@ -46,16 +47,19 @@ pub record IsLegal (words : List (List ℕ)) : Type 0 where
   pub are : AreLegal words options
 
 -- The source was read to its end, and the sink took a text that is lawful for its bytes and the options that the words
--- ask for, with this status, and was flushed. The bytes are those that the source had left, where it tells them.
-pub record HasWritten (words : List (List ℕ)) (left_before left_after taken_before taken_after : Option (List ℕ)) (flushed : ℕ) (status : Status) : Type 0 where
+-- ask for, with this status, and was flushed. The bytes are those that the source had left, where it tells them. A count
+-- of goals that were given up tells of what the text says is undecided or open.
+pub record HasWritten (words : List (List ℕ)) (left_before left_after taken_before taken_after : Option (List ℕ)) (flushed given_before given_after : ℕ) (status : Status) : Type 0 where
   pub options : Options
   pub legal : AreLegal words options
   pub bytes : List ℕ
   pub text : List ℕ
-  pub lawful : IsLawfulText bytes options text status
+  pub marks : ℕ
+  pub lawful : IsLawfulText bytes options text status marks
   pub read : (left : List ℕ) → left_before ≡ Some left → (bytes ≡ left) × (left_after ≡ Some [])
   pub written : Appended taken_before taken_after text
   pub flush : IsFlushed taken_after flushed
+  pub counted : AreCounted given_before given_after marks
 
 -- The source was read to its end, and the sink took some prefix of a text that is lawful for its bytes and the options.
 pub record HasWrittenPrefix (words : List (List ℕ)) (left_before left_after taken_before taken_after : Option (List ℕ)) : Type 0 where
@@ -64,7 +68,8 @@ pub record HasWrittenPrefix (words : List (List ℕ)) (left_before left_after ta
   pub bytes : List ℕ
   pub text : List ℕ
   pub status : Status
-  pub lawful : IsLawfulText bytes options text status
+  pub marks : ℕ
+  pub lawful : IsLawfulText bytes options text status marks
   pub read : (left : List ℕ) → left_before ≡ Some left → (bytes ≡ left) × (left_after ≡ Some [])
   pub written : AppendedPrefix taken_before taken_after text
 
@@ -92,14 +97,17 @@ status_after (Err stops.WriteFault) = WriteFault
 status_after (Err stops.NoMemory) = NoMemory
 
 -- the same of one sink and bytes that are given
-pub record TookText (bytes : List ℕ) (o : Options) (taken_before taken_after : Option (List ℕ)) (flushed : ℕ) (status : Status) : Type 0 where
+pub record TookText (bytes : List ℕ) (o : Options) (taken_before taken_after : Option (List ℕ)) (flushed given_before given_after : ℕ) (status : Status) : Type 0 where
   pub text : List ℕ
-  pub lawful : IsLawfulText bytes o text status
+  pub marks : ℕ
+  pub lawful : IsLawfulText bytes o text status marks
   pub written : Appended taken_before taken_after text
   pub flush : IsFlushed taken_after flushed
+  pub counted : AreCounted given_before given_after marks
 
 pub record TookPrefix (bytes : List ℕ) (o : Options) (taken_before taken_after : Option (List ℕ)) : Type 0 where
   pub text : List ℕ
   pub status : Status
-  pub lawful : IsLawfulText bytes o text status
+  pub marks : ℕ
+  pub lawful : IsLawfulText bytes o text status marks
   pub written : AppendedPrefix taken_before taken_after text

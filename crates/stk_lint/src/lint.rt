@@ -12,14 +12,16 @@ ghost use Rattle.stk_lint.specs.LawfulText.{body_of_piece, status_of, tokens_of_
 ghost use Rattle.stk_lint.specs.Judged.{WroteUnit, WroteUnitPrefix, WroteUnits, WroteUnitsPrefix};
 ghost use Rattle.stk_lint.specs.Lint.{IsWritten, IsUnread, IsLegal, fault_line, HasWritten, HasWrittenPrefix, IsSkimmedFrom, AreUnitsOf, TookText, TookPrefix, status_after};
 
-use crate::writing::{summary_text, unit_text};
+use crate::writing::{summary_text, text_of};
 use std::alloc::Global;
 use stk_base::{
     Failed, List, MOST_BYTES, NoMemory, ReadAll, Sink, Source, Status, read_all, write_all,
 };
 use stk_ctype::Names;
 use stk_lex::{Piece, Places, Skimmed, Token, cut, lex, skim};
+use stk_query::{Decider, MOST_BUDGET};
 use stk_records::{Counts, Options, WordsFault, words as options_of};
+use stk_unit_lines::unit_lines;
 
 // The status of a refusal to read.
 fn refused(refusal: ReadAll) -> Status
@@ -103,7 +105,7 @@ fn cut_into_units(alloc: Global, bytes: &[u8]) -> Result<Units, NoMemory>
 }
 
 // Judges a unit and writes its records. The answer is what it counts for.
-fn write_unit<K: Sink>(
+fn write_unit<K: Sink, D: Decider>(
     alloc: Global,
     input: &Places,
     options: Options,
@@ -111,25 +113,24 @@ fn write_unit<K: Sink>(
     tokens: &[Token],
     names: &mut Names,
     out: &mut K,
+    decider: &mut D,
 ) -> Result<Counts, Stop>
     requires some { 0 < length tokens.now }
     requires few { length tokens.now ≤ most_bytes }
     requires names { AreOrderly names.old }
-    ensures written { IfOk result (λ counts. WroteUnit input.now options piece.no_return names.old (body_of_piece piece) tokens.now (K.taken out.old) (K.taken out.new) counts names.new) }
+    requires least { 1 ≤ options.budget }
+    requires most { options.budget ≤ MOST_BUDGET }
+    ensures written { IfOk result (λ counts. WroteUnit input.now options piece.no_return names.old (body_of_piece piece) tokens.now (K.taken out.old) (K.taken out.new) (D.given_up decider.old) (D.given_up decider.new) counts names.new) }
     ensures prefix { OnErr result (WroteUnitPrefix input.now options piece.no_return names.old (body_of_piece piece) tokens.now (K.taken out.old) (K.taken out.new)) }
     ensures later { K.faults out.old ≤ K.faults out.new }
     ensures fault { result ≡ Err Stop.WriteFault → Rose (K.faults out.old) (K.faults out.new) }
+    ensures given_up { D.given_up decider.old ≤ D.given_up decider.new }
 {
-    let unit = unit_text(
-        alloc,
-        input,
-        options,
-        piece.no_return,
-        body_of_piece(piece),
-        tokens,
-        names,
-    )?;
-    write_all(out, unit.text.as_slice())?;
+    let body = body_of_piece(piece);
+    let mark = piece.no_return;
+    let unit = unit_lines(alloc, input, options, mark, body, tokens, names, decider)?;
+    let text = text_of(alloc, options.json, unit.lines.as_slice())?;
+    write_all(out, text.as_slice())?;
     Ok(unit.counts)
 }
 
@@ -154,17 +155,20 @@ fn tokens_of(tokens: &[Token], piece: Piece) -> &[Token]
 }
 
 // Judges units and writes their records, one after the other. The answer is what they count for together.
-fn write_units<K: Sink>(
+fn write_units<K: Sink, D: Decider>(
     alloc: Global,
     input: &Places,
     options: Options,
     tokens: &[Token],
     pieces: &[Piece],
     out: &mut K,
+    decider: &mut D,
 ) -> Result<Counts, Stop>
     requires few { length tokens.now ≤ most_bytes }
     requires joined { AreJoined 0 (length tokens.now) pieces.now }
-    ensures written { IfOk result (WroteUnits input.now options tokens.now pieces.now (K.taken out.old) (K.taken out.new)) }
+    requires least { 1 ≤ options.budget }
+    requires most { options.budget ≤ MOST_BUDGET }
+    ensures written { IfOk result (WroteUnits input.now options tokens.now pieces.now (K.taken out.old) (K.taken out.new) (D.given_up decider.old) (D.given_up decider.new)) }
     ensures prefix { OnErr result (WroteUnitsPrefix input.now options tokens.now pieces.now (K.taken out.old) (K.taken out.new)) }
     ensures later { K.faults out.old ≤ K.faults out.new }
     ensures fault { result ≡ Err Stop.WriteFault → Rose (K.faults out.old) (K.faults out.new) }
@@ -173,7 +177,9 @@ fn write_units<K: Sink>(
     let mut counts = Counts::nothing();
     for piece in pieces {
         let unit = tokens_of(tokens, *piece);
-        let counted = write_unit(alloc, input, options, *piece, unit, &mut names, out)?;
+        let counted = write_unit(
+            alloc, input, options, *piece, unit, &mut names, out, decider,
+        )?;
         counts = counts.plus(counted);
     }
     Ok(counts)
@@ -206,17 +212,20 @@ fn status_of(unstable: u64, undecided: u64) -> Status
 }
 
 // Writes the records of units and the summary, and flushes them.
-fn write_text<K: Sink>(
+fn write_text<K: Sink, D: Decider>(
     alloc: Global,
     input: &Places,
     options: Options,
     units: &Units,
     out: &mut K,
+    decider: &mut D,
 ) -> Result<Status, Stop>
     requires are { AreUnitsOf input.now units.now.tokens units.now.pieces.items }
     requires joined { AreJoined 0 (length units.now.tokens) units.now.pieces.items }
     requires few { length units.now.tokens ≤ most_bytes }
-    ensures text { IfOk result (TookText input.now options (K.taken out.old) (K.taken out.new) (K.flushed out.new)) }
+    requires least { 1 ≤ options.budget }
+    requires most { options.budget ≤ MOST_BUDGET }
+    ensures text { IfOk result (TookText input.now options (K.taken out.old) (K.taken out.new) (K.flushed out.new) (D.given_up decider.old) (D.given_up decider.new)) }
     ensures prefix { OnErr result (TookPrefix input.now options (K.taken out.old) (K.taken out.new)) }
     ensures fault { result ≡ Err Stop.WriteFault → Rose (K.faults out.old) (K.faults out.new) }
 {
@@ -227,6 +236,7 @@ fn write_text<K: Sink>(
         units.tokens.as_slice(),
         units.pieces.as_slice(),
         out,
+        decider,
     )?;
     finish(alloc, options, counts, out)?;
     Ok(status_of(counts.unstable, counts.undecided))
@@ -257,10 +267,18 @@ fn ended(written: Result<Status, Stop>) -> Status
 }
 
 // Judges what was read, writes its records and flushes them.
-fn answer<K: Sink>(alloc: Global, bytes: &[u8], options: Options, out: &mut K) -> Status
-    requires { length bytes.now ≤ most_bytes }
+fn answer<K: Sink, D: Decider>(
+    alloc: Global,
+    bytes: &[u8],
+    options: Options,
+    out: &mut K,
+    decider: &mut D,
+) -> Status
+    requires few { length bytes.now ≤ most_bytes }
+    requires least { 1 ≤ options.budget }
+    requires most { options.budget ≤ MOST_BUDGET }
     ensures only { IsWritten result ⊎ ((result ≡ Status.WriteFault) ⊎ (result ≡ Status.NoMemory)) }
-    ensures text { IsWritten result → TookText bytes.now options (K.taken out.old) (K.taken out.new) (K.flushed out.new) result }
+    ensures text { IsWritten result → TookText bytes.now options (K.taken out.old) (K.taken out.new) (K.flushed out.new) (D.given_up decider.old) (D.given_up decider.new) result }
     ensures prefix { result ≡ Status.WriteFault → TookPrefix bytes.now options (K.taken out.old) (K.taken out.new) }
     ensures no_memory { result ≡ Status.NoMemory → (K.taken out.new ≡ K.taken out.old) ⊎ TookPrefix bytes.now options (K.taken out.old) (K.taken out.new) }
     ensures fault { result ≡ Status.WriteFault → Rose (K.faults out.old) (K.faults out.new) }
@@ -268,13 +286,19 @@ fn answer<K: Sink>(alloc: Global, bytes: &[u8], options: Options, out: &mut K) -
     let Ok((units, input)) = prepared(alloc, bytes) else {
         return Status::NoMemory;
     };
-    let written = write_text(alloc, &input, options, &units, out);
+    let written = write_text(alloc, &input, options, &units, out, decider);
     ended(written)
 }
 
 // Reads the input, judges it and writes its records.
-fn run<S: Source, K: Sink>(alloc: Global, words: &[String], source: &mut S, out: &mut K) -> Status
-    ensures written { IsWritten result → HasWritten (map string_bytes words.now) (S.left source.old) (S.left source.new) (K.taken out.old) (K.taken out.new) (K.flushed out.new) result }
+fn run<S: Source, K: Sink, D: Decider>(
+    alloc: Global,
+    words: &[String],
+    source: &mut S,
+    out: &mut K,
+    decider: &mut D,
+) -> Status
+    ensures written { IsWritten result → HasWritten (map string_bytes words.now) (S.left source.old) (S.left source.new) (K.taken out.old) (K.taken out.new) (K.flushed out.new) (D.given_up decider.old) (D.given_up decider.new) result }
     ensures prefix { result ≡ Status.WriteFault → HasWrittenPrefix (map string_bytes words.now) (S.left source.old) (S.left source.new) (K.taken out.old) (K.taken out.new) }
     ensures nothing { IsUnread result → (K.taken out.new ≡ K.taken out.old) × (K.flushed out.new ≡ K.flushed out.old) }
     ensures no_memory { result ≡ Status.NoMemory → (K.taken out.new ≡ K.taken out.old) ⊎ HasWrittenPrefix (map string_bytes words.now) (S.left source.old) (S.left source.new) (K.taken out.old) (K.taken out.new) }
@@ -291,7 +315,7 @@ fn run<S: Source, K: Sink>(alloc: Global, words: &[String], source: &mut S, out:
         Err(WordsFault::Bad) => return Status::BadWords,
     };
     match read_all(alloc, source, MOST_BYTES) {
-        Ok(bytes) => answer(alloc, bytes.as_slice(), options, out),
+        Ok(bytes) => answer(alloc, bytes.as_slice(), options, out, decider),
         Err(refusal) => refused(refusal),
     }
 }
@@ -323,7 +347,9 @@ fn tell<E: Sink>(fault: &mut E, status: Status)
 ///
 /// - `Stable`, `Found` and `Unsure`: the source was read to its end, and the sink took a text that is lawful for its
 ///   bytes and the options, and was flushed; `Found` where at least one candidate is unstable, `Unsure` where none is
-///   and at least one is undecided.
+///   and at least one is undecided. What the text says is undecided or open is at most as much as the count of goals
+///   that the decider gave up rose by, or that stands at the last value of a u64; and it is nothing where it didn't
+///   rise.
 /// - `BadWords`: exactly where the words aren't legal. The source is unread.
 /// - `ReadFault`: only where the source counted a fault, and after every other answer it counted none.
 /// - `TooLarge`: exactly where more than 16,777,216 bytes came before the end and before any failed call.
@@ -332,14 +358,15 @@ fn tell<E: Sink>(fault: &mut E, status: Status)
 ///
 /// After `BadWords`, `ReadFault` and `TooLarge` the sink took nothing. Where the third sink counted no fault, it took
 /// exactly the line of the failure, and nothing where the records are written; a fault of it changes nothing else.
-pub fn lint_main<S: Source, K: Sink, E: Sink>(
+pub fn lint_main<S: Source, K: Sink, E: Sink, D: Decider>(
     alloc: Global,
     words: &[String],
     source: &mut S,
     out: &mut K,
     fault: &mut E,
+    decider: &mut D,
 ) -> Status
-    ensures written { IsWritten result → HasWritten (map string_bytes words.now) (S.left source.old) (S.left source.new) (K.taken out.old) (K.taken out.new) (K.flushed out.new) result }
+    ensures written { IsWritten result → HasWritten (map string_bytes words.now) (S.left source.old) (S.left source.new) (K.taken out.old) (K.taken out.new) (K.flushed out.new) (D.given_up decider.old) (D.given_up decider.new) result }
     ensures prefix { result ≡ Status.WriteFault → HasWrittenPrefix (map string_bytes words.now) (S.left source.old) (S.left source.new) (K.taken out.old) (K.taken out.new) }
     ensures nothing { IsUnread result → (K.taken out.new ≡ K.taken out.old) × (K.flushed out.new ≡ K.flushed out.old) }
     ensures no_memory { result ≡ Status.NoMemory → (K.taken out.new ≡ K.taken out.old) ⊎ HasWrittenPrefix (map string_bytes words.now) (S.left source.old) (S.left source.new) (K.taken out.old) (K.taken out.new) }
@@ -361,7 +388,7 @@ pub fn lint_main<S: Source, K: Sink, E: Sink>(
     // The line of a failure.
     ensures line { ¬ Rose (E.faults fault.old) (E.faults fault.new) → Appended (E.taken fault.old) (E.taken fault.new) (fault_line result) }
 {
-    let status = run(alloc, words, source, out);
+    let status = run(alloc, words, source, out, decider);
     tell(fault, status);
     status
 }

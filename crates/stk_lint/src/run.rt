@@ -4,6 +4,7 @@ use std::env;
 use std::io::{BufWriter, ErrorKind, Read, Write};
 use std::rt::Env;
 use stk_base::{Sink, Status, write_all};
+use stk_query::Cdcl;
 use stk_real::{RealSink, RealSource};
 
 // The words after the program's name, or how to end where they can't be gathered.
@@ -40,6 +41,7 @@ pub fn run_checker<R: Env + AllocGlobal, I: Read + Drop, O: Write + Drop, E: Wri
     let mut source = RealSource::new(input);
     let mut out = RealSink::new(writer);
     let mut fault = RealSink::new(errors);
+    let mut decider = Cdcl::new(rt.alloc());
     let status = match words_of(rt) {
         Ok(words) => lint_main(
             rt.alloc(),
@@ -47,6 +49,7 @@ pub fn run_checker<R: Env + AllocGlobal, I: Read + Drop, O: Write + Drop, E: Wri
             &mut source,
             &mut out,
             &mut fault,
+            &mut decider,
         ),
         Err(Status::BadWords) => {
             let _ = write_all(&mut fault, b"stack: bad words\n");

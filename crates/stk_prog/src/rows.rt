@@ -6,6 +6,7 @@ use std::process::Abort;
 use std::test::Fail;
 use stk_base::{MemSink, MemSource, Status};
 use stk_lint::lint_main;
+use stk_query::Cdcl;
 
 /// Words and an input, the records that it has, and the status of its run.
 struct Row {
@@ -15,7 +16,7 @@ struct Row {
     status: Status,
 }
 
-static ROWS: [Row; 33] = [
+static ROWS: [Row; 35] = [
     Row {
         words: &[],
         input: "",
@@ -61,7 +62,7 @@ static ROWS: [Row; 33] = [
     Row {
         words: &[],
         input: "int f(int x) { return x; }",
-        records: "-:1:1: skipped: 32 input bits\n0 functions, 0 candidates, 0 unstable, 0 undecided, 1 skipped\n",
+        records: "1 functions, 0 candidates, 0 unstable, 0 undecided, 0 skipped\n",
         status: Status::Stable,
     },
     Row {
@@ -85,7 +86,7 @@ static ROWS: [Row; 33] = [
     Row {
         words: &[],
         input: "union u { int a; };\nint g(int x) { goto out; out: return x; }\nint h(int x) { return x @ 1; }\nint f(unsigned char x) { int y = 10 / x; if (x == 0) return 1; return y; }\nint k(void) { return g(1); }",
-        records: "-:1:1: skipped: no tree\n-:2:1: skipped: no tree\n-:3:1: skipped: no tree\n-:4:46: unstable: always false in f\n  hit: x=0\n  needs division by zero at -:4:34; without it: x=0\n-:4:54: unstable: never entered in f\n  hit: x=0\n  needs division by zero at -:4:34; without it: x=0\n-:5:1: skipped: 32 input bits\n1 functions, 3 candidates, 2 unstable, 0 undecided, 4 skipped\n",
+        records: "-:1:1: skipped: no tree\n-:2:1: skipped: no tree\n-:3:1: skipped: no tree\n-:4:46: unstable: always false in f\n  hit: x=0\n  needs division by zero at -:4:34; without it: x=0\n-:4:54: unstable: never entered in f\n  hit: x=0\n  needs division by zero at -:4:34; without it: x=0\n2 functions, 3 candidates, 2 unstable, 0 undecided, 3 skipped\n",
         status: Status::Found,
     },
     Row {
@@ -127,7 +128,7 @@ static ROWS: [Row; 33] = [
     Row {
         words: &[],
         input: "typedef unsigned char byte; struct s { byte b; };\nbyte f(struct s *p) { return p->b; }\nbyte f(struct s *);\nstruct s { int b; };",
-        records: "-:2:1: skipped: 72 input bits\n-:4:1: skipped: rule 17 at -:4:1\n0 functions, 0 candidates, 0 unstable, 0 undecided, 2 skipped\n",
+        records: "-:4:1: skipped: rule 17 at -:4:1\n1 functions, 0 candidates, 0 unstable, 0 undecided, 1 skipped\n",
         status: Status::Stable,
     },
     Row {
@@ -140,6 +141,18 @@ static ROWS: [Row; 33] = [
         words: &[],
         input: "\n\n  @",
         records: "-:3:3: skipped: no tree\n0 functions, 0 candidates, 0 unstable, 0 undecided, 1 skipped\n",
+        status: Status::Stable,
+    },
+    Row {
+        words: &[],
+        input: "int f(int x) { int y = 10 / x; if (x == 0) return 1; return y; }",
+        records: "-:1:36: unstable: always false in f\n  hit: x=0\n  needs division by zero at -:1:24; without it: x=0\n-:1:44: unstable: never entered in f\n  hit: x=0\n  needs division by zero at -:1:24; without it: x=0\n1 functions, 3 candidates, 2 unstable, 0 undecided, 0 skipped\n",
+        status: Status::Found,
+    },
+    Row {
+        words: &["--without", "zero"],
+        input: "int f(int x) { int y = 10 / x; if (x == 0) return 1; return y; }",
+        records: "1 functions, 3 candidates, 0 unstable, 0 undecided, 0 skipped\n",
         status: Status::Stable,
     },
     Row {
@@ -217,12 +230,7 @@ static ROWS: [Row; 33] = [
 ];
 
 /// Texts of one unit with the cause that it is skipped for; without a cause, it is a declaration.
-static UNITS: [(&str, &str); 22] = [
-    (
-        "int f(unsigned char a, unsigned char b, unsigned char c) { return a; }",
-        "24 input bits",
-    ),
-    ("int f(int *p) { return *p; }", "96 input bits"),
+static UNITS: [(&str, &str); 20] = [
     (
         "int f(unsigned char x, unsigned char x) { return x; }",
         "rule 3 at -:1:38",
@@ -294,7 +302,15 @@ pub(crate) fn check(
     let mut source = MemSource::new(bytes, most, failing(alloc, outside.source_fails)?);
     let mut out = MemSink::new(alloc, most, failing(alloc, outside.out_fails)?);
     let mut fault = MemSink::new(alloc, most, failing(alloc, outside.fault_fails)?);
-    let answer = lint_main(alloc, words.as_slice(), &mut source, &mut out, &mut fault);
+    let mut decider = Cdcl::new(alloc);
+    let answer = lint_main(
+        alloc,
+        words.as_slice(),
+        &mut source,
+        &mut out,
+        &mut fault,
+        &mut decider,
+    );
     assert!(rt; answer == status, "{input:?}");
     assert!(rt; out.bytes() == records, "{input:?}");
     assert!(rt; fault.bytes() == line, "{input:?}");

@@ -14,7 +14,7 @@ use Rattle.stk_records.specs.declared.line.Claim.TheVariants.{NeverEntered, Alwa
 use Rattle.stk_records.specs.declared.line.Input.{Input}
 use Rattle.stk_records.specs.declared.line.StartInputs.{StartInputs}
 use Rattle.stk_records.specs.declared.line.Needed.{Needed}
-use Rattle.stk_records.specs.declared.line.Cause.TheVariants.{NoTree, Rule, Nodes, Weight, Bits}
+use Rattle.stk_records.specs.declared.line.Cause.TheVariants.{NoTree, Rule, Nodes, Weight}
 use Rattle.stk_records.specs.declared.line.Line.{Line}
 use Rattle.stk_records.specs.declared.line.Line.TheVariants.{Unstable, Undecided, Skipped, Summary}
 use Rattle.stk_records.specs.Json.{fits_word, number_data, input_data, start_data, without_data, needed_data, with_replacement, taken_words, all_kinds, line_data}
@@ -68,5 +68,4 @@ no_float (Skipped at NoTree) = refl
 no_float (Skipped at (Rule rule place)) = refl
 no_float (Skipped at (Nodes count)) = refl
 no_float (Skipped at (Weight sum)) = refl
-no_float (Skipped at (Bits count)) = refl
 no_float (Summary counts without) = either _ _ (words_none without all_kinds) refl

@@ -20,7 +20,7 @@ use Rattle.stk_records.specs.declared.line.Input.{Input}
 use Rattle.stk_records.specs.declared.line.StartInputs.{StartInputs}
 use Rattle.stk_records.specs.declared.line.Needed.{Needed}
 use Rattle.stk_records.specs.declared.line.Cause.{Cause}
-use Rattle.stk_records.specs.declared.line.Cause.TheVariants.{NoTree, Rule, Nodes, Weight, Bits}
+use Rattle.stk_records.specs.declared.line.Cause.TheVariants.{NoTree, Rule, Nodes, Weight}
 use Rattle.stk_records.specs.declared.line.Line.{Line}
 use Rattle.stk_records.specs.declared.line.Line.TheVariants.{Unstable, Undecided, Skipped, Summary}
 use Rattle.stk_records.specs.Text.{printed, file_text, kind_text}
@@ -162,7 +162,6 @@ skipped_data p NoTree = object (skipped_members p (codes "no tree"))
 skipped_data p (Rule rule at) = ruled_data p rule at
 skipped_data p (Nodes count) = counted_data p (codes "nodes") count
 skipped_data p (Weight sum) = counted_data p (codes "weight") sum
-skipped_data p (Bits count) = object (skipped_members p (codes "bits"))
 
 -- the kinds in the order of their numbers
 abbrev pub all_kinds : List UbKind

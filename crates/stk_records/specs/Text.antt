@@ -14,7 +14,7 @@ use Rattle.stk_records.specs.declared.line.Input.{Input}
 use Rattle.stk_records.specs.declared.line.StartInputs.{StartInputs}
 use Rattle.stk_records.specs.declared.line.Needed.{Needed}
 use Rattle.stk_records.specs.declared.line.Cause.{Cause}
-use Rattle.stk_records.specs.declared.line.Cause.TheVariants.{NoTree, Rule, Nodes, Weight, Bits}
+use Rattle.stk_records.specs.declared.line.Cause.TheVariants.{NoTree, Rule, Nodes, Weight}
 use Rattle.stk_records.specs.declared.line.Line.{Line}
 use Rattle.stk_records.specs.declared.line.Line.TheVariants.{Unstable, Undecided, Skipped, Summary}
 
@@ -108,7 +108,6 @@ cause_text NoTree = codes "no tree"
 cause_text (Rule rule at) = codes "rule " ++ decimal rule ++ codes " at " ++ spot_text at
 cause_text (Nodes count) = counted count (codes " nodes")
 cause_text (Weight sum) = codes "weight " ++ decimal sum
-cause_text (Bits count) = counted count (codes " input bits")
 
 -- `F functions, C candidates, U unstable, `
 abbrev pub found_text : Counts → List ℕ

@@ -127,7 +127,6 @@ fn skipped_value(alloc: Global, at: &Spot, cause: &Cause) -> Result<Value, NoMem
         Cause::Rule { rule, at: node } => ruled_value(alloc, at, *rule, node),
         Cause::Nodes { count } => counted_value(alloc, at, "nodes", u64::from(*count)),
         Cause::Weight { sum } => counted_value(alloc, at, "weight", *sum),
-        Cause::Bits { .. } => plain_value(alloc, at, "bits"),
     }
 }
 

@@ -65,8 +65,6 @@ pub enum Cause {
     Nodes { count: u32 },
     /// It defines a function of this weight, over 8,000,000.
     Weight { sum: u64 },
-    /// It defines a function of so many input bits, over 16.
-    Bits { count: u64 },
 }
 
 /// A line of records, or the lines of one report.

@@ -229,7 +229,6 @@ fn add_cause(text: &mut Vec<u8>, cause: &Cause) -> Result<(), NoMemory>
         Cause::Rule { rule, at } => add_rule(text, *rule, at),
         Cause::Nodes { count } => add_counted(text, u64::from(*count), b" nodes"),
         Cause::Weight { sum } => add_weight(text, *sum),
-        Cause::Bits { count } => add_counted(text, *count, b" input bits"),
     }
 }
 

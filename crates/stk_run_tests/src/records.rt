@@ -118,13 +118,6 @@ fn each_limit_is_said(rt: HostRuntime) -> Result<(), Fail> {
         &skipped(Cause::Weight { sum: 8000001 }),
         "-:7:1: skipped: weight 8000001\n",
         "{\"cause\":\"weight\",\"column\":1,\"count\":8000001,\"file\":\"-\",\"line\":7,\"type\":\"skipped\"}\n",
-    )?;
-    check(
-        rt.alloc(),
-        &rt,
-        &skipped(Cause::Bits { count: 32 }),
-        "-:7:1: skipped: 32 input bits\n",
-        "{\"cause\":\"bits\",\"column\":1,\"file\":\"-\",\"line\":7,\"type\":\"skipped\"}\n",
     )
 }
 

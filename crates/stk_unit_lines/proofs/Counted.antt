@@ -41,13 +41,13 @@ few_open (Clear ∷ xs) = omega (arith, few_open xs)
 few_open (Unstable start needs ∷ xs) = omega (arith, few_open xs)
 few_open (Undecided phase ∷ xs) = omega (arith, few_open xs)
 
-pub unit_most : (bytes : List ℕ) (without : Kinds) (mark : Bool) (es now : List NameEntry) (body : Option ℕ) (tokens : List Token) (counts : Counts) {lines : _} → 0 < length tokens → IsUnitLines bytes without mark es body tokens lines counts now → AreAtMost (80000 * length tokens) counts
-unit_most bytes without mark es now body tokens counts some (accepted u is none) = record { functions = omega arith; candidates = omega arith; unstable = omega arith; undecided = omega arith; skipped = omega arith }
-unit_most bytes without mark es now body tokens counts some (refused cause is) =
+pub unit_most : (bytes : List ℕ) (without : Kinds) (budget : ℕ) (mark : Bool) (es now : List NameEntry) (body : Option ℕ) (tokens : List Token) (counts : Counts) {lines : _} → 0 < length tokens → IsUnitLines bytes without budget mark es body tokens lines counts now → AreAtMost (80000 * length tokens) counts
+unit_most bytes without budget mark es now body tokens counts some (accepted u is none) = record { functions = omega arith; candidates = omega arith; unstable = omega arith; undecided = omega arith; skipped = omega arith }
+unit_most bytes without budget mark es now body tokens counts some (refused cause is) =
     record { functions = omega arith; candidates = omega arith; unstable = omega arith; undecided = omega arith; skipped = omega (arith, some) }
-unit_most bytes without mark es now body tokens counts some (unjudged n f cause is because) =
+unit_most bytes without budget mark es now body tokens counts some (unjudged n f cause is because) =
     record { functions = omega arith; candidates = omega arith; unstable = omega arith; undecided = omega arith; skipped = omega (arith, some) }
-unit_most bytes without mark es now body tokens counts some (judged n f xs is none lawful) =
+unit_most bytes without budget mark es now body tokens counts some (judged n f xs is none lawful) =
     let ty = unit_typing bytes now (s.defines n f) in
     let few = few_candidates ty f n in
     let nodes = (small bytes without now (s.defines n f) none).nodes in

@@ -5,3 +5,4 @@ pub mod Typed
 pub mod Made
 pub mod Exists
 pub mod Counted
+pub mod Marked

@@ -33,7 +33,8 @@ use Rattle.stk_unit_lines.specs.Lines.{finding_lines, findings_lines}
 use Rattle.stk_unit_lines.specs.Functions.{is_definition, IsDefinition}
 use Rattle.stk_unit_lines.specs.Causes.{cause_of, body_cause}
 use Rattle.stk_unit_lines.specs.UnitLines.{unstable_count, undecided_count, one_skipped, skip_line, IsUnitLines, accepted, refused, unjudged, judged}
-use Rattle.stk_unit_lines.specs.Parts.{IsSkipLine, IsFunctionLines, IsJudged, AreReadWell}
+use Rattle.stk_unit_lines.specs.Parts.{IsSkipLine, IsFunctionLines, IsJudged, AreReadWell, WasAnswered}
+use Rattle.stk_type_laws.specs.Orderly.{AreOrderly}
 
 -- what is known of a value is known of it otherwise
 pub weaker : {A E : Type 0} (r : Result A E) (P Q : A → Type 0) → ((x : A) → P x → Q x) → IfOk r P → IfOk r Q
@@ -46,29 +47,29 @@ pub skipped : (bytes : List ℕ) (tokens : List Token) (none : Token) (cause : C
 skipped bytes [] none cause lines counts some e f = absurd (omega arith)
 skipped bytes (t ∷ ts) none cause lines counts some e f = (e, f)
 
-module _ (bytes : List ℕ) (without : Kinds) (mark : Bool) (es now : List NameEntry) (body : Option ℕ) (tokens : List Token) (lines : List Line) (counts : Counts) where
+module _ (bytes : List ℕ) (without : Kinds) (budget : ℕ) (mark : Bool) (es now : List NameEntry) (body : Option ℕ) (tokens : List Token) (lines : List Line) (counts : Counts) where
   -- an empty unit and a declaration have none
-  pub nothing_said : (u : UnitTree) → Accepts bytes mark es tokens u now → is_definition u ≡ false → lines ≡ [] → counts ≡ nothing_counted → IsUnitLines bytes without mark es body tokens lines counts now
+  pub nothing_said : (u : UnitTree) → Accepts bytes mark es tokens u now → is_definition u ≡ false → lines ≡ [] → counts ≡ nothing_counted → IsUnitLines bytes without budget mark es body tokens lines counts now
   nothing_said u h none e f = rw (e, f) (accepted u h none)
 
-  of_lines : (n : Node) (f : FunctionTree) (o : Option Cause) → Accepts bytes mark es tokens (s.defines n f) now → body_cause bytes without now (s.defines n f) ≡ o → IsFunctionLines bytes without now tokens (s.defines n f) f o lines counts
-      → IsUnitLines bytes without mark es body tokens lines counts now
+  of_lines : (n : Node) (f : FunctionTree) (o : Option Cause) → Accepts bytes mark es tokens (s.defines n f) now → body_cause bytes without now (s.defines n f) ≡ o → IsFunctionLines bytes without budget now tokens (s.defines n f) f o lines counts
+      → IsUnitLines bytes without budget mark es body tokens lines counts now
   of_lines n f None h because j = rw (j.same_lines, j.same_counts) (judged n f j.findings h because j.lawful)
   of_lines n f (Some cause) h because line = on tokens h line where
-    on : (ts : List Token) → Accepts bytes mark es ts (s.defines n f) now → IsSkipLine bytes ts cause lines counts → IsUnitLines bytes without mark es body ts lines counts now
+    on : (ts : List Token) → Accepts bytes mark es ts (s.defines n f) now → IsSkipLine bytes ts cause lines counts → IsUnitLines bytes without budget mark es body ts lines counts now
     on [] h line = absurd line
     on (t ∷ ts) h line = rw (line.0, line.1) (unjudged n f cause h because)
 
   -- those of a function
-  pub function_made : (u : UnitTree) (f : FunctionTree) → IsDefinition u f → Accepts bytes mark es tokens u now → IsFunctionLines bytes without now tokens u f (body_cause bytes without now u) lines counts → IsUnitLines bytes without mark es body tokens lines counts now
+  pub function_made : (u : UnitTree) (f : FunctionTree) → IsDefinition u f → Accepts bytes mark es tokens u now → IsFunctionLines bytes without budget now tokens u f (body_cause bytes without now u) lines counts → IsUnitLines bytes without budget mark es body tokens lines counts now
   function_made u f d h x =
       of_lines d.0 f (body_cause bytes without now (s.defines d.0 f)) (subst (λ v. Accepts bytes mark es tokens v now) d.1 h) refl
-      (subst (λ v. IsFunctionLines bytes without now tokens v f (body_cause bytes without now v) lines counts) d.1 x)
+      (subst (λ v. IsFunctionLines bytes without budget now tokens v f (body_cause bytes without now v) lines counts) d.1 x)
 
   -- that of a unit that isn't accepted
-  pub refusal_made : (cause : Refusal) → Refuses bytes mark es tokens body cause now → IsSkipLine bytes tokens (cause_of bytes cause) lines counts → IsUnitLines bytes without mark es body tokens lines counts now
+  pub refusal_made : (cause : Refusal) → Refuses bytes mark es tokens body cause now → IsSkipLine bytes tokens (cause_of bytes cause) lines counts → IsUnitLines bytes without budget mark es body tokens lines counts now
   refusal_made cause h line = on tokens h line where
-    on : (ts : List Token) → Refuses bytes mark es ts body cause now → IsSkipLine bytes ts (cause_of bytes cause) lines counts → IsUnitLines bytes without mark es body ts lines counts now
+    on : (ts : List Token) → Refuses bytes mark es ts body cause now → IsSkipLine bytes ts (cause_of bytes cause) lines counts → IsUnitLines bytes without budget mark es body ts lines counts now
     on [] h line = absurd line
     on (t ∷ ts) h line = rw (line.0, line.1) (refused cause h)
 
@@ -83,6 +84,11 @@ read_well bytes mark es now tokens body (answers.Tree unit) few h = record {
   laid_out = (spans_of tokens, (unlaid_unit (view_unit unit), h.tree.laid_out));
 }
 read_well bytes mark es now tokens body (answers.Refused cause) few h = tt
+
+-- what accepting answers a tree for was accepted under the names before it
+pub was_answered : (bytes : List ℕ) (mark : Bool) (es now : List NameEntry) (tokens : List Token) (body : Option ℕ) (found : Accepted) → AreOrderly es → IsAnswered bytes mark es tokens body found now → WasAnswered bytes tokens found now
+was_answered bytes mark es now tokens body (answers.Tree unit) orderly h = record { mark = mark; before = es; orderly = orderly; accepts = h }
+was_answered bytes mark es now tokens body (answers.Refused cause) orderly h = tt
 
 -- ---- counts
 
@@ -134,13 +140,13 @@ module _ (q : Placed) (ty : Typing) (f : FunctionTree) (keys : List (List ℕ)) 
   last_lines cs i made rest all h empty = sym (append-nil made) ∙ ap (λ l. made ++ l) (sym (no_lines (drop i cs))) ∙ ap (λ l. made ++ findings_lines q ty f keys (drop i cs) l) (sym (length-zero rest empty)) ∙ h
 
 -- a line with the cause, where there is one
-pub cause_line : (bytes b : List ℕ) (without : Kinds) (now : List NameEntry) (tokens : List Token) (u : UnitTree) (f : FunctionTree) (o : Option Cause) (cause : Cause) (lines : List Line) (counts : Counts) → b ≡ bytes → o ≡ Some cause
-    → IsSkipLine b tokens cause lines counts → IsFunctionLines bytes without now tokens u f o lines counts
-cause_line bytes b without now tokens u f o cause lines counts same e line = subst (λ m. IsFunctionLines bytes without now tokens u f m lines counts) (sym e) (subst (λ x. IsSkipLine x tokens cause lines counts) same line)
+pub cause_line : (bytes b : List ℕ) (without : Kinds) (budget : ℕ) (now : List NameEntry) (tokens : List Token) (u : UnitTree) (f : FunctionTree) (o : Option Cause) (cause : Cause) (lines : List Line) (counts : Counts) → b ≡ bytes → o ≡ Some cause
+    → IsSkipLine b tokens cause lines counts → IsFunctionLines bytes without budget now tokens u f o lines counts
+cause_line bytes b without budget now tokens u f o cause lines counts same e line = subst (λ m. IsFunctionLines bytes without budget now tokens u f m lines counts) (sym e) (subst (λ x. IsSkipLine x tokens cause lines counts) same line)
 
 -- the lines of findings, where there is none
-pub judged_lines : (f : FunctionTree) (p : FunctionPlaces) (t : TypedUnit) (without : Kinds) (tokens : List Token) (o : Option Cause) (lines : List Line) (counts : Counts) → p.types ≡ t → p.without ≡ without → o ≡ None
-    → IsJudged p.types.bytes p.without p.types.entries (view_unit p.types.unit) f lines counts → IsFunctionLines t.bytes without t.entries tokens (view_unit t.unit) f o lines counts
-judged_lines f p t without tokens o lines counts same kinds none j =
-    subst (λ m. IsFunctionLines t.bytes without t.entries tokens (view_unit t.unit) f m lines counts) (sym none)
-    (subst (λ w. IsJudged t.bytes w t.entries (view_unit t.unit) f lines counts) kinds (subst (λ (x : TypedUnit). IsJudged x.bytes p.without x.entries (view_unit x.unit) f lines counts) same j))
+pub judged_lines : (f : FunctionTree) (p : FunctionPlaces) (t : TypedUnit) (without : Kinds) (budget : ℕ) (tokens : List Token) (o : Option Cause) (lines : List Line) (counts : Counts) → p.types ≡ t → p.without ≡ without → o ≡ None
+    → IsJudged p.types.bytes p.without budget p.types.entries (view_unit p.types.unit) f lines counts → IsFunctionLines t.bytes without budget t.entries tokens (view_unit t.unit) f o lines counts
+judged_lines f p t without budget tokens o lines counts same kinds none j =
+    subst (λ m. IsFunctionLines t.bytes without budget t.entries tokens (view_unit t.unit) f m lines counts) (sym none)
+    (subst (λ w. IsJudged t.bytes w budget t.entries (view_unit t.unit) f lines counts) kinds (subst (λ (x : TypedUnit). IsJudged x.bytes p.without budget x.entries (view_unit x.unit) f lines counts) same j))

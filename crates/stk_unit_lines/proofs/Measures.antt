@@ -11,11 +11,10 @@ use Rattle.stk_numbers.specs.declared.conditions.Kinds.{Kinds}
 use Rattle.stk_type_rules.specs.Facts.{Fact}
 use Rattle.stk_type_rules.specs.Outcome.{Outcome, Good, Refused}
 use Rattle.stk_meaning.specs.Typings.{Typing}
-use Rattle.stk_meaning.specs.Keys.{body_of, keys_of, input_bits, setting_of}
+use Rattle.stk_meaning.specs.Keys.{body_of, keys_of, setting_of}
 use Rattle.stk_meaning.specs.Weights.{weight, most_weight}
 use Rattle.stk_run_laws.specs.Visits.{IsNumbered}
 use Rattle.stk_run_laws.proofs.Numbered.{what_is_laid_out_is_numbered}
-use Rattle.stk_meaning.specs.PathFindings.{most_bits}
 use Rattle.stk_function_types.specs.Units.{TypedUnit, unit_typed}
 use Rattle.stk_function_types.specs.Nodes.{typing_in}
 use Rattle.stk_function_env.specs.Settings.{FunctionPlaces, setting_in}
@@ -31,7 +30,7 @@ use Rattle.stk_records.specs.declared.line.Cause.TheVariants.{Nodes}
 use Rattle.stk_records.specs.declared.line.Line.{Line}
 use Rattle.stk_records.specs.declared.counts.Counts.{Counts}
 use Rattle.stk_unit_lines.specs.Functions.{unit_typing, IsDefinition, IsLaidOut}
-use Rattle.stk_unit_lines.specs.Causes.{refused_cause, sized_cause, measured_cause, first_cause, body_cause}
+use Rattle.stk_unit_lines.specs.Causes.{refused_cause, weight_cause, measured_cause, first_cause, body_cause}
 use Rattle.stk_unit_lines.specs.Parts.{IsSkipLine, IsFunctionLines, IsUntypedLine}
 
 -- ---- settings
@@ -63,25 +62,24 @@ numbered ty u f d l = (what_is_laid_out_is_numbered ty l.0 l.1.0 d.0 f (sym l.1.
 
 -- ---- causes
 
-pub measured_of : (ty : Typing) (without : Kinds) (u : UnitTree) (f : FunctionTree) → IsDefinition u f → measured_cause ty without u ≡ sized_cause (weight ty without f) (input_bits (keys_of ty without f))
+pub measured_of : (ty : Typing) (without : Kinds) (u : UnitTree) (f : FunctionTree) → IsDefinition u f → measured_cause ty without u ≡ weight_cause (weight ty without f)
 measured_of ty without u f d = ap (measured_cause ty without) d.1
 
 -- the cause by a setting of the function's own types
 pub measured_here : (f : FunctionTree) (p : FunctionPlaces) (t : TypedUnit) (without : Kinds) (o : Option Cause) → IsDefinition (view_unit t.unit) f → setting_in p ≡ setting_of (typing_in t) without f → p.types ≡ t
-    → o ≡ sized_cause (weight (typing_in p.types) p.without f) (input_bits (keys_of (typing_in p.types) p.without f)) → measured_cause (typing_in t) without (view_unit t.unit) ≡ o
+    → o ≡ weight_cause (weight (typing_in p.types) p.without f) → measured_cause (typing_in t) without (view_unit t.unit) ≡ o
 measured_here f p t without o d e same is =
     let kinds : without ≡ p.without = sym (ap (λ g. g.without) e) in
     measured_of (typing_in t) without (view_unit t.unit) f d
-    ∙ (λ i. sized_cause (weight (typing_in (sym same i)) (kinds i) f) (input_bits (keys_of (typing_in (sym same i)) (kinds i) f)))
+    ∙ (λ i. weight_cause (weight (typing_in (sym same i)) (kinds i) f))
     ∙ sym is
 
--- a function without a cause has few input bits
-pub few_bits : (w bits : ℕ) → sized_cause w bits ≡ None → bits ≤ 16
-few_bits w bits = on (nat_lt most_weight w) (nat_lt most_bits bits) _ _ refl where
-  on : (a b : Bool) (x y : Cause) → nat_lt most_bits bits ≡ b → (if a then Some x else (if b then Some y else None)) ≡ None → bits ≤ 16
-  on true b x y e h = absurd cc
-  on false true x y e h = absurd cc
-  on false false x y e h = ltb-false 16 bits e
+-- a function without a cause isn't too heavy
+pub light : (w : ℕ) → weight_cause w ≡ None → w ≤ most_weight
+light w = on (nat_lt most_weight w) _ refl where
+  on : (a : Bool) (x : Cause) → nat_lt most_weight w ≡ a → (if a then Some x else None) ≡ None → w ≤ most_weight
+  on true x e h = absurd cc
+  on false x e h = ltb-false most_weight w e
 
 few_nodes : (u : UnitTree) → has_many u ≡ false → unit_nodes u ≤ 20000
 few_nodes u e = leb-true (unit_nodes u) most_nodes (is_true (nat_le (unit_nodes u) most_nodes) e) where
@@ -89,7 +87,7 @@ few_nodes u e = leb-true (unit_nodes u) most_nodes (is_true (nat_le (unit_nodes 
   is_true true e = refl
   is_true false e = absurd cc
 
--- a unit without a cause has few nodes, and its function few input bits
+-- a unit without a cause has few nodes, and its function isn't too heavy
 pub record IsSmall (bytes : List ℕ) (without : Kinds) (now : List NameEntry) (u : UnitTree) : Type 0 where
   pub nodes : unit_nodes u ≤ 20000
   pub measured : measured_cause (unit_typing bytes now u) without u ≡ None
@@ -149,11 +147,11 @@ is_typed {T = T} bytes without now u t h =
     same false (Refused m s) h = absurd h
 
 -- a function that isn't typed has the line of its cause
-pub is_untyped : (T : Type 0) (bytes : List ℕ) (without : Kinds) (now : List NameEntry) (tokens : List Token) (u : UnitTree) (f : FunctionTree) (e : Untyped) (lines : List Line) (counts : Counts) → Answers {T = T} (has_many u) (unit_nodes u) (unit_typed bytes now u) (Err e)
-    → IsUntypedLine bytes tokens u e lines counts → IsFunctionLines bytes without now tokens u f (body_cause bytes without now u) lines counts
-is_untyped T bytes without now tokens u f e lines counts = on (has_many u) (unit_nodes u) (unit_typed bytes now u) e (measured_cause (unit_typing bytes now u) without u) where
+pub is_untyped : (T : Type 0) (bytes : List ℕ) (without : Kinds) (budget : ℕ) (now : List NameEntry) (tokens : List Token) (u : UnitTree) (f : FunctionTree) (e : Untyped) (lines : List Line) (counts : Counts) → Answers {T = T} (has_many u) (unit_nodes u) (unit_typed bytes now u) (Err e)
+    → IsUntypedLine bytes tokens u e lines counts → IsFunctionLines bytes without budget now tokens u f (body_cause bytes without now u) lines counts
+is_untyped T bytes without budget now tokens u f e lines counts = on (has_many u) (unit_nodes u) (unit_typed bytes now u) e (measured_cause (unit_typing bytes now u) without u) where
   on : (many : Bool) (count : ℕ) (o : Outcome Fact) (e : Untyped) (m : Option Cause) → Answers {T = T} many count o (Err e) → IsUntypedLine bytes tokens u e lines counts
-      → IsFunctionLines bytes without now tokens u f (if many then Some (Nodes count) else first_cause (refused_cause bytes u o) m) lines counts
+      → IsFunctionLines bytes without budget now tokens u f (if many then Some (Nodes count) else first_cause (refused_cause bytes u o) m) lines counts
   on true count o (untyped.Rule n r) m h line = absurd h
   on true count o (untyped.Nodes c) m h line = subst (λ k. IsSkipLine bytes tokens (Nodes k) lines counts) h line
   on true count o untyped.NoMemory m h line = absurd line

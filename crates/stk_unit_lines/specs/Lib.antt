@@ -8,3 +8,4 @@ pub mod Functions
 pub mod Causes
 pub mod UnitLines
 pub mod Parts
+pub mod Marks

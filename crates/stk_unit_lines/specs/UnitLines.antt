@@ -4,14 +4,13 @@ use Rattle.stk_lex.specs.declared.token.Token.{Token}
 use Rattle.stk_ctype.specs.declared.symbol.NameEntry.{NameEntry}
 use Rattle.stk_tree.specs.declared.node.Node.{Node}
 use Rattle.stk_tree.specs.Syntax.{UnitTree, FunctionTree, defines}
-use Rattle.stk_numbers.specs.declared.conditions.Candidate.{Candidate}
-use Rattle.stk_numbers.specs.declared.conditions.Condition.{Condition}
 use Rattle.stk_numbers.specs.declared.conditions.Kinds.{Kinds}
 use Rattle.stk_meaning.specs.Lists.{candidates}
 use Rattle.stk_meaning.specs.declared.finding.Finding.{Finding}
 use Rattle.stk_meaning.specs.declared.finding.Finding.TheVariants.{Clear, Unstable, Undecided}
 use Rattle.stk_meaning.specs.Findings.{AreLawful}
 use Rattle.stk_meaning.specs.PathFindings.{function_subject}
+use Rattle.stk_spent_queries.specs.Spent.{spent_at}
 use Rattle.stk_accept.specs.declared.accepting.Refusal.{Refusal}
 use Rattle.stk_accept.specs.Accepting.{Accepts, Refuses}
 use Rattle.stk_records.specs.declared.counts.Counts.{Counts}
@@ -55,27 +54,24 @@ function_lines bytes without now u f findings =
     let q = unit_placed bytes u in
     findings_lines q ty f (function_keys q ty without f) (candidates ty f) findings
 
--- no query is given up
-abbrev pub never_spent : Candidate → List Condition → Type 0
-never_spent c set = ⊥
-
 -- A function has these lawful findings, one for each of its candidates in order, with these kinds of conditions taken
--- out: each set that is reported suffices in path runs and in every execution.
-abbrev pub AreFindingsOf : List ℕ → Kinds → List NameEntry → UnitTree → FunctionTree → List Finding → Type 0
-AreFindingsOf bytes without now u f findings =
+-- out: each set that is reported suffices in path runs and in every execution, and a query is given up only where it is
+-- spent at this budget.
+abbrev pub AreFindingsOf : List ℕ → Kinds → ℕ → List NameEntry → UnitTree → FunctionTree → List Finding → Type 0
+AreFindingsOf bytes without budget now u f findings =
     let ty = unit_typing bytes now u in
-    AreLawful (function_subject ty without f never_spent) (candidates ty f) findings
+    AreLawful (function_subject ty without f (spent_at ty without f budget)) (candidates ty f) findings
 
 -- The lines of a unit of these tokens, what it counts for, and the names that it leaves in force, where these are in
 -- force before it: an empty unit and a declaration that are accepted have none; a unit that isn't accepted has a line
 -- with the cause at its first token; so has a function that is accepted and has too many nodes, a body that a rule
--- refuses, too much weight or too many input bits; and every other function has the lines of lawful findings, one for
--- each candidate in order.
-pub data IsUnitLines (bytes : List ℕ) (without : Kinds) (mark : Bool) (es : List NameEntry) (body : Option ℕ) : List Token → List Line → Counts → List NameEntry → Type 0 where
-  accepted : {tokens : List Token} {now : List NameEntry} (u : UnitTree) → Accepts bytes mark es tokens u now → is_definition u ≡ false → IsUnitLines bytes without mark es body tokens [] nothing_counted now
+-- refuses, or too much weight; and every other function has the lines of lawful findings, one for each candidate in
+-- order.
+pub data IsUnitLines (bytes : List ℕ) (without : Kinds) (budget : ℕ) (mark : Bool) (es : List NameEntry) (body : Option ℕ) : List Token → List Line → Counts → List NameEntry → Type 0 where
+  accepted : {tokens : List Token} {now : List NameEntry} (u : UnitTree) → Accepts bytes mark es tokens u now → is_definition u ≡ false → IsUnitLines bytes without budget mark es body tokens [] nothing_counted now
   refused : {first : Token} {others : List Token} {now : List NameEntry} (cause : Refusal) → Refuses bytes mark es (first ∷ others) body cause now
-      → IsUnitLines bytes without mark es body (first ∷ others) (skip_line bytes first.span.from (cause_of bytes cause) ∷ []) one_skipped now
+      → IsUnitLines bytes without budget mark es body (first ∷ others) (skip_line bytes first.span.from (cause_of bytes cause) ∷ []) one_skipped now
   unjudged : {first : Token} {others : List Token} {now : List NameEntry} (node : Node) (f : FunctionTree) (cause : Cause) → Accepts bytes mark es (first ∷ others) (defines node f) now → body_cause bytes without now (defines node f) ≡ Some cause
-      → IsUnitLines bytes without mark es body (first ∷ others) (skip_line bytes first.span.from cause ∷ []) one_skipped now
+      → IsUnitLines bytes without budget mark es body (first ∷ others) (skip_line bytes first.span.from cause ∷ []) one_skipped now
   judged : {tokens : List Token} {now : List NameEntry} (node : Node) (f : FunctionTree) (findings : List Finding) → Accepts bytes mark es tokens (defines node f) now → body_cause bytes without now (defines node f) ≡ None
-      → AreFindingsOf bytes without now (defines node f) f findings → IsUnitLines bytes without mark es body tokens (function_lines bytes without now (defines node f) f findings) (one_judged findings) now
+      → AreFindingsOf bytes without budget now (defines node f) f findings → IsUnitLines bytes without budget mark es body tokens (function_lines bytes without now (defines node f) f findings) (one_judged findings) now

@@ -5,7 +5,6 @@ ghost use Rattle.stk_tree.specs.Syntax.{FunctionTree};
 ghost use Rattle.stk_tree.specs.Nodes.{unit_nodes};
 ghost use Rattle.stk_tree.specs.View.{view_unit};
 ghost use Rattle.stk_nodes.specs.Rows.{unit_row};
-ghost use Rattle.stk_meaning.specs.Keys.{keys_of, input_bits};
 ghost use Rattle.stk_meaning.specs.Weights.{weight};
 ghost use Rattle.stk_accept.specs.Accepting.{beginning};
 ghost use Rattle.stk_function_types.specs.Nodes.{typing_in};
@@ -13,7 +12,7 @@ ghost use Rattle.stk_records.specs.declared.line.Cause.TheVariants as causes;
 ghost use Rattle.stk_unit_lines.specs.Lines.{spot_at};
 ghost use Rattle.stk_weights.specs.Units.{IsWhole};
 ghost use Rattle.stk_unit_lines.specs.Functions.{IsDefinition};
-ghost use Rattle.stk_unit_lines.specs.Causes.{cause_of, sized_cause};
+ghost use Rattle.stk_unit_lines.specs.Causes.{cause_of, weight_cause};
 
 use crate::lines::spot_at;
 use std::alloc::Global;
@@ -21,15 +20,12 @@ use stk_accept::{Refusal, place_of};
 use stk_base::NoMemory;
 use stk_function_env::Setting;
 use stk_lex::Places;
-use stk_path_runs::input_bits;
 use stk_records::Cause;
 use stk_tree::Unit;
 use stk_weights::weight_of;
 
-// The greatest weight of a function that is judged, and its most input bits.
+// The greatest weight of a function that is judged.
 const MOST_WEIGHT: u64 = 8_000_000;
-
-const MOST_BITS: u128 = 16;
 
 // Why a unit is skipped that isn't accepted.
 pub(crate) fn cause_of(alloc: Global, input: &Places, refusal: Refusal) -> Result<Cause, NoMemory>
@@ -59,26 +55,21 @@ pub(crate) fn rule_cause(
     Ok(Cause::Rule { rule, at })
 }
 
-// A function of this weight and so many input bits is too heavy, or has too many.
-fn sized_cause(weight: u64, bits: u128) -> Option<Cause>
-    ensures { result ≡ sized_cause weight bits }
+/// Why a function of this weight isn't judged: it is too heavy.
+pub(crate) fn weight_cause(weight: u64) -> Option<Cause>
+    ensures { result ≡ weight_cause weight }
 {
     if weight > MOST_WEIGHT {
         return Some(Cause::Weight { sum: weight });
     }
-    if bits > MOST_BITS {
-        let count = bits.min(u128::from(u64::MAX)) as u64;
-        return Some(Cause::Bits { count });
-    }
     None
 }
 
-// Why a function isn't judged whose body is typed, by its setting.
-pub(crate) fn measured_cause(alloc: Global, setting: &Setting) -> Result<Option<Cause>, NoMemory>
+/// The weight of a function whose body is typed, by its setting.
+pub(crate) fn function_weight(alloc: Global, setting: &Setting) -> Result<u64, NoMemory>
     requires whole { IsWhole setting.now }
     requires few { unit_nodes (view_unit setting.now.types.unit) ≤ 20000 }
-    ensures { (f : FunctionTree) → IsDefinition (view_unit setting.now.types.unit) f → IfOk result (λ cause. cause ≡ sized_cause (weight (typing_in setting.now.types) setting.now.without f) (input_bits (keys_of (typing_in setting.now.types) setting.now.without f))) }
+    ensures { (f : FunctionTree) → IsDefinition (view_unit setting.now.types.unit) f → IfOk result (λ w. w ≡ weight (typing_in setting.now.types) setting.now.without f) }
 {
-    let weight = weight_of(alloc, setting)?;
-    Ok(sized_cause(weight, input_bits(setting.keys())))
+    weight_of(alloc, setting)
 }

@@ -2,19 +2,22 @@
 
 ghost use Rattle.std.specs.Prelude.{◌≡◌, ◌≤◌, ◌∷◌, [], IfOk, map, true};
 ghost use Rattle.stk_tree.specs.View.{view_function, view_unit};
-ghost use Rattle.stk_meaning.specs.Keys.{function_visits, input_bits};
+ghost use Rattle.stk_meaning.specs.Keys.{function_visits};
+ghost use Rattle.stk_meaning.specs.Lists as lists;
+ghost use Rattle.stk_meaning.specs.Weights as weights;
 ghost use Rattle.stk_run_laws.specs.Visits.{IsNumbered};
-ghost use Rattle.stk_run_laws.specs.TypedTree.{IsTypedTree};
 ghost use Rattle.stk_meaning.specs.Findings.{AreLawful};
 ghost use Rattle.stk_function_types.specs.Nodes.{typing_in};
 ghost use Rattle.stk_function_types.specs.Visits.{marked_visit, marked_visits};
-ghost use Rattle.stk_judge.specs.PathSubjects.{path_subject};
+ghost use Rattle.stk_spent_queries.specs.Marks.{all_marks, AreCounted};
+ghost use Rattle.stk_findings.specs.Searched.{searched_subject};
 ghost use Rattle.stk_weights.specs.Units.{IsSettingOfFunction};
 ghost use Rattle.stk_unit_lines.specs.Placed.{placed_in};
 ghost use Rattle.stk_unit_lines.specs.Lines.{findings_lines};
 ghost use Rattle.stk_unit_lines.specs.Functions.{function_keys};
 ghost use Rattle.stk_unit_lines.specs.UnitLines.{unstable_count, undecided_count, one_judged};
-ghost use Rattle.stk_unit_lines.specs.Parts.{IsJudged};
+ghost use Rattle.stk_unit_lines.specs.Marks.{lines_marks};
+ghost use Rattle.stk_unit_lines.specs.Parts.{IsJudged, IsTypedFunction};
 
 use crate::lines::{Told, push_finding};
 use crate::units::UnitLines;
@@ -22,31 +25,49 @@ use crate::{key_texts, names_of};
 use std::alloc::Global;
 use stk_base::NoMemory;
 use stk_cands::{candidates, conditions};
+use stk_findings::{SearchedFunction, findings_of};
 use stk_function_env::Setting;
 use stk_function_types::function_visits;
-use stk_judge::judge;
 use stk_lex::Places;
 use stk_meaning::Finding;
 use stk_numbers::Candidate;
 use stk_path_runs::FunctionTables;
+use stk_query::{Decider, MOST_BUDGET};
 use stk_records::{Counts, Line};
 use stk_tree::Function;
 
 // The findings of a function's candidates.
-fn findings_in(
+fn findings_in<D: Decider>(
     alloc: Global,
     setting: &Setting,
     f: &Function,
     list: &[Candidate],
+    weight: u64,
+    budget: u32,
+    decider: &mut D,
 ) -> Result<Vec<Finding>, NoMemory>
     requires of { IsSettingOfFunction (view_function f.now) setting.now }
     requires numbered { IsNumbered (typing_in setting.now.types) (view_function f.now) }
-    requires few { input_bits setting.now.keys ≤ 16 }
-    ensures { IfOk result (λ findings. AreLawful (path_subject (typing_in setting.now.types) setting.now.without (view_function f.now)) list.now findings.items) }
+    requires typed { IsTypedFunction (typing_in setting.now.types) setting.now.without (view_function f.now) }
+    requires list { list.now ≡ lists.candidates (typing_in setting.now.types) (view_function f.now) }
+    requires weight { weight ≡ weights.weight (typing_in setting.now.types) setting.now.without (view_function f.now) }
+    requires light { weight ≤ weights.most_weight }
+    requires least { 1 ≤ budget }
+    requires most { budget ≤ MOST_BUDGET }
+    ensures lawful { IfOk result (λ findings. AreLawful (searched_subject (typing_in setting.now.types) setting.now.without (view_function f.now) budget) list.now findings.items) }
+    ensures counted { IfOk result (λ findings. AreCounted (D.given_up decider.old) (D.given_up decider.new) (all_marks findings.items)) }
+    ensures later { D.given_up decider.old ≤ D.given_up decider.new }
 {
     let tables = FunctionTables::new(alloc, setting, f)?;
     let all = conditions(alloc, setting.types(), setting.without(), f)?;
-    judge(alloc, &tables, f, list, all.as_slice())
+    let searched = SearchedFunction {
+        tables: &tables,
+        function: f,
+        candidates: list,
+        conditions: all.as_slice(),
+        weight,
+    };
+    findings_of(alloc, &searched, budget, decider)
 }
 
 // The lines of findings for candidates.
@@ -155,21 +176,30 @@ fn counts_of(findings: &[Finding]) -> Counts
     }
 }
 
-// The lines of a function of at most 16 input bits, whose setting this is, and what it counts for.
-pub(crate) fn judged(
+// The lines of a function whose setting this is, and what it counts for.
+pub(crate) fn judged<D: Decider>(
     alloc: Global,
     input: &Places,
     setting: &Setting,
     f: &Function,
+    weight: u64,
+    budget: u32,
+    decider: &mut D,
 ) -> Result<UnitLines, NoMemory>
     requires input { input.now ≡ setting.now.types.bytes }
     requires of { IsSettingOfFunction (view_function f.now) setting.now }
     requires numbered { IsNumbered (typing_in setting.now.types) (view_function f.now) }
-    requires few { input_bits setting.now.keys ≤ 16 }
-    ensures { IsTypedTree (typing_in setting.now.types) setting.now.without (view_function f.now) → IfOk result (λ x. IsJudged setting.now.types.bytes setting.now.without setting.now.types.entries (view_unit setting.now.types.unit) (view_function f.now) x.lines.items x.counts) }
+    requires typed { IsTypedFunction (typing_in setting.now.types) setting.now.without (view_function f.now) }
+    requires weight { weight ≡ weights.weight (typing_in setting.now.types) setting.now.without (view_function f.now) }
+    requires light { weight ≤ weights.most_weight }
+    requires least { 1 ≤ budget }
+    requires most { budget ≤ MOST_BUDGET }
+    ensures judged { IfOk result (λ x. IsJudged setting.now.types.bytes setting.now.without budget setting.now.types.entries (view_unit setting.now.types.unit) (view_function f.now) x.lines.items x.counts) }
+    ensures counted { IfOk result (λ x. AreCounted (D.given_up decider.old) (D.given_up decider.new) (lines_marks x.lines.items)) }
+    ensures later { D.given_up decider.old ≤ D.given_up decider.new }
 {
     let list = candidates(alloc, setting.types(), f)?;
-    let findings = findings_in(alloc, setting, f, list.as_slice())?;
+    let findings = findings_in(alloc, setting, f, list.as_slice(), weight, budget, decider)?;
     let lines = lines_in(
         alloc,
         input,

@@ -1,0 +1,5 @@
+pub mod Numbers
+pub mod Forms
+pub mod Expressions
+pub mod Statements
+pub mod Whole

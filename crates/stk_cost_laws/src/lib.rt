@@ -1,0 +1,6 @@
+//! Laws of costs: what a walk over all branches may cost is within the weight of its function.
+#![tactic(auto)]
+
+mod walks;
+
+pub use walks::walks_are_within_weight;

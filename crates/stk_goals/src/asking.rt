@@ -1,0 +1,80 @@
+//! What is asked of the goals of a function, and what is answered.
+
+ghost use Rattle.std.specs.Prelude.{◌≡◌, ◌+◌, ◌<◌, ◌≤◌, ◌^◌, true, List, length, map, sum, IfOk};
+ghost use Rattle.stk_base.specs.Causes.{Rose};
+ghost use Rattle.stk_tree.specs.Syntax.{FunctionTree};
+ghost use Rattle.stk_numbers.specs.Kinds.{width_of};
+ghost use Rattle.stk_numbers.specs.declared.conditions.Candidate.{Candidate};
+ghost use Rattle.stk_numbers.specs.declared.conditions.Condition.{Condition};
+ghost use Rattle.stk_numbers.specs.declared.conditions.Kinds.{Kinds};
+ghost use Rattle.stk_meaning.specs.Typings.{Typing};
+ghost use Rattle.stk_terms.specs.Values.{width_at};
+ghost use Rattle.stk_terms.specs.Cost.{cost};
+ghost use Rattle.stk_rewrite.specs.Normal.{IsNormal};
+ghost use Rattle.stk_goals.specs.Queries.{key_kinds, IsGoalOf};
+ghost use Rattle.stk_goals.specs.Answers.{is_given_up, IsRightAnswer};
+
+use crate::numbers::inputs_of;
+use std::alloc::Global;
+use stk_base::NoMemory;
+use stk_numbers::{Candidate, Condition, Inputs, IntKind};
+use stk_query::{Decider, MOST_BUDGET, Verdict};
+use stk_terms::{TermId, Terms};
+
+/// A query of a function: whether some valid input map's path run hits a candidate, by its place in the list of the
+/// function's candidates, with no condition of a set violated before (Wang, Zeldovich, Kaashoek, Solar-Lezama, SOSP
+/// 2013, section 3).
+#[derive(Clone, Copy)]
+pub struct Query<'a> {
+    pub position: u32,
+    pub candidate: Candidate,
+    pub set: &'a [Condition],
+}
+
+/// What is answered of a query.
+#[derive(Debug, Drop)]
+pub enum QueryAnswer {
+    /// This valid map's path run hits the candidate free of the set.
+    Start(Inputs),
+    /// No valid map's does.
+    Never,
+    /// The query was given up.
+    GivenUp,
+}
+
+/// A goal: a term, the store in which it is, and the kinds of the keys that the inputs of the store are.
+#[derive(Clone, Copy)]
+pub(crate) struct Goal<'a> {
+    pub(crate) term: TermId,
+    pub(crate) terms: &'a Terms,
+    pub(crate) kinds: &'a [IntKind],
+}
+
+/// The answer to a query whose goal this is, by a decider.
+pub(crate) fn decided<D: Decider>(
+    alloc: Global,
+    goal: &Goal,
+    decider: &mut D,
+    budget: u32,
+) -> Result<QueryAnswer, NoMemory>
+    requires exists { goal.now.term.0 < length goal.now.terms.now.terms }
+    requires one { width_at goal.now.terms.now goal.now.term.0 ≡ 1 }
+    requires least { 1 ≤ budget }
+    requires most { budget ≤ MOST_BUDGET }
+    requires room { sum goal.now.terms.now.inputs + cost goal.now.terms.now goal.now.term.0 < 2 ^ 29 }
+    requires normal { IsNormal goal.now.terms.now goal.now.term.0 }
+    requires inputs { goal.now.terms.now.inputs ≡ map width_of goal.now.kinds.now }
+    ensures right { (ty : Typing) (without : Kinds) (f : FunctionTree) (c : Candidate) (set : List Condition) → goal.now.kinds.now ≡ key_kinds ty without f → IsGoalOf ty without f c set goal.now.terms.now goal.now.term.0 → IfOk result (IsRightAnswer ty without f c set budget) }
+    ensures rose { IfOk result (λ a. is_given_up a ≡ true → Rose (D.given_up decider.old) (D.given_up decider.new)) }
+    ensures later { D.given_up decider.old ≤ D.given_up decider.new }
+{
+    let verdict = decider.ask(goal.terms, goal.term, budget)?;
+    match verdict {
+        Verdict::Satisfied(residues) => {
+            let inputs = inputs_of(alloc, goal.kinds, residues.numbers.as_slice())?;
+            Ok(QueryAnswer::Start(inputs))
+        }
+        Verdict::Tried | Verdict::Refuted(_, _) => Ok(QueryAnswer::Never),
+        Verdict::Undecided(_, _) => Ok(QueryAnswer::GivenUp),
+    }
+}

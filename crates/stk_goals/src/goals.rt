@@ -1,0 +1,185 @@
+//! The goals of a function.
+
+ghost use Rattle.std.specs.Prelude.{◌≡◌, ◌≤◌, Some, slice_get, true, map, IfOk};
+ghost use Rattle.stk_base.specs.Causes.{Rose};
+ghost use Rattle.stk_tree.specs.View.{view_function};
+ghost use Rattle.stk_meaning.specs.Lists as lists;
+ghost use Rattle.stk_meaning.specs.Weights as weights;
+ghost use Rattle.stk_function_types.specs.Nodes.{typing_in};
+ghost use Rattle.stk_terms.specs.Values.{width_at};
+ghost use Rattle.stk_rewrite.specs.Normal.{IsNormal};
+ghost use Rattle.stk_walkable.specs.Searched.{IsSearched};
+ghost use Rattle.stk_goals.specs.Queries.{IsGoalOf};
+ghost use Rattle.stk_goals.specs.Goals.{AreGoalsOf, typing_asked, without_asked, tree_asked};
+ghost use Rattle.stk_goals.specs.Answers.{is_given_up, IsRightAnswer};
+ghost use Rattle.stk_function_env.specs.declared.infos.KeyInfo.{KeyInfo};
+
+use crate::asking::{Goal, Query, QueryAnswer, decided};
+use crate::costs::is_cheap;
+use std::alloc::Global;
+use std::marker::Model;
+use stk_base::NoMemory;
+use stk_function_env::KeyInfo;
+use stk_function_walk::walk_function;
+use stk_numbers::{Candidate, IntKind};
+use stk_path_runs::FunctionTables;
+use stk_query::{Decider, MOST_BUDGET};
+use stk_symbols::Symbols;
+use stk_terms::TermId;
+use stk_tree::Function;
+use stk_values::Walked;
+
+/// The goals of a function's queries: a store of terms whose inputs are the function's keys, and the walk of the
+/// function over it. A goal is made as its query is asked; all of them share the terms of the walk.
+///
+/// Contracts see it as the function, by the tables of its path runs and its tree.
+#[derive(Drop)]
+pub struct FunctionGoals<'a> {
+    alloc: Global,
+    tables: &'a FunctionTables<'a>,
+    function: &'a Function,
+    kinds: Vec<IntKind>,
+    symbols: Symbols,
+    walked: Walked<TermId>,
+}
+
+impl<'a> Model for FunctionGoals<'a> {
+    ghost use Rattle.std.specs.Prelude.{◌≡◌};
+    ghost use Rattle.std.specs.Coded.{codes};
+    ghost use Rattle.stk_ctype.specs.contracts.ctype.CType as ctype;
+    ghost use Rattle.stk_ctype.specs.contracts.ctype.Signature as signature;
+    ghost use Rattle.stk_tree.specs.contracts.expression.Expr as expr;
+    ghost use Rattle.stk_tree.specs.contracts.expression.ExprForm as expr_form;
+    ghost use Rattle.stk_tree.specs.contracts.declaration.Base as base;
+    ghost use Rattle.stk_tree.specs.contracts.declaration.BaseForm as base_form;
+    ghost use Rattle.stk_tree.specs.contracts.declaration.Member as member;
+    ghost use Rattle.stk_tree.specs.contracts.declaration.Enumr as enumr;
+    ghost use Rattle.stk_tree.specs.contracts.declaration.Declr as declr;
+    ghost use Rattle.stk_tree.specs.contracts.declaration.Tail as tail;
+    ghost use Rattle.stk_tree.specs.contracts.declaration.Dimension as dimension;
+    ghost use Rattle.stk_tree.specs.contracts.declaration.Param as param;
+    ghost use Rattle.stk_tree.specs.contracts.declaration.TypeName as type_name;
+    ghost use Rattle.stk_tree.specs.contracts.declaration.Init as init;
+    ghost use Rattle.stk_tree.specs.contracts.declaration.Item as item;
+    ghost use Rattle.stk_tree.specs.contracts.declaration.Desig as desig;
+    ghost use Rattle.stk_tree.specs.contracts.statement.Stmt as stmt;
+    ghost use Rattle.stk_tree.specs.contracts.statement.StmtForm as stmt_form;
+    ghost use Rattle.stk_tree.specs.contracts.statement.Part as part;
+    ghost use Rattle.stk_tree.specs.contracts.statement.Section as section;
+    ghost use Rattle.stk_goals.specs.Goals.{AskedFunction, AreGoalsIn};
+
+    ghost Value = { AskedFunction };
+
+    ghost coded = { Prim.hlevel (codes, ctype.the_row.coded, signature.the_row.coded, expr.the_row.coded, expr_form.the_row.coded, base.the_row.coded, base_form.the_row.coded, member.the_row.coded, enumr.the_row.coded, declr.the_row.coded, tail.the_row.coded, dimension.the_row.coded, param.the_row.coded, type_name.the_row.coded, init.the_row.coded, item.the_row.coded, desig.the_row.coded, stmt.the_row.coded, stmt_form.the_row.coded, part.the_row.coded, section.the_row.coded) };
+
+    ghost view = { λ g. record { tables = g.tables.now; function = g.function.now } };
+
+    ghost invariant = { λ g. AreGoalsIn (record { tables = g.tables.now; function = g.function.now }) g.kinds.items g.symbols g.walked };
+}
+
+// The kinds of keys.
+fn kinds_of(alloc: Global, keys: &[KeyInfo]) -> Result<Vec<IntKind>, NoMemory>
+    ensures { IfOk result (λ kinds. kinds.items ≡ map (λ (k : KeyInfo). k.kind) keys.now) }
+{
+    let mut kinds = Vec::new(alloc);
+    for key in keys {
+        kinds.push(key.kind)?;
+    }
+    Ok(kinds)
+}
+
+// The goal of a query, over the store and the walk of a function.
+fn goal_of(
+    tables: &FunctionTables,
+    function: &Function,
+    symbols: &mut Symbols,
+    walked: &Walked<TermId>,
+    query: &Query,
+) -> Result<TermId, NoMemory>
+    requires goals { AreGoalsOf (typing_in tables.now.places.types) tables.now.places.without (view_function function.now) symbols.old walked.now }
+    requires at { slice_get (lists.candidates (typing_in tables.now.places.types) (view_function function.now)) query.now.position ≡ Some query.now.candidate }
+    ensures goal { IfOk result (λ v. IsGoalOf (typing_in tables.now.places.types) tables.now.places.without (view_function function.now) query.now.candidate query.now.set.now symbols.new.terms v.0) }
+    ensures normal { IfOk result (λ v. IsNormal symbols.new.terms v.0) }
+    ensures one { IfOk result (λ v. width_at symbols.new.terms v.0 ≡ 1) }
+    ensures goals { AreGoalsOf (typing_in tables.now.places.types) tables.now.places.without (view_function function.now) symbols.new walked.now }
+{
+    // The contract alone reads the function.
+    let _ = tables;
+    let _ = function;
+    let term = symbols.goal(walked, query.position, query.set)?;
+    Ok(term)
+}
+
+impl<'a> FunctionGoals<'a> {
+    /// The goals of a function that is searched, by the tables of its path runs, its candidates in order, and its
+    /// weight, which is at most 8,000,000. The function is walked over all its branches (Wang, Zeldovich, Kaashoek,
+    /// Solar-Lezama, SOSP 2013, section 4.3).
+    ///
+    /// `NoMemory` comes too where the walk's values and what a goal adds to them cost more than the function weighs,
+    /// which is tested since the walk doesn't say what it costs. No function was seen that costs more.
+    pub fn new(
+        alloc: Global,
+        tables: &'a FunctionTables<'a>,
+        function: &'a Function,
+        candidates: &[Candidate],
+        weight: u64,
+    ) -> Result<FunctionGoals<'a>, NoMemory>
+        requires searched { IsSearched tables.now (view_function function.now) }
+        requires candidates { candidates.now ≡ lists.candidates (typing_in tables.now.places.types) (view_function function.now) }
+        requires weight { weight ≡ weights.weight (typing_in tables.now.places.types) tables.now.places.without (view_function function.now) }
+        ensures tables { IfOk result (λ g. g.tables ≡ tables.now) }
+        ensures function { IfOk result (λ g. g.function ≡ function.now) }
+    {
+        let kinds = kinds_of(alloc, tables.setting().keys())?;
+        let mut symbols = Symbols::new(alloc, kinds.as_slice())?;
+        let walked = walk_function(alloc, tables, function, candidates, &mut symbols)?;
+        if !is_cheap(symbols.terms(), walked.steps.as_slice(), weight) {
+            return Err(NoMemory);
+        }
+        Ok(FunctionGoals {
+            alloc,
+            tables,
+            function,
+            kinds,
+            symbols,
+            walked,
+        })
+    }
+
+    /// Whether some valid input map's path run hits the candidate of the query free of its set. The candidate stands
+    /// in its place in the list of the function's candidates, the set holds any conditions, and the budget is how many
+    /// clauses a search may learn, from 1 to 200,000.
+    ///
+    /// `Start` has such a map, `Never` comes only where there is none. `GivenUp` comes only where the function has more
+    /// than 16 input bits and the decider counted a goal as given up, with a spent log of this budget over clauses that
+    /// stand for the query, with no more variables than the function has input bits and weight. What the decider gave
+    /// up doesn't become less. After `NoMemory` other queries may be asked as before.
+    pub fn ask<D: Decider>(
+        &mut self,
+        decider: &mut D,
+        query: &Query,
+        budget: u32,
+    ) -> Result<QueryAnswer, NoMemory>
+        requires at { slice_get (lists.candidates (typing_asked self.old) (tree_asked self.old)) query.now.position ≡ Some query.now.candidate }
+        requires least { 1 ≤ budget }
+        requires most { budget ≤ MOST_BUDGET }
+        ensures right { IfOk result (IsRightAnswer (typing_asked self.old) (without_asked self.old) (tree_asked self.old) query.now.candidate query.now.set.now budget) }
+        ensures rose { IfOk result (λ a. is_given_up a ≡ true → Rose (D.given_up decider.old) (D.given_up decider.new)) }
+        ensures later { D.given_up decider.old ≤ D.given_up decider.new }
+        ensures same { self.new ≡ self.old }
+    {
+        let term = goal_of(
+            self.tables,
+            self.function,
+            &mut self.symbols,
+            &self.walked,
+            query,
+        )?;
+        let goal = Goal {
+            term,
+            terms: self.symbols.terms(),
+            kinds: self.kinds.as_slice(),
+        };
+        decided(self.alloc, &goal, decider, budget)
+    }
+}

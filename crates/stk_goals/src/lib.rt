@@ -1,0 +1,12 @@
+//! The goals of a function's queries, and asking them: a store of terms and a walk of the function over it.
+#![tactic(auto)]
+
+mod asking;
+mod costs;
+mod goals;
+mod laws;
+mod numbers;
+
+pub use asking::{Query, QueryAnswer};
+pub use goals::FunctionGoals;
+pub use laws::goals_add_little;

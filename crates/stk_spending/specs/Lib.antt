@@ -1,0 +1,4 @@
+pub mod Charges
+pub mod Expressions
+pub mod Statements
+pub mod Functions

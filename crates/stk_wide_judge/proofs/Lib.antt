@@ -1,0 +1,7 @@
+pub mod Counting
+pub mod Later
+pub mod Searching
+pub mod Deleting
+pub mod Settling
+pub mod Skipping
+pub mod Tracing

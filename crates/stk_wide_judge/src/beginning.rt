@@ -1,0 +1,40 @@
+//! What is known before anything is asked.
+
+ghost use Rattle.std.specs.Prelude.{IfOk, OnOk};
+ghost use Rattle.stk_tree.specs.View.{view_function};
+ghost use Rattle.stk_judge.specs.PathTables.{AreTablesOf};
+ghost use Rattle.stk_wide_judge.specs.Wide.{asked_in};
+ghost use Rattle.stk_wide_judge.specs.Starts.{AreKnown};
+
+use crate::{JudgedFunction, Known};
+use stk_base::NoMemory;
+use stk_first_maps::{CHOICES, Choice, is_valid, map_of_choice, words_of};
+
+impl Known {
+    // The input map of a choice joins, where it is valid.
+    fn try_choice(&mut self, function: &JudgedFunction, choice: Choice) -> Result<(), NoMemory>
+        requires { AreTablesOf (view_function function.now.f.now) function.now.tables.now }
+        ensures { let a = asked_in function.now.tables.now (view_function function.now.f.now) in AreKnown a self.old.starts.items self.old.table → OnOk result (AreKnown a self.new.starts.items self.new.table) }
+    {
+        let keys = function.tables.setting().keys();
+        let start = map_of_choice(function.alloc, keys, choice)?;
+        let words = words_of(function.alloc, keys, start.numbers.as_slice())?;
+        let valid = is_valid(function.alloc, function.tables, words.as_slice())?;
+        if valid {
+            return self.add(function, &start);
+        }
+        Ok(())
+    }
+
+    /// The first starts of a function: of some dozens of fixed input maps those that are valid.
+    pub fn begin(function: &JudgedFunction) -> Result<Known, NoMemory>
+        requires { AreTablesOf (view_function function.now.f.now) function.now.tables.now }
+        ensures { let a = asked_in function.now.tables.now (view_function function.now.f.now) in IfOk result (λ known. AreKnown a known.starts.items known.table) }
+    {
+        let mut known = Known::new(function.alloc);
+        for choice in &CHOICES {
+            known.try_choice(function, *choice)?;
+        }
+        Ok(known)
+    }
+}

@@ -1,0 +1,77 @@
+//! The finding of a candidate.
+
+ghost use Rattle.std.specs.Prelude.{◌≡◌, IfOk, OnOk};
+ghost use Rattle.stk_tree.specs.View.{view_function};
+ghost use Rattle.stk_meaning.specs.Findings.{IsLawful};
+ghost use Rattle.stk_judge.specs.PathTables.{AreTablesOf};
+ghost use Rattle.stk_wide_judge.specs.Wide.{asked_in, asked_subject, IsPlaced};
+ghost use Rattle.stk_wide_judge.specs.Answers.{IsLater};
+ghost use Rattle.stk_spent_queries.specs.Marks.{marks, AreCounted};
+ghost use Rattle.stk_wide_judge.specs.Starts.{AreKnown};
+ghost use Rattle.stk_wide_judge.specs.Rounds.{IsFoundOr};
+
+use crate::plain::plain;
+use crate::rounds::{Round, one_round};
+use crate::{AskedCandidate, JudgedFunction, Known, Questions};
+use stk_base::NoMemory;
+use stk_meaning::Finding;
+use stk_query::Decider;
+
+// The most guesses for a candidate, before the queries of the definition.
+const MOST_ROUNDS: u32 = 32;
+
+// The finding by guesses, where one of them is right.
+fn by_guesses<Q: Questions, D: Decider>(
+    function: &JudgedFunction,
+    questions: &mut Q,
+    decider: &mut D,
+    known: &mut Known,
+    asked: AskedCandidate,
+) -> Result<Option<Finding>, NoMemory>
+    requires tables { AreTablesOf (view_function function.now.f.now) function.now.tables.now }
+    requires about { Q.about questions.old ≡ asked_in function.now.tables.now (view_function function.now.f.now) }
+    requires placed { IsPlaced (asked_in function.now.tables.now (view_function function.now.f.now)) asked.position asked.candidate }
+    requires known { AreKnown (asked_in function.now.tables.now (view_function function.now.f.now)) known.old.starts.items known.old.table }
+    ensures found { IfOk result (IsFoundOr (asked_in function.now.tables.now (view_function function.now.f.now)) asked.candidate) }
+    ensures known { OnOk result (AreKnown (asked_in function.now.tables.now (view_function function.now.f.now)) known.new.starts.items known.new.table) }
+    ensures later { IsLater (Q.about questions.old) (Q.about questions.new) (Q.spent questions.old) (Q.spent questions.new) (D.given_up decider.old) (D.given_up decider.new) }
+{
+    for _round in 0..MOST_ROUNDS {
+        match one_round(function, questions, decider, known, asked)? {
+            Round::Found(finding) => return Ok(Some(finding)),
+            Round::Refuted => {}
+            Round::Stopped => return Ok(None),
+        }
+    }
+    Ok(None)
+}
+
+/// The lawful finding of a candidate of a function of any number of input bits (Wang, Zeldovich, Kaashoek,
+/// Solar-Lezama, SOSP 2013, sections 3 and 4.5), whose set of conditions is minimal by deletion from the greatest
+/// condition to the least. Where a known start hits the candidate free of all conditions, nothing is asked. Else the
+/// set is guessed from the known starts, and one query says whether the guess is right; a start that refutes it joins
+/// the known ones, up to 32 times. Where that doesn't lead to a finding, the queries of the definition are asked that
+/// no known start answers. Queries that the finding says were given up are at most as many as those that were counted
+/// as given up, or the count stands at its last value. The only refusal is want of memory, after which nothing is
+/// known.
+pub fn judge_candidate<Q: Questions, D: Decider>(
+    function: &JudgedFunction,
+    questions: &mut Q,
+    decider: &mut D,
+    known: &mut Known,
+    asked: AskedCandidate,
+) -> Result<Finding, NoMemory>
+    requires tables { AreTablesOf (view_function function.now.f.now) function.now.tables.now }
+    requires about { Q.about questions.old ≡ asked_in function.now.tables.now (view_function function.now.f.now) }
+    requires placed { IsPlaced (asked_in function.now.tables.now (view_function function.now.f.now)) asked.position asked.candidate }
+    requires known { AreKnown (asked_in function.now.tables.now (view_function function.now.f.now)) known.old.starts.items known.old.table }
+    ensures lawful { IfOk result (IsLawful (asked_subject (asked_in function.now.tables.now (view_function function.now.f.now)) (Q.spent questions.old)) asked.candidate) }
+    ensures known { OnOk result (AreKnown (asked_in function.now.tables.now (view_function function.now.f.now)) known.new.starts.items known.new.table) }
+    ensures marks { IfOk result (λ finding. AreCounted (D.given_up decider.old) (D.given_up decider.new) (marks finding)) }
+    ensures later { IsLater (Q.about questions.old) (Q.about questions.new) (Q.spent questions.old) (Q.spent questions.new) (D.given_up decider.old) (D.given_up decider.new) }
+{
+    match by_guesses(function, questions, decider, known, asked)? {
+        Some(finding) => Ok(finding),
+        None => plain(function, questions, decider, known, asked),
+    }
+}

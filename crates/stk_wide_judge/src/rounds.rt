@@ -1,0 +1,88 @@
+//! Guesses, and the question whether they are right.
+
+ghost use Rattle.std.specs.Prelude.{◌≡◌, IfOk, OnOk};
+ghost use Rattle.stk_tree.specs.View.{view_function};
+ghost use Rattle.stk_numbers.specs.declared.conditions.Candidate.{Candidate as Asked};
+ghost use Rattle.stk_meaning.specs.Findings.{members, NoAnswer};
+ghost use Rattle.stk_judge.specs.Tables.{rows_of};
+ghost use Rattle.stk_guess.specs.Known.{IsGuess};
+ghost use Rattle.stk_judge.specs.PathTables.{AreTablesOf};
+ghost use Rattle.stk_wide_judge.specs.Wide.{AskedFunction, asked_in, asked_subject, never_spent, IsPlaced};
+ghost use Rattle.stk_wide_judge.specs.Answers.{IsLater};
+ghost use Rattle.stk_wide_judge.specs.Starts.{AreKnown};
+ghost use Rattle.stk_wide_judge.specs.Rounds.{IsDecided, IsRound};
+
+use crate::guessing::{guess, members_of};
+use crate::{AskedCandidate, JudgedFunction, Known, QueryAnswer, Questions};
+use std::alloc::Global;
+use stk_base::{List, NoMemory};
+use stk_judge::Row;
+use stk_meaning::{Finding, Need};
+use stk_query::Decider;
+
+/// What a guess leads to.
+#[derive(Drop)]
+pub(crate) enum Round {
+    /// It is right, or the known starts decide by themselves.
+    Found(Finding),
+    /// A start that was found refutes it.
+    Refuted,
+    /// Its query was given up, or no further start is kept.
+    Stopped,
+}
+
+// The finding where no map answers the query for the guessed set.
+fn settled(
+    alloc: Global,
+    known: &Known,
+    rows: &[Row],
+    needs: List<Need>,
+) -> Result<Finding, NoMemory>
+    ensures { (a : AskedFunction) (c : Asked) → AreKnown a known.now.starts.items known.now.table → rows.now ≡ rows_of c known.now.table.hits → IsGuess (asked_subject a never_spent) known.now.starts.items c needs → NoAnswer (asked_subject a never_spent) c (members needs)
+        → IfOk result (IsDecided a c) }
+{
+    match known.first_answer(alloc, rows, &[])? {
+        None => Ok(Finding::Clear),
+        Some(start) => Ok(Finding::Unstable { start, needs }),
+    }
+}
+
+/// One guess, and the question whether it is right.
+pub(crate) fn one_round<Q: Questions, D: Decider>(
+    function: &JudgedFunction,
+    questions: &mut Q,
+    decider: &mut D,
+    known: &mut Known,
+    asked: AskedCandidate,
+) -> Result<Round, NoMemory>
+    requires tables { AreTablesOf (view_function function.now.f.now) function.now.tables.now }
+    requires about { Q.about questions.old ≡ asked_in function.now.tables.now (view_function function.now.f.now) }
+    requires placed { IsPlaced (asked_in function.now.tables.now (view_function function.now.f.now)) asked.position asked.candidate }
+    requires known { AreKnown (asked_in function.now.tables.now (view_function function.now.f.now)) known.old.starts.items known.old.table }
+    ensures found { IfOk result (IsRound (asked_in function.now.tables.now (view_function function.now.f.now)) asked.candidate) }
+    ensures known { OnOk result (AreKnown (asked_in function.now.tables.now (view_function function.now.f.now)) known.new.starts.items known.new.table) }
+    ensures later { IsLater (Q.about questions.old) (Q.about questions.new) (Q.spent questions.old) (Q.spent questions.new) (D.given_up decider.old) (D.given_up decider.new) }
+{
+    let alloc = function.alloc;
+    let rows = known.table.rows_of(alloc, asked.candidate)?;
+    let free = known.first_answer(alloc, rows.as_slice(), function.conditions)?;
+    if free.is_some() {
+        return Ok(Round::Found(Finding::Clear));
+    }
+    let needs = guess(alloc, known, rows.as_slice(), function.conditions)?;
+    let set = members_of(alloc, needs.as_slice())?;
+    match questions.ask(decider, asked.position, asked.candidate, set.as_slice())? {
+        QueryAnswer::Start(start) => {
+            if known.is_full() {
+                return Ok(Round::Stopped);
+            }
+            known.add(function, &start)?;
+            Ok(Round::Refuted)
+        }
+        QueryAnswer::Never => {
+            let finding = settled(alloc, known, rows.as_slice(), needs)?;
+            Ok(Round::Found(finding))
+        }
+        QueryAnswer::GivenUp => Ok(Round::Stopped),
+    }
+}
