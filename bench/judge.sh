@@ -1,5 +1,6 @@
 #!/bin/bash
-# Times the checker on functions of at most 16 input bits, all of whose input maps are run.
+# Times the checker on functions of at most 16 input bits, all of whose input maps are run, and on wider ones, which a
+# search decides where known starts don't tell.
 #   bash bench/judge.sh [PROGRAM]
 # With no program it takes ./stack. For each text it prints the processor seconds of the whole run, the most memory in
 # KiB, and the last line of the records.
@@ -42,3 +43,21 @@ printf 'int f(unsigned char a, unsigned char b) { int s = 1; for (unsigned char 
 measure 'with loops and a switch, 24 input bits: skipped'
 printf 'int f(unsigned char a, unsigned char b) { int s = 1; while (a > b) { if (10 / b > a) return 1; break; } switch (a) { case 1: s = 10 / b; case 2: if (b == 0) return 3; default: s = 5; } return s; }' > "$text"
 measure 'with a loop and a switch'
+wide() { # a function of 64 input bits with $1 sums that may overflow and, behind them, $2 tests, of which $3 are unstable
+    python3 - "$@" > "$text" <<'PY'
+import sys
+sums, tests, unstable = map(int, sys.argv[1:])
+print("int f(int a, int b) { int s = 0;")
+for k in range(sums):
+    print(f"s ^= a + {k + 1};")
+for k in range(tests):
+    print(f"if (a > 2147483647 - {k + 1}) s ^= {k};" if k < unstable else f"if (b > {k}) s ^= {k};")
+print("return s; }")
+PY
+}
+for tests in 3 33 333; do
+    wide $((3 * tests)) "$tests" 0
+    measure "64 input bits, $((3 * tests)) conditions, $tests tests, none unstable"
+    wide $((3 * tests)) "$tests" "$tests"
+    measure "64 input bits, $((3 * tests)) conditions, $tests tests, each unstable"
+done

@@ -21,7 +21,10 @@ impl Drawer {
 
     /// The next number: that of a linear congruential generator modulo 2^64, by its higher bits.
     pub(crate) fn next(&mut self) -> u64 {
-        self.state = self.state.wrapping_mul(6364136223846793005).wrapping_add(1442695040888963407);
+        self.state = self
+            .state
+            .wrapping_mul(6364136223846793005)
+            .wrapping_add(1442695040888963407);
         self.state >> 11
     }
 

@@ -26,13 +26,7 @@ fn greatest(kind: IntKind) -> i128 {
 fn chosen(choice: Choice, kind: IntKind, drawer: &mut Drawer) -> i128 {
     match choice {
         Choice::Same(number) => i128::from(number),
-        Choice::Least => {
-            if signed(kind) {
-                -1 - greatest(kind)
-            } else {
-                0
-            }
-        }
+        Choice::Least => { if signed(kind) { -1 - greatest(kind) } else { 0 } }
         Choice::Greatest => greatest(kind),
         Choice::Drawn(_) => drawer.number(),
     }
@@ -61,11 +55,7 @@ fn seed_of(choice: Choice) -> u64 {
 
 /// The input map of a choice, for these keys: each number is in the range of its key's kind. Objects are placed one
 /// behind the other; whether their addresses are valid has to be tried.
-pub fn map_of_choice(
-    alloc: Global,
-    keys: &[KeyInfo],
-    choice: Choice,
-) -> Result<Inputs, NoMemory>
+pub fn map_of_choice(alloc: Global, keys: &[KeyInfo], choice: Choice) -> Result<Inputs, NoMemory>
     ensures { IfOk result (λ inputs. AreInRange (map info_in keys.now) inputs.numbers) }
 {
     let mut drawer = Drawer::new(seed_of(choice));

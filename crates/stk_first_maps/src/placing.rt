@@ -82,11 +82,7 @@ fn placed_objects(mapped: &MappedFunction) -> Result<Vec<PlacedObject>, NoMemory
 /// Whether the addresses that an input map gives are valid: each memory object lies in memory, and each kept one shares
 /// no byte with another one that has a name and a scalar or struct type (C11 6.2.4, 6.5.3.2). The map is given as the
 /// numbers of the keys, in order.
-pub fn is_valid(
-    alloc: Global,
-    tables: &FunctionTables,
-    numbers: &[Word],
-) -> Result<bool, NoMemory>
+pub fn is_valid(alloc: Global, tables: &FunctionTables, numbers: &[Word]) -> Result<bool, NoMemory>
     ensures { IfOk result (λ valid. valid ≡ are_valid tables.now.places.kept (objects_in (typing_in tables.now.places.types) tables.now.places.keys) (addresses_in (number_under tables.now.places.keys numbers.now))) }
 {
     let mapped = MappedFunction {

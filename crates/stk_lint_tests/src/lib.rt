@@ -1,0 +1,9 @@
+//! Tests of the top call on functions of more than 16 input bits: their records, and what the decider is asked.
+#![tactic(auto)]
+
+#[cfg(test)]
+mod asked;
+#[cfg(test)]
+mod running;
+#[cfg(test)]
+mod wide_rows;

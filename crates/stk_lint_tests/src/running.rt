@@ -1,0 +1,40 @@
+//! Runs of the top call over a source and sinks in memory.
+
+use std::alloc::Global;
+use std::test::Fail;
+use stk_base::{MemSink, MemSource, Status};
+use stk_lint::lint_main;
+use stk_query::Decider;
+
+/// What a run came to: its status, and what its output took.
+#[derive(Drop)]
+pub struct Ran {
+    pub status: Status,
+    pub records: Vec<u8>,
+}
+
+// The most bytes of a call of the source or a sink.
+const MOST: usize = 1_000_000;
+
+/// Runs the top call with words on an input, by a decider; nothing fails.
+pub(crate) fn ran<D: Decider>(
+    alloc: Global,
+    words: &[&'static str],
+    input: &str,
+    decider: &mut D,
+) -> Result<Ran, Fail> {
+    let mut owned = Vec::new(alloc);
+    for word in words {
+        owned.push(String::from_str(alloc, word)?)?;
+    }
+    let bytes = Vec::from_slice(alloc, input.as_bytes())?;
+    let mut source = MemSource::new(bytes, MOST, Vec::new(alloc));
+    let mut out = MemSink::new(alloc, MOST, Vec::new(alloc));
+    let mut fault = MemSink::new(alloc, MOST, Vec::new(alloc));
+    let words = owned.as_slice();
+    let status = lint_main(alloc, words, &mut source, &mut out, &mut fault, decider);
+    Ok(Ran {
+        status,
+        records: Vec::from_slice(alloc, out.bytes())?,
+    })
+}
