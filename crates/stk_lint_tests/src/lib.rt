@@ -4,6 +4,8 @@
 #[cfg(test)]
 mod asked;
 #[cfg(test)]
+mod given_up;
+#[cfg(test)]
 mod running;
 #[cfg(test)]
 mod wide_rows;

@@ -38,3 +38,20 @@ pub(crate) fn ran<D: Decider>(
         records: Vec::from_slice(alloc, out.bytes())?,
     })
 }
+
+/// Records with `_` for each number that stands right behind a `=`, as those of starts do.
+pub(crate) fn masked(alloc: Global, records: &[u8]) -> Result<Vec<u8>, Fail> {
+    let mut out = Vec::new(alloc);
+    let mut is_number = false;
+    for byte in records {
+        let is_kept = !is_number || !(byte.is_ascii_digit() || *byte == b'-');
+        if is_kept {
+            out.push(*byte)?;
+            is_number = *byte == b'=';
+        }
+        if is_kept && is_number {
+            out.push(b'_')?;
+        }
+    }
+    Ok(out)
+}

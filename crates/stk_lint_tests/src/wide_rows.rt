@@ -1,8 +1,7 @@
 //! Functions of more than 16 input bits with their records, which were worked out by hand and by a program apart from
 //! this one. A start may be any that does its duty, so the numbers of starts aren't compared: each is `_`.
 
-use crate::running::ran;
-use std::alloc::Global;
+use crate::running::{masked, ran};
 use std::test::Fail;
 use stk_base::Status;
 use stk_query::Cdcl;
@@ -91,23 +90,6 @@ static ROWS: [Row; 15] = [
         status: Status::Found,
     },
 ];
-
-// Records with `_` for each number that stands right behind a `=`, as those of starts do.
-fn masked(alloc: Global, records: &[u8]) -> Result<Vec<u8>, Fail> {
-    let mut out = Vec::new(alloc);
-    let mut is_number = false;
-    for byte in records {
-        let is_kept = !is_number || !(byte.is_ascii_digit() || *byte == b'-');
-        if is_kept {
-            out.push(*byte)?;
-            is_number = *byte == b'=';
-        }
-        if is_kept && is_number {
-            out.push(b'_')?;
-        }
-    }
-    Ok(out)
-}
 
 #[test]
 fn each_wide_row_has_its_records(rt: HostRuntime) -> Result<(), Fail> {
