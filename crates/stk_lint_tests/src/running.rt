@@ -8,7 +8,7 @@ use stk_query::Decider;
 
 /// What a run came to: its status, and what its output took.
 #[derive(Drop)]
-pub struct Ran {
+pub struct Outcome {
     pub status: Status,
     pub records: Vec<u8>,
 }
@@ -22,7 +22,7 @@ pub(crate) fn ran<D: Decider>(
     words: &[&'static str],
     input: &str,
     decider: &mut D,
-) -> Result<Ran, Fail> {
+) -> Result<Outcome, Fail> {
     let mut owned = Vec::new(alloc);
     for word in words {
         owned.push(String::from_str(alloc, word)?)?;
@@ -33,7 +33,7 @@ pub(crate) fn ran<D: Decider>(
     let mut fault = MemSink::new(alloc, MOST, Vec::new(alloc));
     let words = owned.as_slice();
     let status = lint_main(alloc, words, &mut source, &mut out, &mut fault, decider);
-    Ok(Ran {
+    Ok(Outcome {
         status,
         records: Vec::from_slice(alloc, out.bytes())?,
     })
