@@ -3,3 +3,5 @@ pub mod Forms
 pub mod Expressions
 pub mod Statements
 pub mod Whole
+pub mod TypedForms
+pub mod Accepted

@@ -1,12 +1,12 @@
 -- What the rules of typing say of each evaluated node of a function: its fact is what its rule makes of the facts of
--- its operands.
-use Rattle.std.proofs.Common.{◌≡◌, ℕ, List, Option, None}
+-- its operands, and what is tested is a scalar.
+use Rattle.std.proofs.Common.{◌≡◌, ℕ, true, List, Option, None}
 use Rattle.stk_ctype.specs.Structs.{Structs, structs_of}
 use Rattle.stk_ctype.specs.declared.symbol.NameEntry.{NameEntry}
-use Rattle.stk_tree.specs.Syntax.{ExprTree, ExprFormTree}
+use Rattle.stk_tree.specs.Syntax.{ExprTree, MaybeExprTree, ExprFormTree, StmtFormTree}
 use Rattle.stk_tree.specs.Syntax as s
 use Rattle.stk_type_rules.specs.Facts.{Fact, fact_at, Fits}
-use Rattle.stk_type_rules.specs.Rules.{paren_rule, step_rule, unary_rule, binary_rule, assign_rule}
+use Rattle.stk_type_rules.specs.Rules.{has_scalar, paren_rule, step_rule, unary_rule, binary_rule, assign_rule, choice_rule}
 use Rattle.stk_typing.specs.Locals.{Local}
 use Rattle.stk_typing.specs.Scope.{Scope}
 use Rattle.stk_function_types.specs.Bodies.{Body}
@@ -52,11 +52,28 @@ RuledForm structs facts k (s.size_expression e) = Unit {0}
 RuledForm structs facts k (s.size_name t) = Unit {0}
 RuledForm structs facts k (s.cast t e) = Unit {0}
 RuledForm structs facts k (s.binary op a b) = binary_rule structs op (fact_of facts a) (fact_of facts b) ≡ Fits (fact_at facts k)
-RuledForm structs facts k (s.choice x y z) = Unit {0}
+RuledForm structs facts k (s.choice x y z) = choice_rule (fact_of facts x) (fact_of facts y) (fact_of facts z) ≡ Fits (fact_at facts k)
 RuledForm structs facts k (s.assign op a b) = assign_rule structs op (fact_of facts a) (fact_of facts b) ≡ Fits (fact_at facts k)
+
+-- a controlling expression that may be missing is a scalar
+abbrev pub RuledTest : List Fact → MaybeExprTree → Type 0
+RuledTest facts s.no_expression = Unit {0}
+RuledTest facts (s.some_expression e) = has_scalar (fact_of facts e) ≡ true
+
+abbrev pub RuledStatement : List Fact → StmtFormTree → Type 0
+RuledStatement facts (s.block ps) = Unit {0}
+RuledStatement facts (s.expression_statement e) = Unit {0}
+RuledStatement facts (s.if_statement e x y) = has_scalar (fact_of facts e) ≡ true
+RuledStatement facts (s.switch_statement e ss) = Unit {0}
+RuledStatement facts (s.while_statement e x) = has_scalar (fact_of facts e) ≡ true
+RuledStatement facts (s.do_statement x e) = has_scalar (fact_of facts e) ≡ true
+RuledStatement facts (s.for_statement first test step x) = RuledTest facts test
+RuledStatement facts s.break_statement = Unit {0}
+RuledStatement facts s.continue_statement = Unit {0}
+RuledStatement facts (s.return_statement e) = Unit {0}
 
 abbrev pub RuledVisit : Ground → Visit → Type 0
 RuledVisit c (at_expression k role f) = RuledForm (structs_of c.entries) c.facts k f
 RuledVisit c (at_declarator k static at init) = Unit {0}
-RuledVisit c (at_statement k arm f) = Unit {0}
+RuledVisit c (at_statement k arm f) = RuledStatement c.facts f
 RuledVisit c (at_section k ls) = Unit {0}

@@ -35,12 +35,15 @@ record Formed (c : Ground) (k : ℕ) (role : Role) (f : ExprFormTree) : Type 0 w
   inner : EachVisit (RuledVisit c) (form_visits (typing c) k role f)
   own : RuledForm (structs_of c.entries) c.facts k f
 
--- a rule of one operand and of two, by the facts that stand at the nodes
+-- a rule of one operand, of two and of three, by the facts that stand at the nodes
 ruled_one : (rule : Fact → Ruled) (x y u v : Fact) → u ≡ x → v ≡ y → rule x ≡ Fits y → rule u ≡ Fits v
 ruled_one rule x y u v p q r = ap rule p ∙ r ∙ ap Fits (sym q)
 
 ruled_two : (rule : Fact → Fact → Ruled) (x y z u v w : Fact) → u ≡ x → v ≡ y → w ≡ z → rule x y ≡ Fits z → rule u v ≡ Fits w
 ruled_two rule x y z u v w p q here r = ap (λ t. rule t v) p ∙ ap (rule x) q ∙ r ∙ ap Fits (sym here)
+
+ruled_three : (rule : Fact → Fact → Fact → Ruled) (x y z a u v w b : Fact) → u ≡ x → v ≡ y → w ≡ z → b ≡ a → rule x y z ≡ Fits a → rule u v w ≡ Fits b
+ruled_three rule x y z a u v w b p q here last r = ap (λ t. rule t v w) p ∙ ap (λ t. rule x t w) q ∙ ap (rule x y) here ∙ r ∙ ap Fits (sym last)
 
 mutual
   pub expression_ruled : (c : Ground) (e : ExprTree) (n : ℕ) (role : Role) (ls : List Local) (own : Option ℕ) (x : Fact) (ts : List Fact) → expression_typed (in_force c ls own) e ≡ Good x ts
@@ -108,7 +111,10 @@ mutual
       let stand_c = rest_stands c.facts (n + expression_nodes a) (expression_nodes b) o.rest o.then.first o.then.rest o.then.all ((expression_count b (in_force c ls own)).by o.then.value o.then.first o.then.gives) stand_b in
       let l = o.then.then in
       let r = expression_ruled c d (n + expression_nodes a + expression_nodes b) as_arm ls own l.value l.first l.gives (first_stands c.facts (n + expression_nodes a + expression_nodes b) o.then.rest l.first (x ∷ []) l.all stand_c) from.2 in
-      record { inner = (p.visits, (q.visits, r.visits)); own = tt }
+      record {
+        inner = (p.visits, (q.visits, r.visits));
+        own = ruled_three choice_rule o.value o.then.value l.value x (fact_of c.facts a) (fact_of c.facts b) (fact_of c.facts d) (fact_at c.facts k) p.at q.at r.at here l.rule;
+      }
   form_ruled c (s.assign op a b) k n role ls own x ts eq stand from here =
       let o = two (expression_typed (in_force c ls own) a) (expression_typed (in_force c ls own) b) (assign_rule (structs_of c.entries) op) k x ts eq in
       let p = expression_ruled c a n (assigned_role op) ls own o.value o.first o.gives (first_stands c.facts n ts o.first o.rest o.all stand) from.0 in

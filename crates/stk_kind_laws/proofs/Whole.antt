@@ -32,7 +32,7 @@ use Rattle.stk_kind_laws.proofs.NodeKinds.{same_kind, paren_kind, step_kind, ass
 use Rattle.stk_kind_laws.proofs.Trees.{VisitHasKind, function_kinded}
 
 -- two facts of each visit
-each_both : (P Q R : Visit → Type 0) (v : Visits) → ((x : Visit) → P x → Q x → R x) → EachVisit P v → EachVisit Q v → EachVisit R v
+pub each_both : (P Q R : Visit → Type 0) (v : Visits) → ((x : Visit) → P x → Q x → R x) → EachVisit P v → EachVisit Q v → EachVisit R v
 each_both P Q R no_visit g h k = tt
 each_both P Q R (one_visit x) g h k = g x h k
 each_both P Q R (both_visits a b) g h k = (each_both P Q R a g h.0 k.0, each_both P Q R b g h.1 k.1)
