@@ -2,12 +2,14 @@
 
 ghost use Rattle.std.specs.Prelude.{◌≡◌, ◌≤◌, ℕ, IfOk};
 ghost use Rattle.stk_tree.specs.View.{view_function};
-ghost use Rattle.stk_meaning.specs.Keys.{input_bits, setting_of};
+ghost use Rattle.stk_meaning.specs.Keys.{input_bits, setting_of, function_visits};
 ghost use Rattle.stk_meaning.specs.Lists as lists;
 ghost use Rattle.stk_meaning.specs.Weights as weights;
 ghost use Rattle.stk_meaning.specs.Findings.{AreLawful};
+ghost use Rattle.stk_run_laws.specs.Visits.{EachVisit};
 ghost use Rattle.stk_run_laws.specs.TypedTree.{IsTypedTree};
 ghost use Rattle.stk_kinded.specs.KindedStatements.{KindedFunction};
+ghost use Rattle.stk_cost_laws.specs.Bits.{VisitHasBits};
 ghost use Rattle.stk_function_types.specs.Nodes.{typing_in};
 ghost use Rattle.stk_judge.specs.PathTables.{AreTablesOf};
 ghost use Rattle.stk_spent_queries.specs.Marks.{all_marks, AreCounted};
@@ -23,15 +25,14 @@ use stk_path_runs::{FunctionTables, input_bits};
 use stk_query::{Decider, MOST_BUDGET};
 use stk_tree::Function;
 
-/// A function whose findings are searched for: the tables of its path runs, itself, its candidates in order, its
-/// conditions in ascending order, and its weight, at most 8,000,000.
+/// A function whose findings are searched for, with at most 8,000,000 of weight: the tables of its path runs, itself, its
+/// candidates in order, and its conditions in ascending order.
 #[derive(Clone, Copy)]
 pub struct SearchedFunction<'a> {
     pub tables: &'a FunctionTables<'a>,
     pub function: &'a Function,
     pub candidates: &'a [Candidate],
     pub conditions: &'a [Condition],
-    pub weight: u64,
 }
 
 // The most input bits of a function whose input maps are all tried.
@@ -68,8 +69,8 @@ pub fn findings_of<D: Decider>(
     requires kinded { KindedFunction (setting_of (typing_in searched.now.tables.now.places.types) searched.now.tables.now.places.without (view_function searched.now.function.now)) (view_function searched.now.function.now) }
     requires candidates { searched.now.candidates.now ≡ lists.candidates (typing_in searched.now.tables.now.places.types) (view_function searched.now.function.now) }
     requires conditions { searched.now.conditions.now ≡ lists.conditions (typing_in searched.now.tables.now.places.types) searched.now.tables.now.places.without (view_function searched.now.function.now) }
-    requires weight { searched.now.weight ≡ weights.weight (typing_in searched.now.tables.now.places.types) searched.now.tables.now.places.without (view_function searched.now.function.now) }
-    requires light { searched.now.weight ≤ weights.most_weight }
+    requires bits { EachVisit (VisitHasBits (typing_in searched.now.tables.now.places.types)) (function_visits (typing_in searched.now.tables.now.places.types) (view_function searched.now.function.now)) }
+    requires light { weights.weight (typing_in searched.now.tables.now.places.types) searched.now.tables.now.places.without (view_function searched.now.function.now) ≤ weights.most_weight }
     requires least { 1 ≤ budget }
     requires most { budget ≤ MOST_BUDGET }
     ensures lawful { IfOk result (λ findings. AreLawful (searched_subject (typing_in searched.now.tables.now.places.types) searched.now.tables.now.places.without (view_function searched.now.function.now) budget) searched.now.candidates.now findings.items) }

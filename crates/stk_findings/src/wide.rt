@@ -4,7 +4,6 @@ ghost use Rattle.std.specs.Prelude.{◌≡◌, ◌≤◌, ◌<◌, ◌^◌, leng
 ghost use Rattle.stk_tree.specs.View.{view_function};
 ghost use Rattle.stk_meaning.specs.Keys.{input_bits};
 ghost use Rattle.stk_meaning.specs.Lists as lists;
-ghost use Rattle.stk_meaning.specs.Weights as weights;
 ghost use Rattle.stk_meaning.specs.Findings.{AreLawful};
 ghost use Rattle.stk_function_types.specs.Nodes.{typing_in};
 ghost use Rattle.stk_judge.specs.PathTables.{AreTablesOf};
@@ -32,7 +31,6 @@ fn questions_of<'a>(
 ) -> Result<FunctionQuestions<'a>, NoMemory>
     requires searched { IsSearched searched.now.tables.now (view_function searched.now.function.now) }
     requires candidates { searched.now.candidates.now ≡ lists.candidates (typing_in searched.now.tables.now.places.types) (view_function searched.now.function.now) }
-    requires weight { searched.now.weight ≡ weights.weight (typing_in searched.now.tables.now.places.types) searched.now.tables.now.places.without (view_function searched.now.function.now) }
     requires least { 1 ≤ budget }
     requires most { budget ≤ MOST_BUDGET }
     ensures tables { IfOk result (λ q. q.goals.tables ≡ searched.now.tables.now) }
@@ -44,7 +42,6 @@ fn questions_of<'a>(
         searched.tables,
         searched.function,
         searched.candidates,
-        searched.weight,
     )?;
     Ok(FunctionQuestions::new(goals, budget))
 }
@@ -92,7 +89,6 @@ pub(crate) fn wide_findings<D: Decider>(
     requires searched { IsSearched searched.now.tables.now (view_function searched.now.function.now) }
     requires candidates { searched.now.candidates.now ≡ lists.candidates (typing_in searched.now.tables.now.places.types) (view_function searched.now.function.now) }
     requires conditions { searched.now.conditions.now ≡ lists.conditions (typing_in searched.now.tables.now.places.types) searched.now.tables.now.places.without (view_function searched.now.function.now) }
-    requires weight { searched.now.weight ≡ weights.weight (typing_in searched.now.tables.now.places.types) searched.now.tables.now.places.without (view_function searched.now.function.now) }
     requires least { 1 ≤ budget }
     requires most { budget ≤ MOST_BUDGET }
     ensures lawful { IfOk result (λ findings. AreLawful (searched_subject (typing_in searched.now.tables.now.places.types) searched.now.tables.now.places.without (view_function searched.now.function.now) budget) searched.now.candidates.now findings.items) }

@@ -1,6 +1,6 @@
 //! The walk of a function as its callers ask for it.
 
-ghost use Rattle.std.specs.Prelude.{◌≡◌, ◌<◌, ◌^◌, ℤ, List, length, map, IfOk, OnOk};
+ghost use Rattle.std.specs.Prelude.{◌≡◌, ◌<◌, ◌≤◌, ◌+◌, ◌^◌, ℤ, List, length, map, IfOk, OnOk};
 ghost use Rattle.stk_ctype.specs.declared.kind.IntKind.TheVariants.{Int};
 ghost use Rattle.stk_tree.specs.Syntax.{FunctionTree};
 ghost use Rattle.stk_tree.specs.View.{view_function, view_statement};
@@ -17,8 +17,9 @@ ghost use Rattle.stk_eval_expr.specs.Loops.{EachLoop};
 ghost use Rattle.stk_values.specs.Keeping.{Keeps, truth};
 ghost use Rattle.stk_values.specs.Walks.{EachTest, Says, event_of};
 ghost use Rattle.stk_walking.specs.Keyed.{AreThere};
-ghost use Rattle.stk_event_laws.specs.Listed.{StandOnce};
-ghost use Rattle.stk_event_laws.specs.Positions.{listed_events};
+ghost use Rattle.stk_spending.specs.Functions.{function_spent};
+ghost use Rattle.stk_event_laws.specs.Listed.{StandOnce, body_events};
+ghost use Rattle.stk_event_laws.specs.Positions.{listed_event, listed_events};
 ghost use Rattle.stk_walk.specs.Walks.{AreParts};
 ghost use Rattle.stk_function_walk.specs.Walkable.{IsWalkable};
 
@@ -52,6 +53,8 @@ fn walk_by<T: TableSetting, V: Values>(
     ensures steps { (ty : Typing) (without : kinds.Kinds) (f : FunctionTree) → AreParts ty without f (T.setting setting.now) (number_under (T.keys setting.now)) parts.now → IfOk result (λ w. (m : List ℤ) → V.serves values.old m → Says (λ v b. V.shows values.new m Int v (truth b)) w.steps (listed_events (lists.candidates ty f) (path ty without f m))) }
     ensures once { (ty : Typing) (without : kinds.Kinds) (f : FunctionTree) → AreParts ty without f (T.setting setting.now) (number_under (T.keys setting.now)) parts.now → IfOk result (λ w. StandOnce (map (λ x. event_of x) w.steps)) }
     ensures keeps { OnOk result (Keeps V.serves V.has_key V.made V.shows values.old values.new) }
+    ensures listed { (ty : Typing) (without : kinds.Kinds) (f : FunctionTree) → AreParts ty without f (T.setting setting.now) (number_under (T.keys setting.now)) parts.now → IfOk result (λ w. map (λ x. event_of x) w.steps ≡ map (listed_event (lists.candidates ty f)) (body_events ty without f)) }
+    ensures cost { (ty : Typing) (without : kinds.Kinds) (f : FunctionTree) → AreParts ty without f (T.setting setting.now) (number_under (T.keys setting.now)) parts.now → OnOk result (V.cost values.new ≤ V.cost values.old + function_spent ty without f) }
 {
     let out = WalkedFunction::new(setting);
     walk(alloc, &out, parts, values)
@@ -61,8 +64,8 @@ fn walk_by<T: TableSetting, V: Values>(
 /// the tables of its path runs and its candidates in order. Under each input map that the store serves, `valid` is 1
 /// exactly where the addresses of the map are valid, and the steps whose test is 1 are the conditions that the path
 /// run of the map violates and the candidates that it hits, in order, each candidate by its place in the list. Each
-/// condition and each candidate has one step at most. What was made before keeps its numbers. Nothing is said of what
-/// `NoMemory` leaves.
+/// condition and each candidate has one step at most. What was made before keeps its numbers, and the store costs no
+/// more than it did and what the walk of the function may cost. Nothing is said of what `NoMemory` leaves.
 pub fn walk_function<V: Values>(
     alloc: Global,
     tables: &FunctionTables,
@@ -79,6 +82,8 @@ pub fn walk_function<V: Values>(
     ensures steps { IfOk result (λ w. (m : List ℤ) → V.serves values.old m → Says (λ v b. V.shows values.new m Int v (truth b)) w.steps (listed_events (lists.candidates (typing_in tables.now.places.types) (view_function f.now)) (path (typing_in tables.now.places.types) tables.now.places.without (view_function f.now) m))) }
     ensures once { IfOk result (λ w. StandOnce (map (λ x. event_of x) w.steps)) }
     ensures keeps { OnOk result (Keeps V.serves V.has_key V.made V.shows values.old values.new) }
+    ensures listed { IfOk result (λ w. map (λ x. event_of x) w.steps ≡ map (listed_event (lists.candidates (typing_in tables.now.places.types) (view_function f.now))) (body_events (typing_in tables.now.places.types) tables.now.places.without (view_function f.now))) }
+    ensures cost { OnOk result (V.cost values.new ≤ V.cost values.old + function_spent (typing_in tables.now.places.types) tables.now.places.without (view_function f.now)) }
 {
     let setting = tables.setting();
     let kept = setting.kept();

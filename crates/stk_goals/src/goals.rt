@@ -4,7 +4,6 @@ ghost use Rattle.std.specs.Prelude.{◌≡◌, ◌≤◌, Some, slice_get, true,
 ghost use Rattle.stk_base.specs.Causes.{Rose};
 ghost use Rattle.stk_tree.specs.View.{view_function};
 ghost use Rattle.stk_meaning.specs.Lists as lists;
-ghost use Rattle.stk_meaning.specs.Weights as weights;
 ghost use Rattle.stk_function_types.specs.Nodes.{typing_in};
 ghost use Rattle.stk_terms.specs.Values.{width_at};
 ghost use Rattle.stk_rewrite.specs.Normal.{IsNormal};
@@ -15,7 +14,6 @@ ghost use Rattle.stk_goals.specs.Answers.{is_given_up, IsRightAnswer};
 ghost use Rattle.stk_function_env.specs.declared.infos.KeyInfo.{KeyInfo};
 
 use crate::asking::{Goal, Query, QueryAnswer, decided};
-use crate::costs::is_cheap;
 use std::alloc::Global;
 use std::marker::Model;
 use stk_base::NoMemory;
@@ -111,31 +109,23 @@ fn goal_of(
 }
 
 impl<'a> FunctionGoals<'a> {
-    /// The goals of a function that is searched, by the tables of its path runs, its candidates in order, and its
-    /// weight, which is at most 8,000,000. The function is walked over all its branches (Wang, Zeldovich, Kaashoek,
-    /// Solar-Lezama, SOSP 2013, section 4.3).
-    ///
-    /// `NoMemory` comes too where the walk's values and what a goal adds to them cost more than the function weighs,
-    /// which is tested since the walk doesn't say what it costs. No function was seen that costs more.
+    /// The goals of a function that is searched, by the tables of its path runs and its candidates in order. The
+    /// function is walked over all its branches (Wang, Zeldovich, Kaashoek, Solar-Lezama, SOSP 2013, section 4.3). What
+    /// the walk's values and a goal cost is at most the function's weight.
     pub fn new(
         alloc: Global,
         tables: &'a FunctionTables<'a>,
         function: &'a Function,
         candidates: &[Candidate],
-        weight: u64,
     ) -> Result<FunctionGoals<'a>, NoMemory>
         requires searched { IsSearched tables.now (view_function function.now) }
         requires candidates { candidates.now ≡ lists.candidates (typing_in tables.now.places.types) (view_function function.now) }
-        requires weight { weight ≡ weights.weight (typing_in tables.now.places.types) tables.now.places.without (view_function function.now) }
         ensures tables { IfOk result (λ g. g.tables ≡ tables.now) }
         ensures function { IfOk result (λ g. g.function ≡ function.now) }
     {
         let kinds = kinds_of(alloc, tables.setting().keys())?;
         let mut symbols = Symbols::new(alloc, kinds.as_slice())?;
         let walked = walk_function(alloc, tables, function, candidates, &mut symbols)?;
-        if !is_cheap(symbols.terms(), walked.steps.as_slice(), weight) {
-            return Err(NoMemory);
-        }
         Ok(FunctionGoals {
             alloc,
             tables,

@@ -1,5 +1,5 @@
--- The trees of accepted functions are typed and kinded, so what suffices in path runs suffices in every execution; and
--- units leave orderly names.
+-- The trees of accepted functions are typed and kinded, and their numbers have the bits of their types, so what suffices
+-- in path runs suffices in every execution; and units leave orderly names.
 use Rattle.std.proofs.Common.{◌≡◌, ℕ, Bool, List, [], ◌∷◌, take, Option, Some, None, refl, sym, ap, subst}
 use Rattle.stk_lex.specs.declared.token.Token.{Token}
 use Rattle.stk_grammar.specs.Lexemes.{spans_of}
@@ -14,7 +14,8 @@ use Rattle.stk_address_taken.specs.Statements.{function_taken}
 use Rattle.stk_type_laws.specs.Orderly.{AreOrderly}
 use Rattle.stk_type_laws.proofs.Kept.{units_keep_order}
 use Rattle.stk_meaning.specs.Typings.{Typing, typing_of}
-use Rattle.stk_meaning.specs.Keys.{setting_of}
+use Rattle.stk_meaning.specs.Keys.{setting_of, function_visits}
+use Rattle.stk_run_laws.specs.Visits.{EachVisit}
 use Rattle.stk_run_laws.specs.TypedTree.{IsTypedTree}
 use Rattle.stk_run_laws.proofs.GatheredLaws.{what_suffices_in_paths_suffices}
 use Rattle.stk_type_laws.proofs.Whole.{accepted_trees_are_typed}
@@ -26,6 +27,8 @@ use Rattle.stk_meaning.specs.Findings.{IsLawful, AreLawful}
 use Rattle.stk_meaning.specs.PathFindings.{function_subject}
 use Rattle.stk_kinded.specs.KindedStatements.{KindedFunction}
 use Rattle.stk_kind_laws.proofs.Whole.{accepted_trees_are_kinded}
+use Rattle.stk_cost_laws.specs.Bits.{VisitHasBits}
+use Rattle.stk_cost_laws.proofs.Accepted.{accepted_trees_have_bits}
 use Rattle.stk_type_laws.specs.Accepted.{IsAccepted}
 use Rattle.stk_spent_queries.specs.Spent.{spent_at}
 use Rattle.stk_findings.specs.Searched.{searched_subject}
@@ -87,7 +90,7 @@ stays_orderly bytes without budget mark es now body tokens lines counts orderly 
 
 -- ---- trees
 
--- what the laws of typed and of kinded trees ask of a function whose body typing accepts
+-- what the laws of typed trees, of kinds and of bits ask of a function whose body typing accepts
 is_accepted : (bytes : List ℕ) (mark : Bool) (es now : List NameEntry) (tokens : List Token) (n : Node) (f : FunctionTree) (x : Fact) (facts : List Fact) → AreOrderly es → Accepts bytes mark es tokens (s.defines n f) now → unit_typed bytes now (s.defines n f) ≡ Good x facts → IsAccepted bytes now n f facts
 is_accepted bytes mark es now tokens n f x facts orderly h typed = record {
   names = behind_accepted bytes mark es now tokens (s.defines n f) orderly h;
@@ -99,13 +102,14 @@ is_accepted bytes mark es now tokens n f x facts orderly h typed = record {
   typed = typed;
 }
 
--- the tree of a function that is accepted is typed and kinded, where typing accepts its body
+-- the tree of a function that is accepted is typed and kinded and has its bits, where typing accepts its body
 pub typed_well : (bytes : List ℕ) (without : Kinds) (mark : Bool) (es now : List NameEntry) (tokens : List Token) (n : Node) (f : FunctionTree) → AreOrderly es → Accepts bytes mark es tokens (s.defines n f) now → IsTypedWell bytes without now (s.defines n f) f
 typed_well bytes without mark es now tokens n f orderly h x facts typed =
     let accepted = is_accepted bytes mark es now tokens n f x facts orderly h typed in
     record {
       typed = subst (λ fs. IsTypedTree (typing_of bytes now (function_taken bytes f) fs) without f) (sym (ap facts_in typed)) (accepted_trees_are_typed bytes now n f facts without accepted);
       kinded = subst (λ fs. KindedFunction (setting_of (typing_of bytes now (function_taken bytes f) fs) without f) f) (sym (ap facts_in typed)) (accepted_trees_are_kinded bytes now n f facts without accepted);
+      bits = subst (λ fs. EachVisit (VisitHasBits (typing_of bytes now (function_taken bytes f) fs)) (function_visits (typing_of bytes now (function_taken bytes f) fs) f)) (sym (ap facts_in typed)) (accepted_trees_have_bits bytes now n f facts accepted);
     }
 
 pub typed_well_of : (bytes : List ℕ) (without : Kinds) (tokens : List Token) (u : UnitTree) (now : List NameEntry) (f : FunctionTree) → IsDefinition u f → WasAccepted bytes tokens u now → IsTypedWell bytes without now u f

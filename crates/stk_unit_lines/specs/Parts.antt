@@ -8,10 +8,12 @@ use Rattle.stk_tree.specs.View.{view_unit}
 use Rattle.stk_numbers.specs.declared.conditions.Kinds.{Kinds}
 use Rattle.stk_type_rules.specs.Facts.{Fact}
 use Rattle.stk_type_rules.specs.Outcome.{Good}
+use Rattle.stk_run_laws.specs.Visits.{EachVisit}
 use Rattle.stk_run_laws.specs.TypedTree.{IsTypedTree}
 use Rattle.stk_kinded.specs.KindedStatements.{KindedFunction}
+use Rattle.stk_cost_laws.specs.Bits.{VisitHasBits}
 use Rattle.stk_meaning.specs.Typings.{Typing}
-use Rattle.stk_meaning.specs.Keys.{setting_of}
+use Rattle.stk_meaning.specs.Keys.{setting_of, function_visits}
 use Rattle.stk_type_laws.specs.Orderly.{AreOrderly}
 use Rattle.stk_meaning.specs.declared.finding.Finding.{Finding}
 use Rattle.stk_function_types.specs.Units.{unit_typed}
@@ -52,10 +54,11 @@ IsUntypedLine bytes tokens u (untyped.Rule node rule) lines counts = IsSkipLine 
 IsUntypedLine bytes tokens u (untyped.Nodes count) lines counts = IsSkipLine bytes tokens (Nodes count) lines counts
 IsUntypedLine bytes tokens u untyped.NoMemory lines counts = ⊥
 
--- the tree of a function is typed, and its values have the kinds of their nodes
+-- the tree of a function is typed, its values have the kinds of their nodes, and numbers have the bits of their types
 pub record IsTypedFunction (ty : Typing) (without : Kinds) (f : FunctionTree) : Type 0 where
   pub typed : IsTypedTree ty without f
   pub kinded : KindedFunction (setting_of ty without f) f
+  pub bits : EachVisit (VisitHasBits ty) (function_visits ty f)
 
 -- where typing accepts a function, it is so of it
 abbrev pub IsTypedWell : List ℕ → Kinds → List NameEntry → UnitTree → FunctionTree → Type 0

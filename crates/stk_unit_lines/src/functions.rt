@@ -42,7 +42,6 @@ fn findings_in<D: Decider>(
     setting: &Setting,
     f: &Function,
     list: &[Candidate],
-    weight: u64,
     budget: u32,
     decider: &mut D,
 ) -> Result<Vec<Finding>, NoMemory>
@@ -50,8 +49,7 @@ fn findings_in<D: Decider>(
     requires numbered { IsNumbered (typing_in setting.now.types) (view_function f.now) }
     requires typed { IsTypedFunction (typing_in setting.now.types) setting.now.without (view_function f.now) }
     requires list { list.now ≡ lists.candidates (typing_in setting.now.types) (view_function f.now) }
-    requires weight { weight ≡ weights.weight (typing_in setting.now.types) setting.now.without (view_function f.now) }
-    requires light { weight ≤ weights.most_weight }
+    requires light { weights.weight (typing_in setting.now.types) setting.now.without (view_function f.now) ≤ weights.most_weight }
     requires least { 1 ≤ budget }
     requires most { budget ≤ MOST_BUDGET }
     ensures lawful { IfOk result (λ findings. AreLawful (searched_subject (typing_in setting.now.types) setting.now.without (view_function f.now) budget) list.now findings.items) }
@@ -65,7 +63,6 @@ fn findings_in<D: Decider>(
         function: f,
         candidates: list,
         conditions: all.as_slice(),
-        weight,
     };
     findings_of(alloc, &searched, budget, decider)
 }
@@ -182,7 +179,6 @@ pub(crate) fn judged<D: Decider>(
     input: &Places,
     setting: &Setting,
     f: &Function,
-    weight: u64,
     budget: u32,
     decider: &mut D,
 ) -> Result<UnitLines, NoMemory>
@@ -190,8 +186,7 @@ pub(crate) fn judged<D: Decider>(
     requires of { IsSettingOfFunction (view_function f.now) setting.now }
     requires numbered { IsNumbered (typing_in setting.now.types) (view_function f.now) }
     requires typed { IsTypedFunction (typing_in setting.now.types) setting.now.without (view_function f.now) }
-    requires weight { weight ≡ weights.weight (typing_in setting.now.types) setting.now.without (view_function f.now) }
-    requires light { weight ≤ weights.most_weight }
+    requires light { weights.weight (typing_in setting.now.types) setting.now.without (view_function f.now) ≤ weights.most_weight }
     requires least { 1 ≤ budget }
     requires most { budget ≤ MOST_BUDGET }
     ensures judged { IfOk result (λ x. IsJudged setting.now.types.bytes setting.now.without budget setting.now.types.entries (view_unit setting.now.types.unit) (view_function f.now) x.lines.items x.counts) }
@@ -199,7 +194,7 @@ pub(crate) fn judged<D: Decider>(
     ensures later { D.given_up decider.old ≤ D.given_up decider.new }
 {
     let list = candidates(alloc, setting.types(), f)?;
-    let findings = findings_in(alloc, setting, f, list.as_slice(), weight, budget, decider)?;
+    let findings = findings_in(alloc, setting, f, list.as_slice(), budget, decider)?;
     let lines = lines_in(
         alloc,
         input,

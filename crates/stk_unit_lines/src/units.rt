@@ -94,7 +94,7 @@ fn typed_lines<D: Decider>(
     let weight = function_weight(alloc, &setting)?;
     match weight_cause(weight) {
         Some(cause) => skipped(alloc, input, tokens, cause),
-        None => judged(alloc, input, &setting, f, weight, options.budget, decider),
+        None => judged(alloc, input, &setting, f, options.budget, decider),
     }
 }
 

@@ -1,8 +1,9 @@
 mod ByPairs
-mod Ends
 mod Compared
-mod Placing
-mod Rowed
-mod Ranked
-mod Tracing
+mod Ends
 mod Once
+mod Paired
+mod Placing
+mod Ranked
+mod Rowed
+mod Tracing

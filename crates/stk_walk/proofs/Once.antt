@@ -55,7 +55,7 @@ once_listed cs (x ∷ xs) h o = (
   once_listed cs xs h.1 o.1,
 )
 
-steps_say : {V : Type 0} (cs : List Candidate) (xs : List (GuardedEvent V)) → map (λ y. event_of y) (map (λ x. listed_step cs x) xs) ≡ map (listed_event cs) (events_in xs)
+pub steps_say : {V : Type 0} (cs : List Candidate) (xs : List (GuardedEvent V)) → map (λ y. event_of y) (map (λ x. listed_step cs x) xs) ≡ map (listed_event cs) (events_in xs)
 steps_say cs [] = refl
 steps_say cs (x ∷ xs) = ap (λ z. z ∷ map (λ y. event_of y) (map (λ u. listed_step cs u) xs)) (event_at cs x.event x.test) ∙ ap (λ z. listed_event cs x.event ∷ z) (steps_say cs xs)
 

@@ -1,6 +1,6 @@
 -- Whether the addresses of a function's memory objects are valid, object by object and pair by pair (C11 6.2.4,
 -- 6.5.3.2: objects lie in memory and have addresses).
-use Rattle.std.specs.Prelude.{ℕ, ◌+◌, ◌-◌, ◌^◌, ◌==◌, ◌≡◌, Bool, true, false, not, ◌&&◌, ◌||◌, nat_le, nat_lt, List, [], ◌∷◌}
+use Rattle.std.specs.Prelude.{ℕ, ◌+◌, ◌-◌, ◌^◌, ◌==◌, ◌≡◌, Bool, true, false, not, ◌&&◌, ◌||◌, if◌then◌else◌, nat_le, nat_lt, List, [], ◌∷◌}
 use Rattle.stk_meaning.specs.Typings.{is_among}
 use Rattle.stk_meaning.specs.Keys.{Object}
 use Rattle.stk_walk.specs.declared.objects.WalkObject.{WalkObject}
@@ -20,6 +20,15 @@ all_lie a (o ∷ os) = lies_in_memory a o && all_lie a os
 -- two objects must share no byte: one is kept, and the other has a name and a scalar or struct type
 abbrev pub is_pair : WalkObject → WalkObject → Bool
 is_pair o p = (o.is_kept && p.is_plain) || (p.is_kept && o.is_plain)
+
+-- how many pairs an object makes with others, and how many there are among objects
+abbrev pub pairs_with : WalkObject → List WalkObject → ℕ
+pairs_with o [] = 0
+pairs_with o (p ∷ ps) = (if is_pair o p then 1 else 0) + pairs_with o ps
+
+abbrev pub pairs_in : List WalkObject → ℕ
+pairs_in [] = 0
+pairs_in (o ∷ os) = pairs_with o os + pairs_in os
 
 -- two objects share a byte, where the end of each is given by a function
 abbrev pub share : (ℕ → ℕ) → (WalkObject → ℕ) → WalkObject → WalkObject → Bool

@@ -1,7 +1,7 @@
 //! Where the walk of a function starts: at its body, with the numbers of its register parameters and nothing kept (C11
 //! 6.9.1p10).
 
-ghost use Rattle.std.specs.Prelude.{◌≡◌, ℕ, ℤ, List, [], pos, true, false, None, replicate, length, set, IfOk, OnOk};
+ghost use Rattle.std.specs.Prelude.{◌≡◌, ℕ, ℤ, List, [], pos, true, false, None, replicate, length, set, IfOk, OnOk, ◌≤◌};
 ghost use Rattle.stk_ctype.specs.declared.kind.IntKind.TheVariants.{Int};
 ghost use Rattle.stk_meaning.specs.Keys.{parameter_key};
 ghost use Rattle.stk_meaning.specs.Paths.{with_parameters};
@@ -36,6 +36,7 @@ fn zeros<O: WalkSetting, V: Values>(
     ensures makes { IfOk result (λ row. RowMade (V.made values.new) (register_kind (O.setting out.now)) 0 row.items) }
     ensures value { IfOk result (λ row. (m : List ℤ) → V.serves values.old m → RowShows (V.shows values.new m) (register_kind (O.setting out.now)) 0 row.items (replicate count (pos 0))) }
     ensures keeps { OnOk result (Keeps V.serves V.has_key V.made V.shows values.old values.new) }
+    ensures charge { OnOk result (V.cost values.new ≤ V.cost values.old) }
 {
     let mut row = Vec::new(alloc);
     for node in 0..count {
@@ -58,6 +59,7 @@ fn set_parameter<O: WalkSetting, V: Values>(
     ensures made { OnOk result (RowMade (V.made values.new) (register_kind (O.setting out.now)) 0 row.new.items) }
     ensures value { OnOk result ((m : List ℤ) (xs : List ℤ) → V.serves values.old m → RowShows (V.shows values.old m) (register_kind (O.setting out.now)) 0 row.old.items xs → RowShows (V.shows values.new m) (register_kind (O.setting out.now)) 0 row.new.items (set xs node (O.under out.now m (parameter_key node)))) }
     ensures keeps { OnOk result (Keeps V.serves V.has_key V.made V.shows values.old values.new) }
+    ensures charge { OnOk result (V.cost values.new ≤ V.cost values.old) }
 {
     let kind = out.kind_at(node);
     let number = input_value(out, InputKey::Parameter(node), kind, values)?;
@@ -80,6 +82,7 @@ fn set_parameters<O: WalkSetting, V: Values>(
     ensures made { OnOk result (RowMade (V.made values.new) (register_kind (O.setting out.now)) 0 row.new.items) }
     ensures value { OnOk result ((m : List ℤ) (xs : List ℤ) → V.serves values.old m → RowShows (V.shows values.old m) (register_kind (O.setting out.now)) 0 row.old.items xs → RowShows (V.shows values.new m) (register_kind (O.setting out.now)) 0 row.new.items (with_parameters parameters.now (λ k. O.under out.now m (parameter_key k)) xs)) }
     ensures keeps { OnOk result (Keeps V.serves V.has_key V.made V.shows values.old values.new) }
+    ensures charge { OnOk result (V.cost values.new ≤ V.cost values.old) }
 {
     let mut rest = parameters;
     while let Some((node, behind)) = rest.split_first() {
@@ -94,6 +97,7 @@ fn empty_cell<V: Values>(values: &mut V, kind: IntKind) -> Result<KeptCell<V::Va
     ensures makes { IfOk result (λ c. V.made values.new Int c.known × V.made values.new kind c.number) }
     ensures value { IfOk result (λ c. (m : List ℤ) → V.serves values.old m → CellShows (V.shows values.new m) kind c None) }
     ensures keeps { OnOk result (Keeps V.serves V.has_key V.made V.shows values.old values.new) }
+    ensures charge { OnOk result (V.cost values.new ≤ V.cost values.old) }
 {
     let known = zero(values, IntKind::Int)?;
     let number = zero(values, kind)?;
@@ -111,6 +115,8 @@ fn empty_cells<O: WalkSetting, V: Values>(
     ensures makes { IfOk result (λ row. CellsMade (V.made values.new) (cell_kind (O.setting out.now)) 0 row.items) }
     ensures value { IfOk result (λ row. (m : List ℤ) → V.serves values.old m → CellsShow (V.shows values.new m) (cell_kind (O.setting out.now)) 0 row.items (replicate (length kept.now) None)) }
     ensures keeps { OnOk result (Keeps V.serves V.has_key V.made V.shows values.old values.new) }
+    ensures count { IfOk result (λ row. length row.items ≡ length kept.now) }
+    ensures charge { OnOk result (V.cost values.new ≤ V.cost values.old) }
 {
     let mut row = Vec::new(alloc);
     for place in 0..kept.len() {
@@ -134,6 +140,8 @@ pub(crate) fn start<O: WalkSetting, V: Values>(
     ensures steps { IfOk result (λ state. state.steps.items ≡ []) }
     ensures stands { IfOk result (λ state. (m : List ℤ) → V.serves values.old m → Stands (V.shows values.new m) (O.setting out.now) state (started sizes.now.registers sizes.now.parameters.now (length sizes.now.kept.now) (λ k. O.under out.now m (parameter_key k)))) }
     ensures keeps { OnOk result (Keeps V.serves V.has_key V.made V.shows values.old values.new) }
+    ensures cells { IfOk result (λ state. length state.cells.items ≡ length (O.setting out.now).kept) }
+    ensures charge { OnOk result (V.cost values.new ≤ V.cost values.old) }
 {
     let mut registers = zeros(alloc, out, sizes.registers, values)?;
     set_parameters(out, sizes.parameters, values, &mut registers)?;

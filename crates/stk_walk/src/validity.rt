@@ -1,12 +1,12 @@
 //! Whether the addresses of a function's memory objects are valid, as a test.
 
-ghost use Rattle.std.specs.Prelude.{◌≡◌, ℕ, ◌+◌, ◌-◌, ◌^◌, ◌%◌, ℤ, pos, List, Bool, not, ◌&&◌, nat_le, IfOk, OnOk};
+ghost use Rattle.std.specs.Prelude.{◌≡◌, ℕ, ◌+◌, ◌-◌, ◌^◌, ◌%◌, ℤ, pos, List, Bool, not, ◌&&◌, nat_le, IfOk, OnOk, ◌*◌, ◌≤◌, length, if◌then◌else◌};
 ghost use Rattle.stk_ctype.specs.declared.kind.IntKind.TheVariants.{Int, ULong};
 ghost use Rattle.stk_meaning.specs.Maps.{addresses_in};
 ghost use Rattle.stk_meaning.specs.Operations.{bit};
 ghost use Rattle.stk_values.specs.Keeping.{Keeps};
 ghost use Rattle.stk_walking.specs.Keyed.{AreThere};
-ghost use Rattle.stk_walk.specs.Validity.{is_pair, lies_in_memory, all_lie, share, stands_apart, all_apart, addresses_valid};
+ghost use Rattle.stk_walk.specs.Validity.{is_pair, lies_in_memory, all_lie, share, stands_apart, all_apart, addresses_valid, pairs_with, pairs_in};
 ghost use Rattle.stk_walk.specs.Located.{wrapped_end, IsLocated, AreLocated, IsLocatedMade, AreLocatedMade, objects_of};
 
 use crate::objects::WalkObject;
@@ -30,6 +30,7 @@ fn end_value<V: Values>(values: &mut V, address: V::Value, size: u64) -> Result<
     ensures makes { IfOk result (λ v. V.made values.new ULong v) }
     ensures value { IfOk result (λ v. (m : List ℤ) (n : ℕ) → V.serves values.old m → V.shows values.old m ULong address (pos n) → V.shows values.new m ULong v (pos ((n + size) % 2 ^ 64))) }
     ensures keeps { OnOk result (Keeps V.serves V.has_key V.made V.shows values.old values.new) }
+    ensures charge { OnOk result (V.cost values.new ≤ V.cost values.old + 640) }
 {
     let size = values.constant(IntKind::ULong, i128::from(size))?;
     let end = values.arith(ArithOp::Add, IntKind::ULong, address, size)?;
@@ -47,6 +48,7 @@ fn locate<O: WalkSetting, V: Values>(
     ensures makes { IfOk result (λ x. IsLocatedMade (V.made values.new ULong) x) }
     ensures value { IfOk result (λ x. (m : List ℤ) → V.serves values.old m → IsLocated (V.shows values.new m ULong) (addresses_in (O.under out.now m)) x) }
     ensures keeps { OnOk result (Keeps V.serves V.has_key V.made V.shows values.old values.new) }
+    ensures charge { OnOk result (V.cost values.new ≤ V.cost values.old + 640) }
 {
     let key = input_value(out, InputKey::Address(object.node), IntKind::ULong, values)?;
     let operand = Operand {
@@ -69,6 +71,7 @@ fn lies<V: Values>(values: &mut V, address: V::Value, size: u64) -> Result<V::Va
     ensures makes { IfOk result (λ v. V.made values.new Int v) }
     ensures value { IfOk result (λ v. (m : List ℤ) (n : ℕ) → V.serves values.old m → V.shows values.old m ULong address (pos n) → V.shows values.new m Int v (bit (nat_le 1 n && nat_le (n + size) (2 ^ 64 - 1)))) }
     ensures keeps { OnOk result (Keeps V.serves V.has_key V.made V.shows values.old values.new) }
+    ensures charge { OnOk result (V.cost values.new ≤ V.cost values.old + 1283) }
 {
     let none = zero(values, IntKind::ULong)?;
     let begins = values.compare(CompareOp::Ne, IntKind::ULong, address, none)?;
@@ -89,6 +92,7 @@ fn apart<V: Values>(
     ensures makes { IfOk result (λ v. V.made values.new Int v) }
     ensures value { IfOk result (λ v. (m : List ℤ) (a : ℕ → ℕ) → V.serves values.old m → IsLocated (V.shows values.old m ULong) a x.now → IsLocated (V.shows values.old m ULong) a y.now → V.shows values.new m Int v (bit (not (share a (wrapped_end a) x.now.object y.now.object)))) }
     ensures keeps { OnOk result (Keeps V.serves V.has_key V.made V.shows values.old values.new) }
+    ensures charge { OnOk result (V.cost values.new ≤ V.cost values.old + 1283) }
 {
     let first = values.compare(CompareOp::Lt, IntKind::ULong, x.address, y.end)?;
     let second = values.compare(CompareOp::Lt, IntKind::ULong, y.address, x.end)?;
@@ -110,6 +114,7 @@ fn apart_where<V: Values>(
     ensures makes { IfOk result (λ v. V.made values.new Int v) }
     ensures value { IfOk result (λ v. (m : List ℤ) (a : ℕ → ℕ) (b : Bool) → V.serves values.old m → IsLocated (V.shows values.old m ULong) a x.now → IsLocated (V.shows values.old m ULong) a y.now → V.shows values.old m Int found (bit b) → V.shows values.new m Int v (bit (b && not (is_pair x.now.object y.now.object && share a (wrapped_end a) x.now.object y.now.object)))) }
     ensures keeps { OnOk result (Keeps V.serves V.has_key V.made V.shows values.old values.new) }
+    ensures charge { OnOk result (V.cost values.new ≤ V.cost values.old + (if is_pair x.now.object y.now.object then 1286 else 0)) }
 {
     if !x.object.is_pair(y.object) {
         return Ok(found);
@@ -132,6 +137,7 @@ fn apart_from<V: Values>(
     ensures makes { IfOk result (λ v. V.made values.new Int v) }
     ensures value { IfOk result (λ v. (m : List ℤ) (a : ℕ → ℕ) (b : Bool) → V.serves values.old m → IsLocated (V.shows values.old m ULong) a x.now → AreLocated (V.shows values.old m ULong) a others.now → V.shows values.old m Int start (bit b) → V.shows values.new m Int v (bit (b && stands_apart a (wrapped_end a) x.now.object (objects_of others.now)))) }
     ensures keeps { OnOk result (Keeps V.serves V.has_key V.made V.shows values.old values.new) }
+    ensures charge { OnOk result (V.cost values.new ≤ V.cost values.old + 1286 * pairs_with x.now.object (objects_of others.now)) }
 {
     let mut found = start;
     let mut rest = others;
@@ -153,6 +159,7 @@ fn all_apart<V: Values>(
     ensures makes { IfOk result (λ v. V.made values.new Int v) }
     ensures value { IfOk result (λ v. (m : List ℤ) (a : ℕ → ℕ) (b : Bool) → V.serves values.old m → AreLocated (V.shows values.old m ULong) a list.now → V.shows values.old m Int start (bit b) → V.shows values.new m Int v (bit (b && all_apart a (wrapped_end a) (objects_of list.now)))) }
     ensures keeps { OnOk result (Keeps V.serves V.has_key V.made V.shows values.old values.new) }
+    ensures charge { OnOk result (V.cost values.new ≤ V.cost values.old + 1286 * pairs_in (objects_of list.now)) }
 {
     let mut found = start;
     let mut rest = list;
@@ -181,6 +188,7 @@ fn lies_where<V: Values>(
     ensures makes { IfOk result (λ v. V.made values.new Int v) }
     ensures value { IfOk result (λ v. (m : List ℤ) (a : ℕ → ℕ) (b : Bool) → V.serves values.old m → IsLocated (V.shows values.old m ULong) a x.now → V.shows values.old m Int found (bit b) → V.shows values.new m Int v (bit (b && lies_in_memory a x.now.object))) }
     ensures keeps { OnOk result (Keeps V.serves V.has_key V.made V.shows values.old values.new) }
+    ensures charge { OnOk result (V.cost values.new ≤ V.cost values.old + 1286) }
 {
     let test = lies(values, x.address, x.object.size)?;
     let both = values.both(found, test)?;
@@ -200,6 +208,7 @@ fn locate_all<O: WalkSetting, V: Values>(
     ensures located { IfOk result (λ x. (m : List ℤ) → V.serves values.old m → AreLocated (V.shows values.new m ULong) (addresses_in (O.under out.now m)) x.list.items) }
     ensures lie { IfOk result (λ x. (m : List ℤ) → V.serves values.old m → V.shows values.new m Int x.lie (bit (all_lie (addresses_in (O.under out.now m)) objects.now))) }
     ensures keeps { OnOk result (Keeps V.serves V.has_key V.made V.shows values.old values.new) }
+    ensures charge { OnOk result (V.cost values.new ≤ V.cost values.old + 1926 * length objects.now) }
 {
     let mut list = Vec::new(alloc);
     let mut lie = values.constant(IntKind::Int, 1)?;
@@ -223,6 +232,7 @@ pub(crate) fn addresses_valid<O: WalkSetting, V: Values>(
     ensures makes { IfOk result (λ v. V.made values.new Int v) }
     ensures value { IfOk result (λ v. (m : List ℤ) → V.serves values.old m → V.shows values.new m Int v (bit (addresses_valid (addresses_in (O.under out.now m)) objects.now))) }
     ensures keeps { OnOk result (Keeps V.serves V.has_key V.made V.shows values.old values.new) }
+    ensures charge { OnOk result (V.cost values.new ≤ V.cost values.old + (1926 * length objects.now + 1286 * pairs_in objects.now)) }
 {
     let placed = locate_all(alloc, out, objects, values)?;
     let found = all_apart(values, placed.list.as_slice(), placed.lie)?;

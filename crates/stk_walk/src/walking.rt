@@ -1,6 +1,6 @@
 //! The walk of a function as one call.
 
-ghost use Rattle.std.specs.Prelude.{◌≡◌, ◌<◌, ◌^◌, ℤ, List, Bool, length, map, IfOk, OnOk};
+ghost use Rattle.std.specs.Prelude.{◌≡◌, ◌<◌, ◌^◌, ℤ, List, Bool, length, map, IfOk, OnOk, ◌+◌, ◌≤◌};
 ghost use Rattle.stk_ctype.specs.declared.kind.IntKind.TheVariants.{Int};
 ghost use Rattle.stk_tree.specs.Syntax.{FunctionTree};
 ghost use Rattle.stk_tree.specs.View.{view_statement};
@@ -15,9 +15,10 @@ ghost use Rattle.stk_eval_expr.specs.Loops.{EachLoop};
 ghost use Rattle.stk_values.specs.Keeping.{Keeps, truth};
 ghost use Rattle.stk_values.specs.Walks.{EachTest, Says, event_of};
 ghost use Rattle.stk_walking.specs.Keyed.{AreThere};
-ghost use Rattle.stk_event_laws.specs.Listed.{StandOnce};
-ghost use Rattle.stk_event_laws.specs.Positions.{listed_events};
+ghost use Rattle.stk_event_laws.specs.Listed.{StandOnce, body_events};
+ghost use Rattle.stk_event_laws.specs.Positions.{listed_events, listed_event};
 ghost use Rattle.stk_walk.specs.Walks.{AreParts};
+ghost use Rattle.stk_spending.specs.Functions.{function_spent};
 
 use crate::objects::WalkObject;
 use crate::start::{Sizes, start};
@@ -63,6 +64,8 @@ pub fn walk<O: ExpressionWalk, V: Values>(
     ensures steps { (ty : Typing) (without : Kinds) (f : FunctionTree) → AreParts ty without f (O.setting out.now) (O.under out.now) parts.now → IfOk result (λ w. (m : List ℤ) → V.serves values.old m → Says (λ v b. V.shows values.new m Int v (truth b)) w.steps (listed_events (candidates ty f) (path ty without f m))) }
     ensures once { (ty : Typing) (without : Kinds) (f : FunctionTree) → AreParts ty without f (O.setting out.now) (O.under out.now) parts.now → IfOk result (λ w. StandOnce (map (λ x. event_of x) w.steps)) }
     ensures keeps { OnOk result (Keeps V.serves V.has_key V.made V.shows values.old values.new) }
+    ensures listed { (ty : Typing) (without : Kinds) (f : FunctionTree) → AreParts ty without f (O.setting out.now) (O.under out.now) parts.now → IfOk result (λ w. map (λ x. event_of x) w.steps ≡ map (listed_event (candidates ty f)) (body_events ty without f)) }
+    ensures cost { (ty : Typing) (without : Kinds) (f : FunctionTree) → AreParts ty without f (O.setting out.now) (O.under out.now) parts.now → OnOk result (V.cost values.new ≤ V.cost values.old + function_spent ty without f) }
 {
     let valid = addresses_valid(alloc, out, parts.objects, values)?;
     let sizes = Sizes {

@@ -1,10 +1,11 @@
-mod Walking
+mod Declaring
+mod Kinding
+mod Leading
 mod Returning
 mod Saving
-mod Views
 mod Sectioning
-mod Declaring
 mod Sizes
-mod Kinding
+mod Spending
 mod Turning
-mod Leading
+mod Views
+mod Walking

@@ -1,6 +1,6 @@
 //! The walk of the body of a function (C11 6.9.1).
 
-ghost use Rattle.std.specs.Prelude.{◌≡◌, ◌++◌, [], OnOk};
+ghost use Rattle.std.specs.Prelude.{◌≡◌, ◌++◌, [], OnOk, length};
 ghost use Rattle.stk_tree.specs.View.{view_statement};
 ghost use Rattle.stk_meaning.specs.Paths.{path_world};
 ghost use Rattle.stk_meaning.specs.Statements.{statement_run};
@@ -12,6 +12,8 @@ ghost use Rattle.stk_walking.specs.Keyed.{AreThere};
 ghost use Rattle.stk_walking.specs.Leads.{Performs};
 ghost use Rattle.stk_walking.specs.Stands.{IsMade};
 ghost use Rattle.stk_walking.specs.StatementEvents.{statement_events};
+ghost use Rattle.stk_spending.specs.Statements.{statement_spent};
+ghost use Rattle.stk_walking.specs.Costs.{Costs};
 
 use crate::statements::statement;
 use stk_base::NoMemory;
@@ -38,6 +40,7 @@ pub fn walk_body<O: ExpressionWalk, V: Values>(
     ensures events { OnOk result (events_in state.new.steps.items ≡ events_in state.old.steps.items ++ statement_events (O.setting out.now) (view_statement body.now)) }
     ensures follows { OnOk result (Performs (V.serves values.old) (V.shows values.old) (V.shows values.new) (O.setting out.now) [] (λ m. statement_run (O.setting out.now) (path_world (O.under out.now m)) (view_statement body.now)) state.old state.new) }
     ensures keeps { OnOk result (Keeps V.serves V.has_key V.made V.shows values.old values.new) }
+    ensures cost { OnOk result (Costs V.cost (length (O.setting out.now).kept) (statement_spent (O.setting out.now) (view_statement body.now)) values.old values.new (length state.old.cells.items) (length state.new.cells.items)) }
 {
     statement(out, body, values, state)?;
     Ok(())

@@ -1,12 +1,14 @@
 //! Where a `switch` goes, as a test for each of its sections (C11 6.8.4.2).
 
-ghost use Rattle.std.specs.Prelude.{◌≡◌, ◌<◌, ℕ, ℤ, List, Bool, ◌&&◌, ◌||◌, not, false, IfOk, OnOk, length, map, Option, Some};
+ghost use Rattle.std.specs.Prelude.{◌≡◌, ◌<◌, ℕ, ℤ, List, Bool, ◌&&◌, ◌||◌, not, false, IfOk, OnOk, length, map, Option, Some, ◌+◌, ◌*◌, ◌≤◌};
 ghost use Rattle.stk_ctype.specs.declared.kind.IntKind.TheVariants.{Int};
 ghost use Rattle.stk_tree.specs.View.{view_label, labels, view_section, sections};
 ghost use Rattle.stk_meaning.specs.Operations.{bit};
 ghost use Rattle.stk_meaning.specs.Statements.{is_number, is_case, has_case, sections_before, or_default, chosen};
 ghost use Rattle.stk_values.specs.Keeping.{Keeps};
 ghost use Rattle.stk_walk_statements.specs.Selected.{TestsMade, TestsShow, goes_if, is_none};
+ghost use Rattle.stk_numbers.specs.Kinds.{width_of};
+ghost use Rattle.stk_spending.specs.Statements.{label_spent, labels_spent, cases_spent};
 
 use std::alloc::Global;
 use stk_base::NoMemory;
@@ -31,6 +33,7 @@ fn or_number<O: WalkSetting, V: Values>(
     ensures makes { IfOk result (λ v. V.made values.new Int v) }
     ensures value { IfOk result (λ v. (m : List ℤ) (x : ℤ) (b : Bool) → V.serves values.old m → V.shows values.old m kind number x → V.shows values.old m Int found (bit b) → V.shows values.new m Int v (bit (b || is_number kind x ((O.setting out.now).typing.number_at node)))) }
     ensures keeps { OnOk result (Keeps V.serves V.has_key V.made V.shows values.old values.new) }
+    ensures charge { OnOk result (V.cost values.new ≤ V.cost values.old + (10 * width_of kind + 3)) }
 {
     match out.number_in(kind, node) {
         None => Ok(found),
@@ -57,6 +60,7 @@ fn or_case<O: WalkSetting, V: Values>(
     ensures makes { IfOk result (λ v. V.made values.new Int v) }
     ensures value { IfOk result (λ v. (m : List ℤ) (x : ℤ) (b : Bool) → V.serves values.old m → V.shows values.old m kind number x → V.shows values.old m Int found (bit b) → V.shows values.new m Int v (bit (b || is_case (O.setting out.now).typing kind x (view_label label.now)))) }
     ensures keeps { OnOk result (Keeps V.serves V.has_key V.made V.shows values.old values.new) }
+    ensures charge { OnOk result (V.cost values.new ≤ V.cost values.old + label_spent (view_label label.now) (width_of kind)) }
 {
     match label {
         Label::Default => Ok(found),
@@ -76,6 +80,7 @@ fn has_case<O: WalkSetting, V: Values>(
     ensures makes { IfOk result (λ v. V.made values.new Int v) }
     ensures value { IfOk result (λ v. (m : List ℤ) (x : ℤ) → V.serves values.old m → V.shows values.old m kind number x → V.shows values.new m Int v (bit (has_case (O.setting out.now).typing kind x (labels (map view_label list.now))))) }
     ensures keeps { OnOk result (Keeps V.serves V.has_key V.made V.shows values.old values.new) }
+    ensures charge { OnOk result (V.cost values.new ≤ V.cost values.old + labels_spent (labels (map view_label list.now)) (width_of kind)) }
 {
     let mut found = zero(values, IntKind::Int)?;
     for label in list {
@@ -97,6 +102,7 @@ fn parted<V: Values>(
     ensures rest { IfOk result (λ v. V.made values.new Int v.1) }
     ensures value { IfOk result (λ v. (m : List ℤ) (a b : Bool) → V.serves values.old m → V.shows values.old m Int left (bit a) → V.shows values.old m Int test (bit b) → V.shows values.new m Int v.0 (bit (a && b)) × V.shows values.new m Int v.1 (bit (a && not b))) }
     ensures keeps { OnOk result (Keeps V.serves V.has_key V.made V.shows values.old values.new) }
+    ensures charge { OnOk result (V.cost values.new ≤ V.cost values.old + 6) }
 {
     let opposite = values.opposite(test)?;
     let here = values.both(left, test)?;
@@ -122,6 +128,7 @@ fn case_tests<O: WalkSetting, V: Values>(
     ensures past { IfOk result (λ v. V.made values.new Int v.1) }
     ensures value { IfOk result (λ v. (m : List ℤ) (x : ℤ) (a : Bool) → V.serves values.old m → V.shows values.old m kind number x → V.shows values.old m Int guard (bit a) → TestsShow (V.shows values.new m) v.0.items (goes_if a (sections_before (has_case (O.setting out.now).typing kind x) (sections (map view_section list.now)))) × V.shows values.new m Int v.1 (bit (a && is_none (sections_before (has_case (O.setting out.now).typing kind x) (sections (map view_section list.now)))))) }
     ensures keeps { OnOk result (Keeps V.serves V.has_key V.made V.shows values.old values.new) }
+    ensures charge { OnOk result (V.cost values.new ≤ V.cost values.old + cases_spent (sections (map view_section list.now)) (width_of kind)) }
 {
     let mut tests = Vec::new(alloc);
     let mut left = guard;
@@ -149,6 +156,7 @@ fn with_default<V: Values>(
     ensures past { IfOk result (λ v. V.made values.new Int v.1) }
     ensures value { IfOk result (λ v. (m : List ℤ) (a : Bool) (o : Option ℕ) → V.serves values.old m → TestsShow (V.shows values.old m) tests.items (goes_if a o) → V.shows values.old m Int left (bit (a && is_none o)) → TestsShow (V.shows values.new m) v.0.items (goes_if a (or_default o (Some at))) × V.shows values.new m Int v.1 (bit false)) }
     ensures keeps { OnOk result (Keeps V.serves V.has_key V.made V.shows values.old values.new) }
+    ensures charge { OnOk result (V.cost values.new ≤ V.cost values.old + 3) }
 {
     let here = either(values, tests[at], left)?;
     let none = zero(values, IntKind::Int)?;
@@ -174,6 +182,7 @@ pub(crate) fn section_tests<O: WalkSetting, V: Values>(
     ensures past { IfOk result (λ v. V.made values.new Int v.1) }
     ensures value { IfOk result (λ v. (m : List ℤ) (x : ℤ) (a : Bool) → V.serves values.old m → V.shows values.old m kind number x → V.shows values.old m Int guard (bit a) → TestsShow (V.shows values.new m) v.0.items (goes_if a (chosen (O.setting out.now).typing kind x (sections (map view_section list.now)))) × V.shows values.new m Int v.1 (bit (a && is_none (chosen (O.setting out.now).typing kind x (sections (map view_section list.now)))))) }
     ensures keeps { OnOk result (Keeps V.serves V.has_key V.made V.shows values.old values.new) }
+    ensures charge { OnOk result (V.cost values.new ≤ V.cost values.old + (cases_spent (sections (map view_section list.now)) (width_of kind) + 3)) }
 {
     let (tests, left) = case_tests(out, alloc, kind, number, list, values, guard)?;
     match default_at(list) {

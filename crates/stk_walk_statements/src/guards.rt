@@ -1,6 +1,6 @@
 //! Branches of a walk, each under its guard, and where their ends meet.
 
-ghost use Rattle.std.specs.Prelude.{◌≡◌, ℤ, List, Bool, ◌&&◌, ◌||◌, not, false, IfOk, OnOk};
+ghost use Rattle.std.specs.Prelude.{◌≡◌, ℤ, List, Bool, ◌&&◌, ◌||◌, not, false, IfOk, OnOk, ◌+◌, ◌≤◌};
 ghost use Rattle.stk_ctype.specs.declared.kind.IntKind.TheVariants.{Int};
 ghost use Rattle.stk_meaning.specs.Operations.{bit};
 ghost use Rattle.stk_meaning.specs.Places.{Setting};
@@ -29,6 +29,8 @@ pub(crate) fn begin_branch<V: Values>(
     ensures events { OnOk result (events_in state.new.steps.items ≡ events_in state.old.steps.items) }
     ensures stands { OnOk result ((g : Setting) (m : List ℤ) (s : Standing) (b : Bool) → V.serves values.old m → V.shows values.old m Int test (bit b) → Stands (V.shows values.old m) g state.old s → Stands (V.shows values.new m) g state.new (live (s.alive && b) s)) }
     ensures keeps { OnOk result (Keeps V.serves V.has_key V.made V.shows values.old values.new) }
+    ensures charge { OnOk result (V.cost values.new ≤ V.cost values.old + 6) }
+    ensures cells { OnOk result (state.new.cells.items ≡ state.old.cells.items) }
 {
     let opposite = values.opposite(test)?;
     let other = values.both(state.guard, opposite)?;
@@ -49,6 +51,8 @@ pub(crate) fn join<V: Values>(
     ensures events { OnOk result (events_in state.new.steps.items ≡ events_in state.old.steps.items) }
     ensures stands { OnOk result ((g : Setting) (m : List ℤ) (s : Standing) (b : Bool) → V.serves values.old m → V.shows values.old m Int other (bit b) → Stands (V.shows values.old m) g state.old s → Stands (V.shows values.new m) g state.new (live (b || s.alive) s)) }
     ensures keeps { OnOk result (Keeps V.serves V.has_key V.made V.shows values.old values.new) }
+    ensures charge { OnOk result (V.cost values.new ≤ V.cost values.old + 3) }
+    ensures cells { OnOk result (state.new.cells.items ≡ state.old.cells.items) }
 {
     let guard = either(values, other, state.guard)?;
     state.guard = guard;
@@ -66,6 +70,8 @@ pub(crate) fn pass_body<V: Values>(
     ensures events { OnOk result (events_in state.new.steps.items ≡ events_in state.old.steps.items) }
     ensures stands { OnOk result ((g : Setting) (m : List ℤ) (s : Standing) → V.serves values.old m → Stands (V.shows values.old m) g state.old s → Stands (V.shows values.new m) g state.new (live (s.alive || s.continued) s)) }
     ensures keeps { OnOk result (Keeps V.serves V.has_key V.made V.shows values.old values.new) }
+    ensures charge { OnOk result (V.cost values.new ≤ V.cost values.old + 3) }
+    ensures cells { OnOk result (state.new.cells.items ≡ state.old.cells.items) }
 {
     let guard = either(values, state.guard, state.continued)?;
     state.guard = guard;
@@ -85,6 +91,8 @@ pub(crate) fn pass_test<V: Values>(
     ensures events { OnOk result (events_in state.new.steps.items ≡ events_in state.old.steps.items) }
     ensures stands { OnOk result ((g : Setting) (m : List ℤ) (s : Standing) (b : Bool) → V.serves values.old m → V.shows values.old m Int test (bit b) → Stands (V.shows values.old m) g state.old s → Stands (V.shows values.new m) g state.new (live ((s.alive && not b) || s.broken) s)) }
     ensures keeps { OnOk result (Keeps V.serves V.has_key V.made V.shows values.old values.new) }
+    ensures charge { OnOk result (V.cost values.new ≤ V.cost values.old + 6) }
+    ensures cells { OnOk result (state.new.cells.items ≡ state.old.cells.items) }
 {
     let opposite = values.opposite(test)?;
     let ended = values.both(state.guard, opposite)?;
@@ -102,6 +110,8 @@ pub(crate) fn begin_sections<V: Values>(
     ensures events { OnOk result (events_in state.new.steps.items ≡ events_in state.old.steps.items) }
     ensures stands { OnOk result ((g : Setting) (m : List ℤ) (s : Standing) → V.serves values.old m → Stands (V.shows values.old m) g state.old s → Stands (V.shows values.new m) g state.new (live false (begun s))) }
     ensures keeps { OnOk result (Keeps V.serves V.has_key V.made V.shows values.old values.new) }
+    ensures charge { OnOk result (V.cost values.new ≤ V.cost values.old) }
+    ensures cells { OnOk result (state.new.cells.items ≡ state.old.cells.items) }
 {
     let none = zero(values, IntKind::Int)?;
     state.guard = none;
@@ -123,6 +133,8 @@ pub(crate) fn pass_sections<V: Values>(
     ensures events { OnOk result (events_in state.new.steps.items ≡ events_in state.old.steps.items) }
     ensures stands { OnOk result ((g : Setting) (m : List ℤ) (s : Standing) (b : Bool) → V.serves values.old m → V.shows values.old m Int other (bit b) → Stands (V.shows values.old m) g state.old s → Stands (V.shows values.new m) g state.new (live ((s.alive || s.broken) || b) s)) }
     ensures keeps { OnOk result (Keeps V.serves V.has_key V.made V.shows values.old values.new) }
+    ensures charge { OnOk result (V.cost values.new ≤ V.cost values.old + 6) }
+    ensures cells { OnOk result (state.new.cells.items ≡ state.old.cells.items) }
 {
     let passed = either(values, state.guard, state.broken)?;
     let guard = either(values, passed, other)?;

@@ -1,6 +1,6 @@
 //! The registers that a scope declares, which get back their values from before.
 
-ghost use Rattle.std.specs.Prelude.{◌≡◌, ℕ, ◌++◌, ◌∷◌, [], ℤ, List, IfOk, OnOk, map, set};
+ghost use Rattle.std.specs.Prelude.{◌≡◌, ℕ, ◌++◌, ◌∷◌, [], ℤ, List, IfOk, OnOk, map, set, ◌≤◌};
 ghost use Rattle.stk_tree.specs.View.{view_part, parts, view_start, view_declaration, view_declarator, declarators};
 ghost use Rattle.stk_meaning.specs.Visits.{part_declares, parts_declare, start_declares, declared_in, declared_by};
 ghost use Rattle.stk_kinded.specs.Kinds.{register_kind};
@@ -34,6 +34,7 @@ fn save<O: WalkSetting, V: Values>(
     ensures made { OnOk result (SavedMade (V.made values.new) (register_kind (O.setting out.now)) saved.new.items) }
     ensures shown { OnOk result ((m : List ℤ) (js : List ℕ) (xs : List ℤ) → V.serves values.old m → RowShows (V.shows values.old m) (register_kind (O.setting out.now)) 0 registers.now.items xs → SavedShow (V.shows values.old m) (register_kind (O.setting out.now)) saved.old.items js xs → SavedShow (V.shows values.new m) (register_kind (O.setting out.now)) saved.new.items (js ++ register ∷ []) xs) }
     ensures keeps { OnOk result (Keeps V.serves V.has_key V.made V.shows values.old values.new) }
+    ensures charge { OnOk result (V.cost values.new ≤ V.cost values.old) }
 {
     let kind = out.kind_at(register);
     let value = read_register(values, registers, register, kind)?;
@@ -54,6 +55,7 @@ fn save_declared<O: WalkSetting, V: Values>(
     ensures made { OnOk result (SavedMade (V.made values.new) (register_kind (O.setting out.now)) saved.new.items) }
     ensures shown { OnOk result ((m : List ℤ) (js : List ℕ) (xs : List ℤ) → V.serves values.old m → RowShows (V.shows values.old m) (register_kind (O.setting out.now)) 0 registers.now.items xs → SavedShow (V.shows values.old m) (register_kind (O.setting out.now)) saved.old.items js xs → SavedShow (V.shows values.new m) (register_kind (O.setting out.now)) saved.new.items (js ++ declared_by (declarators (map view_declarator list.now))) xs) }
     ensures keeps { OnOk result (Keeps V.serves V.has_key V.made V.shows values.old values.new) }
+    ensures charge { OnOk result (V.cost values.new ≤ V.cost values.old) }
 {
     for d in list {
         save(out, d.node.number, values, registers, saved)?;
@@ -74,6 +76,7 @@ fn save_part<O: WalkSetting, V: Values>(
     ensures made { OnOk result (SavedMade (V.made values.new) (register_kind (O.setting out.now)) saved.new.items) }
     ensures shown { OnOk result ((m : List ℤ) (js : List ℕ) (xs : List ℤ) → V.serves values.old m → RowShows (V.shows values.old m) (register_kind (O.setting out.now)) 0 registers.now.items xs → SavedShow (V.shows values.old m) (register_kind (O.setting out.now)) saved.old.items js xs → SavedShow (V.shows values.new m) (register_kind (O.setting out.now)) saved.new.items (js ++ part_declares (view_part part.now)) xs) }
     ensures keeps { OnOk result (Keeps V.serves V.has_key V.made V.shows values.old values.new) }
+    ensures charge { OnOk result (V.cost values.new ≤ V.cost values.old) }
 {
     match part {
         Part::Local(d) => {
@@ -96,6 +99,7 @@ pub(crate) fn saved_parts<O: WalkSetting, V: Values>(
     ensures made { IfOk result (λ saved. SavedMade (V.made values.new) (register_kind (O.setting out.now)) saved.items) }
     ensures shown { IfOk result (λ saved. (m : List ℤ) (xs : List ℤ) → V.serves values.old m → RowShows (V.shows values.old m) (register_kind (O.setting out.now)) 0 registers.now.items xs → SavedShow (V.shows values.new m) (register_kind (O.setting out.now)) saved.items (parts_declare (parts (map view_part list.now))) xs) }
     ensures keeps { OnOk result (Keeps V.serves V.has_key V.made V.shows values.old values.new) }
+    ensures charge { OnOk result (V.cost values.new ≤ V.cost values.old) }
 {
     let mut saved = Vec::new(alloc);
     for part in list {
@@ -116,6 +120,7 @@ pub(crate) fn saved_start<O: WalkSetting, V: Values>(
     ensures made { IfOk result (λ saved. SavedMade (V.made values.new) (register_kind (O.setting out.now)) saved.items) }
     ensures shown { IfOk result (λ saved. (m : List ℤ) (xs : List ℤ) → V.serves values.old m → RowShows (V.shows values.old m) (register_kind (O.setting out.now)) 0 registers.now.items xs → SavedShow (V.shows values.new m) (register_kind (O.setting out.now)) saved.items (start_declares (view_start start.now)) xs) }
     ensures keeps { OnOk result (Keeps V.serves V.has_key V.made V.shows values.old values.new) }
+    ensures charge { OnOk result (V.cost values.new ≤ V.cost values.old) }
 {
     let mut saved = Vec::new(alloc);
     match start {

@@ -1,6 +1,6 @@
 //! Expressions whose values aren't used, and `return`.
 
-ghost use Rattle.std.specs.Prelude.{ℤ, List, [], OnOk};
+ghost use Rattle.std.specs.Prelude.{ℤ, List, [], OnOk, length};
 ghost use Rattle.std.specs.Option.{option_copied};
 ghost use Rattle.stk_tree.specs.View.{given_expression};
 ghost use Rattle.stk_meaning.specs.Paths.{path_world};
@@ -10,6 +10,8 @@ ghost use Rattle.stk_walking.specs.Keyed.{AreThere};
 ghost use Rattle.stk_walking.specs.Stands.{IsMade};
 ghost use Rattle.stk_walking.specs.StatementEvents.{discarded_events};
 ghost use Rattle.stk_walk_statements.specs.Walked.{Walked, as_flow, as_part};
+ghost use Rattle.stk_spending.specs.Expressions.{maybe_spent};
+ghost use Rattle.stk_walking.specs.Costs.{Costs};
 
 use stk_base::NoMemory;
 use stk_tree::Expr;
@@ -26,7 +28,8 @@ pub(crate) fn discarded<O: ExpressionWalk, V: Values>(
     requires kinded { KindedMaybe (O.setting out.now) (given_expression (option_copied e)) }
     requires keys { AreThere (V.has_key values.old) (O.kinds out.now) }
     requires made { IsMade (V.made values.old) (O.setting out.now) state.old }
-    ensures { OnOk result (Walked V.serves V.has_key V.made V.shows (O.setting out.now) (discarded_events (O.setting out.now) (given_expression (option_copied e.entry))) (as_part (λ m. discarded_run (O.setting out.now) (path_world (O.under out.now m)) (given_expression (option_copied e.entry)))) values.old values.new state.old state.new) }
+    ensures walked { OnOk result (Walked V.serves V.has_key V.made V.shows (O.setting out.now) (discarded_events (O.setting out.now) (given_expression (option_copied e.entry))) (as_part (λ m. discarded_run (O.setting out.now) (path_world (O.under out.now m)) (given_expression (option_copied e.entry)))) values.old values.new state.old state.new) }
+    ensures cost { OnOk result (Costs V.cost (length (O.setting out.now).kept) (maybe_spent (O.setting out.now) (given_expression (option_copied e.entry))) values.old values.new (length state.old.cells.items) (length state.new.cells.items)) }
 {
     match e {
         None => Ok(()),
@@ -47,7 +50,8 @@ pub(crate) fn returned<O: ExpressionWalk, V: Values>(
     requires kinded { KindedMaybe (O.setting out.now) (given_expression (option_copied e)) }
     requires keys { AreThere (V.has_key values.old) (O.kinds out.now) }
     requires made { IsMade (V.made values.old) (O.setting out.now) state.old }
-    ensures { OnOk result (Walked V.serves V.has_key V.made V.shows (O.setting out.now) (discarded_events (O.setting out.now) (given_expression (option_copied e.entry))) (as_flow [] (λ m. return_run (O.setting out.now) (path_world (O.under out.now m)) (given_expression (option_copied e.entry)))) values.old values.new state.old state.new) }
+    ensures walked { OnOk result (Walked V.serves V.has_key V.made V.shows (O.setting out.now) (discarded_events (O.setting out.now) (given_expression (option_copied e.entry))) (as_flow [] (λ m. return_run (O.setting out.now) (path_world (O.under out.now m)) (given_expression (option_copied e.entry)))) values.old values.new state.old state.new) }
+    ensures cost { OnOk result (Costs V.cost (length (O.setting out.now).kept) (maybe_spent (O.setting out.now) (given_expression (option_copied e.entry))) values.old values.new (length state.old.cells.items) (length state.new.cells.items)) }
 {
     discarded(out, e, values, state)?;
     leave_by_return(values, state)?;

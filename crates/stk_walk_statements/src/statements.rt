@@ -1,6 +1,6 @@
 //! Statements (C11 6.8).
 
-ghost use Rattle.std.specs.Prelude.{◌≡◌, ◌++◌, ◌∷◌, [], ℕ, ℤ, List, Bool, OnOk, length, map, option_map};
+ghost use Rattle.std.specs.Prelude.{◌≡◌, ◌++◌, ◌∷◌, [], ℕ, ℤ, List, Bool, OnOk, length, map, option_map, ◌+◌};
 ghost use Rattle.std.specs.Option.{option_copied};
 ghost use Rattle.stk_tree.specs.View.{view_statement, maybe_statement, view_part, parts, view_section, sections, statements, view_start, view_expression, given_expression};
 ghost use Rattle.stk_meaning.specs.Typings.{statement_node};
@@ -19,6 +19,11 @@ ghost use Rattle.stk_walking.specs.ExpressionEvents.{value_events, tested_events
 ghost use Rattle.stk_walking.specs.StatementEvents.{discarded_events, maybe_tested_events, start_events, statement_events, branch_events, otherwise_events, statements_events, parts_events, part_events, sections_events, section_events};
 ghost use Rattle.stk_walk_statements.specs.Walked.{Walked, WalkedSections, as_flow, as_declaration};
 ghost use Rattle.stk_walk_statements.specs.Selected.{TestsMade};
+ghost use Rattle.stk_numbers.specs.Kinds.{width_of, promote};
+ghost use Rattle.stk_values.specs.Charges.{convert_charge};
+ghost use Rattle.stk_spending.specs.Expressions.{spent_value, spent_test, maybe_spent, kind_in};
+ghost use Rattle.stk_spending.specs.Statements.{start_spent, cases_spent, loop_spent, loop_test_spent, statement_spent, other_spent, statements_spent, parts_spent, part_spent, sections_spent, section_spent};
+ghost use Rattle.stk_walking.specs.Costs.{Costs};
 
 use crate::choosing::section_tests;
 use crate::declarations::declaration;
@@ -50,7 +55,8 @@ pub(crate) fn statement<O: ExpressionWalk, V: Values>(
     requires kinded { KindedStatement (O.setting out.now) (view_statement s.now) }
     requires keys { AreThere (V.has_key values.old) (O.kinds out.now) }
     requires made { IsMade (V.made values.old) (O.setting out.now) state.old }
-    ensures { OnOk result (Walked V.serves V.has_key V.made V.shows (O.setting out.now) (statement_events (O.setting out.now) (view_statement s.now)) (as_flow [] (λ m. statement_run (O.setting out.now) (path_world (O.under out.now m)) (view_statement s.now))) values.old values.new state.old state.new) }
+    ensures walked { OnOk result (Walked V.serves V.has_key V.made V.shows (O.setting out.now) (statement_events (O.setting out.now) (view_statement s.now)) (as_flow [] (λ m. statement_run (O.setting out.now) (path_world (O.under out.now m)) (view_statement s.now))) values.old values.new state.old state.new) }
+    ensures cost { OnOk result (Costs V.cost (length (O.setting out.now).kept) (statement_spent (O.setting out.now) (view_statement s.now)) values.old values.new (length state.old.cells.items) (length state.new.cells.items)) }
 {
     match &s.form {
         StmtForm::Block(list) => block(out, list.as_slice(), values, state),
@@ -102,7 +108,8 @@ fn entered<O: ExpressionWalk, V: Values>(
     requires kinded { KindedStatement (O.setting out.now) (view_statement s.now) }
     requires keys { AreThere (V.has_key values.old) (O.kinds out.now) }
     requires made { IsMade (V.made values.old) (O.setting out.now) state.old }
-    ensures { OnOk result (Walked V.serves V.has_key V.made V.shows (O.setting out.now) (branch_events (O.setting out.now) (view_statement s.now)) (as_flow [] (λ m r k. entered (statement_node (view_statement s.now)) (statement_run (O.setting out.now) (path_world (O.under out.now m)) (view_statement s.now) r k))) values.old values.new state.old state.new) }
+    ensures walked { OnOk result (Walked V.serves V.has_key V.made V.shows (O.setting out.now) (branch_events (O.setting out.now) (view_statement s.now)) (as_flow [] (λ m r k. entered (statement_node (view_statement s.now)) (statement_run (O.setting out.now) (path_world (O.under out.now m)) (view_statement s.now) r k))) values.old values.new state.old state.new) }
+    ensures cost { OnOk result (Costs V.cost (length (O.setting out.now).kept) (statement_spent (O.setting out.now) (view_statement s.now)) values.old values.new (length state.old.cells.items) (length state.new.cells.items)) }
 {
     enter(values, s.node.number, state)?;
     statement(out, s, values, state)?;
@@ -121,7 +128,8 @@ fn otherwise<O: ExpressionWalk, V: Values>(
     requires kinded { KindedOther (O.setting out.now) (maybe_statement (option_map view_statement other.now)) }
     requires keys { AreThere (V.has_key values.old) (O.kinds out.now) }
     requires made { IsMade (V.made values.old) (O.setting out.now) state.old }
-    ensures { OnOk result (Walked V.serves V.has_key V.made V.shows (O.setting out.now) (otherwise_events (O.setting out.now) (maybe_statement (option_map view_statement other.now))) (as_flow [] (λ m. otherwise_run (O.setting out.now) (path_world (O.under out.now m)) (maybe_statement (option_map view_statement other.now)))) values.old values.new state.old state.new) }
+    ensures walked { OnOk result (Walked V.serves V.has_key V.made V.shows (O.setting out.now) (otherwise_events (O.setting out.now) (maybe_statement (option_map view_statement other.now))) (as_flow [] (λ m. otherwise_run (O.setting out.now) (path_world (O.under out.now m)) (maybe_statement (option_map view_statement other.now)))) values.old values.new state.old state.new) }
+    ensures cost { OnOk result (Costs V.cost (length (O.setting out.now).kept) (other_spent (O.setting out.now) (maybe_statement (option_map view_statement other.now))) values.old values.new (length state.old.cells.items) (length state.new.cells.items)) }
 {
     match other {
         None => Ok(()),
@@ -141,7 +149,8 @@ fn block<O: ExpressionWalk, V: Values>(
     requires kinded { KindedBlock (O.setting out.now) (parts (map view_part list.now)) }
     requires keys { AreThere (V.has_key values.old) (O.kinds out.now) }
     requires made { IsMade (V.made values.old) (O.setting out.now) state.old }
-    ensures { OnOk result (Walked V.serves V.has_key V.made V.shows (O.setting out.now) (parts_events (O.setting out.now) (parts (map view_part list.now))) (as_flow [] (λ m r k. give_back (parts_declare (parts (map view_part list.now))) r (parts_run (O.setting out.now) (path_world (O.under out.now m)) (parts (map view_part list.now)) r k))) values.old values.new state.old state.new) }
+    ensures walked { OnOk result (Walked V.serves V.has_key V.made V.shows (O.setting out.now) (parts_events (O.setting out.now) (parts (map view_part list.now))) (as_flow [] (λ m r k. give_back (parts_declare (parts (map view_part list.now))) r (parts_run (O.setting out.now) (path_world (O.under out.now m)) (parts (map view_part list.now)) r k))) values.old values.new state.old state.new) }
+    ensures cost { OnOk result (Costs V.cost (length (O.setting out.now).kept) (parts_spent (O.setting out.now) (parts (map view_part list.now))) values.old values.new (length state.old.cells.items) (length state.new.cells.items)) }
 {
     let saved = saved_parts(out, state.alloc, list, values, &state.registers)?;
     parts(out, list, values, state)?;
@@ -161,7 +170,8 @@ fn parts<O: ExpressionWalk, V: Values>(
     requires kinded { KindedBlock (O.setting out.now) (parts (map view_part list.now)) }
     requires keys { AreThere (V.has_key values.old) (O.kinds out.now) }
     requires made { IsMade (V.made values.old) (O.setting out.now) state.old }
-    ensures { OnOk result (Walked V.serves V.has_key V.made V.shows (O.setting out.now) (parts_events (O.setting out.now) (parts (map view_part list.now))) (as_flow (parts_declare (parts (map view_part list.now))) (λ m. parts_run (O.setting out.now) (path_world (O.under out.now m)) (parts (map view_part list.now)))) values.old values.new state.old state.new) }
+    ensures walked { OnOk result (Walked V.serves V.has_key V.made V.shows (O.setting out.now) (parts_events (O.setting out.now) (parts (map view_part list.now))) (as_flow (parts_declare (parts (map view_part list.now))) (λ m. parts_run (O.setting out.now) (path_world (O.under out.now m)) (parts (map view_part list.now)))) values.old values.new state.old state.new) }
+    ensures cost { OnOk result (Costs V.cost (length (O.setting out.now).kept) (parts_spent (O.setting out.now) (parts (map view_part list.now))) values.old values.new (length state.old.cells.items) (length state.new.cells.items)) }
 {
     for p in list {
         part(out, p, values, state)?;
@@ -181,7 +191,8 @@ fn part<O: ExpressionWalk, V: Values>(
     requires kinded { KindedPart (O.setting out.now) (view_part p.now) }
     requires keys { AreThere (V.has_key values.old) (O.kinds out.now) }
     requires made { IsMade (V.made values.old) (O.setting out.now) state.old }
-    ensures { OnOk result (Walked V.serves V.has_key V.made V.shows (O.setting out.now) (part_events (O.setting out.now) (view_part p.now)) (as_flow (part_declares (view_part p.now)) (λ m. part_run (O.setting out.now) (path_world (O.under out.now m)) (view_part p.now))) values.old values.new state.old state.new) }
+    ensures walked { OnOk result (Walked V.serves V.has_key V.made V.shows (O.setting out.now) (part_events (O.setting out.now) (view_part p.now)) (as_flow (part_declares (view_part p.now)) (λ m. part_run (O.setting out.now) (path_world (O.under out.now m)) (view_part p.now))) values.old values.new state.old state.new) }
+    ensures cost { OnOk result (Costs V.cost (length (O.setting out.now).kept) (part_spent (O.setting out.now) (view_part p.now)) values.old values.new (length state.old.cells.items) (length state.new.cells.items)) }
 {
     match p {
         Part::Local(d) => {
@@ -202,7 +213,8 @@ fn start<O: ExpressionWalk, V: Values>(
     requires kinded { KindedStart (O.setting out.now) (view_start first.now) }
     requires keys { AreThere (V.has_key values.old) (O.kinds out.now) }
     requires made { IsMade (V.made values.old) (O.setting out.now) state.old }
-    ensures { OnOk result (Walked V.serves V.has_key V.made V.shows (O.setting out.now) (start_events (O.setting out.now) (view_start first.now)) (as_declaration (start_declares (view_start first.now)) (λ m. start_run (O.setting out.now) (path_world (O.under out.now m)) (view_start first.now))) values.old values.new state.old state.new) }
+    ensures walked { OnOk result (Walked V.serves V.has_key V.made V.shows (O.setting out.now) (start_events (O.setting out.now) (view_start first.now)) (as_declaration (start_declares (view_start first.now)) (λ m. start_run (O.setting out.now) (path_world (O.under out.now m)) (view_start first.now))) values.old values.new state.old state.new) }
+    ensures cost { OnOk result (Costs V.cost (length (O.setting out.now).kept) (start_spent (O.setting out.now) (view_start first.now)) values.old values.new (length state.old.cells.items) (length state.new.cells.items)) }
 {
     match first {
         Start::Local(d) => declaration(out, d, values, state),
@@ -233,7 +245,8 @@ fn for_loop<O: ExpressionWalk, V: Values>(
     requires kinded { KindedStatement (O.setting out.now) (view_statement body.now) }
     requires keys { AreThere (V.has_key values.old) (O.kinds out.now) }
     requires made { IsMade (V.made values.old) (O.setting out.now) state.old }
-    ensures { OnOk result (Walked V.serves V.has_key V.made V.shows (O.setting out.now) (start_events (O.setting out.now) (view_start first.now) ++ (maybe_tested_events (O.setting out.now) (given_expression (option_copied test.entry)) ++ (branch_events (O.setting out.now) (view_statement body.now) ++ discarded_events (O.setting out.now) (given_expression (option_copied step.entry))))) (as_flow [] (λ m r k. give_back (start_declares (view_start first.now)) r (and_then (start_run (O.setting out.now) (path_world (O.under out.now m)) (view_start first.now) r k) (λ flow. loop_run (O.setting out.now) (path_world (O.under out.now m)) (statement_node (view_statement whole.now)) (form_of (view_statement whole.now)) (while_turn (O.setting out.now) (path_world (O.under out.now m)) (given_expression (option_copied test.entry)) (statement_node (view_statement body.now)) (statement_run (O.setting out.now) (path_world (O.under out.now m)) (view_statement body.now)) (discarded_run (O.setting out.now) (path_world (O.under out.now m)) (given_expression (option_copied step.entry)))))))) values.old values.new state.old state.new) }
+    ensures walked { OnOk result (Walked V.serves V.has_key V.made V.shows (O.setting out.now) (start_events (O.setting out.now) (view_start first.now) ++ (maybe_tested_events (O.setting out.now) (given_expression (option_copied test.entry)) ++ (branch_events (O.setting out.now) (view_statement body.now) ++ discarded_events (O.setting out.now) (given_expression (option_copied step.entry))))) (as_flow [] (λ m r k. give_back (start_declares (view_start first.now)) r (and_then (start_run (O.setting out.now) (path_world (O.under out.now m)) (view_start first.now) r k) (λ flow. loop_run (O.setting out.now) (path_world (O.under out.now m)) (statement_node (view_statement whole.now)) (form_of (view_statement whole.now)) (while_turn (O.setting out.now) (path_world (O.under out.now m)) (given_expression (option_copied test.entry)) (statement_node (view_statement body.now)) (statement_run (O.setting out.now) (path_world (O.under out.now m)) (view_statement body.now)) (discarded_run (O.setting out.now) (path_world (O.under out.now m)) (given_expression (option_copied step.entry)))))))) values.old values.new state.old state.new) }
+    ensures cost { OnOk result (Costs V.cost (length (O.setting out.now).kept) ((start_spent (O.setting out.now) (view_start first.now)) + (loop_spent (O.setting out.now) (form_of (view_statement whole.now))) + (loop_test_spent (O.setting out.now) (given_expression (option_copied test.entry))) + (statement_spent (O.setting out.now) (view_statement body.now)) + 3 + (maybe_spent (O.setting out.now) (given_expression (option_copied step.entry)))) values.old values.new (length state.old.cells.items) (length state.new.cells.items)) }
 {
     let saved = saved_start(out, state.alloc, first, values, &state.registers)?;
     start(out, first, values, state)?;
@@ -260,7 +273,8 @@ fn while_loop<O: ExpressionWalk, V: Values>(
     requires kinded { KindedStatement (O.setting out.now) (view_statement body.now) }
     requires keys { AreThere (V.has_key values.old) (O.kinds out.now) }
     requires made { IsMade (V.made values.old) (O.setting out.now) state.old }
-    ensures { OnOk result (Walked V.serves V.has_key V.made V.shows (O.setting out.now) (maybe_tested_events (O.setting out.now) (given_expression (option_copied test.entry)) ++ (branch_events (O.setting out.now) (view_statement body.now) ++ discarded_events (O.setting out.now) (given_expression (option_copied step.entry)))) (as_flow [] (λ m. loop_run (O.setting out.now) (path_world (O.under out.now m)) (statement_node (view_statement whole.now)) (form_of (view_statement whole.now)) (while_turn (O.setting out.now) (path_world (O.under out.now m)) (given_expression (option_copied test.entry)) (statement_node (view_statement body.now)) (statement_run (O.setting out.now) (path_world (O.under out.now m)) (view_statement body.now)) (discarded_run (O.setting out.now) (path_world (O.under out.now m)) (given_expression (option_copied step.entry)))))) values.old values.new state.old state.new) }
+    ensures walked { OnOk result (Walked V.serves V.has_key V.made V.shows (O.setting out.now) (maybe_tested_events (O.setting out.now) (given_expression (option_copied test.entry)) ++ (branch_events (O.setting out.now) (view_statement body.now) ++ discarded_events (O.setting out.now) (given_expression (option_copied step.entry)))) (as_flow [] (λ m. loop_run (O.setting out.now) (path_world (O.under out.now m)) (statement_node (view_statement whole.now)) (form_of (view_statement whole.now)) (while_turn (O.setting out.now) (path_world (O.under out.now m)) (given_expression (option_copied test.entry)) (statement_node (view_statement body.now)) (statement_run (O.setting out.now) (path_world (O.under out.now m)) (view_statement body.now)) (discarded_run (O.setting out.now) (path_world (O.under out.now m)) (given_expression (option_copied step.entry)))))) values.old values.new state.old state.new) }
+    ensures cost { OnOk result (Costs V.cost (length (O.setting out.now).kept) ((loop_spent (O.setting out.now) (form_of (view_statement whole.now))) + (loop_test_spent (O.setting out.now) (given_expression (option_copied test.entry))) + (statement_spent (O.setting out.now) (view_statement body.now)) + 3 + (maybe_spent (O.setting out.now) (given_expression (option_copied step.entry)))) values.old values.new (length state.old.cells.items) (length state.new.cells.items)) }
 {
     begin_loop(out, whole.node.number, &whole.form, values, state)?;
     while_turn(out, body, test, step, values, state)?;
@@ -283,7 +297,8 @@ fn while_turn<O: ExpressionWalk, V: Values>(
     requires kinded { KindedStatement (O.setting out.now) (view_statement body.now) }
     requires keys { AreThere (V.has_key values.old) (O.kinds out.now) }
     requires made { IsMade (V.made values.old) (O.setting out.now) state.old }
-    ensures { OnOk result (Walked V.serves V.has_key V.made V.shows (O.setting out.now) (maybe_tested_events (O.setting out.now) (given_expression (option_copied test.entry)) ++ (branch_events (O.setting out.now) (view_statement body.now) ++ discarded_events (O.setting out.now) (given_expression (option_copied step.entry)))) (as_flow [] (λ m r k. again (while_turn (O.setting out.now) (path_world (O.under out.now m)) (given_expression (option_copied test.entry)) (statement_node (view_statement body.now)) (statement_run (O.setting out.now) (path_world (O.under out.now m)) (view_statement body.now)) (discarded_run (O.setting out.now) (path_world (O.under out.now m)) (given_expression (option_copied step.entry))) r k) no_more)) values.old values.new state.old state.new) }
+    ensures walked { OnOk result (Walked V.serves V.has_key V.made V.shows (O.setting out.now) (maybe_tested_events (O.setting out.now) (given_expression (option_copied test.entry)) ++ (branch_events (O.setting out.now) (view_statement body.now) ++ discarded_events (O.setting out.now) (given_expression (option_copied step.entry)))) (as_flow [] (λ m r k. again (while_turn (O.setting out.now) (path_world (O.under out.now m)) (given_expression (option_copied test.entry)) (statement_node (view_statement body.now)) (statement_run (O.setting out.now) (path_world (O.under out.now m)) (view_statement body.now)) (discarded_run (O.setting out.now) (path_world (O.under out.now m)) (given_expression (option_copied step.entry))) r k) no_more)) values.old values.new state.old state.new) }
+    ensures cost { OnOk result (Costs V.cost (length (O.setting out.now).kept) ((loop_test_spent (O.setting out.now) (given_expression (option_copied test.entry))) + (statement_spent (O.setting out.now) (view_statement body.now)) + 3 + (maybe_spent (O.setting out.now) (given_expression (option_copied step.entry)))) values.old values.new (length state.old.cells.items) (length state.new.cells.items)) }
 {
     match test {
         None => turn(out, body, step, values, state),
@@ -311,7 +326,8 @@ fn turn<O: ExpressionWalk, V: Values>(
     requires kinded { KindedStatement (O.setting out.now) (view_statement body.now) }
     requires keys { AreThere (V.has_key values.old) (O.kinds out.now) }
     requires made { IsMade (V.made values.old) (O.setting out.now) state.old }
-    ensures { OnOk result (Walked V.serves V.has_key V.made V.shows (O.setting out.now) (branch_events (O.setting out.now) (view_statement body.now) ++ discarded_events (O.setting out.now) (given_expression (option_copied step.entry))) (as_flow [] (λ m r k. again (turned_body (statement_node (view_statement body.now)) (statement_run (O.setting out.now) (path_world (O.under out.now m)) (view_statement body.now)) (discarded_run (O.setting out.now) (path_world (O.under out.now m)) (given_expression (option_copied step.entry))) r k) no_more)) values.old values.new state.old state.new) }
+    ensures walked { OnOk result (Walked V.serves V.has_key V.made V.shows (O.setting out.now) (branch_events (O.setting out.now) (view_statement body.now) ++ discarded_events (O.setting out.now) (given_expression (option_copied step.entry))) (as_flow [] (λ m r k. again (turned_body (statement_node (view_statement body.now)) (statement_run (O.setting out.now) (path_world (O.under out.now m)) (view_statement body.now)) (discarded_run (O.setting out.now) (path_world (O.under out.now m)) (given_expression (option_copied step.entry))) r k) no_more)) values.old values.new state.old state.new) }
+    ensures cost { OnOk result (Costs V.cost (length (O.setting out.now).kept) ((statement_spent (O.setting out.now) (view_statement body.now)) + 3 + (maybe_spent (O.setting out.now) (given_expression (option_copied step.entry)))) values.old values.new (length state.old.cells.items) (length state.new.cells.items)) }
 {
     let broken = state.broken;
     let continued = state.continued;
@@ -341,7 +357,8 @@ fn do_loop<O: ExpressionWalk, V: Values>(
     requires kinded { KindedStatement (O.setting out.now) (view_statement body.now) }
     requires keys { AreThere (V.has_key values.old) (O.kinds out.now) }
     requires made { IsMade (V.made values.old) (O.setting out.now) state.old }
-    ensures { OnOk result (Walked V.serves V.has_key V.made V.shows (O.setting out.now) (branch_events (O.setting out.now) (view_statement body.now) ++ tested_events (O.setting out.now) (view_expression test.now)) (as_flow [] (λ m. loop_run (O.setting out.now) (path_world (O.under out.now m)) (statement_node (view_statement whole.now)) (form_of (view_statement whole.now)) (do_turn (O.setting out.now) (path_world (O.under out.now m)) (view_expression test.now) (statement_node (view_statement body.now)) (statement_run (O.setting out.now) (path_world (O.under out.now m)) (view_statement body.now))))) values.old values.new state.old state.new) }
+    ensures walked { OnOk result (Walked V.serves V.has_key V.made V.shows (O.setting out.now) (branch_events (O.setting out.now) (view_statement body.now) ++ tested_events (O.setting out.now) (view_expression test.now)) (as_flow [] (λ m. loop_run (O.setting out.now) (path_world (O.under out.now m)) (statement_node (view_statement whole.now)) (form_of (view_statement whole.now)) (do_turn (O.setting out.now) (path_world (O.under out.now m)) (view_expression test.now) (statement_node (view_statement body.now)) (statement_run (O.setting out.now) (path_world (O.under out.now m)) (view_statement body.now))))) values.old values.new state.old state.new) }
+    ensures cost { OnOk result (Costs V.cost (length (O.setting out.now).kept) ((loop_spent (O.setting out.now) (form_of (view_statement whole.now))) + (statement_spent (O.setting out.now) (view_statement body.now)) + 3 + (spent_test (O.setting out.now) (view_expression test.now)) + 6) values.old values.new (length state.old.cells.items) (length state.new.cells.items)) }
 {
     begin_loop(out, whole.node.number, &whole.form, values, state)?;
     do_turn(out, body, test, values, state)?;
@@ -362,7 +379,8 @@ fn do_turn<O: ExpressionWalk, V: Values>(
     requires kinded { KindedStatement (O.setting out.now) (view_statement body.now) }
     requires keys { AreThere (V.has_key values.old) (O.kinds out.now) }
     requires made { IsMade (V.made values.old) (O.setting out.now) state.old }
-    ensures { OnOk result (Walked V.serves V.has_key V.made V.shows (O.setting out.now) (branch_events (O.setting out.now) (view_statement body.now) ++ tested_events (O.setting out.now) (view_expression test.now)) (as_flow [] (λ m r k. again (do_turn (O.setting out.now) (path_world (O.under out.now m)) (view_expression test.now) (statement_node (view_statement body.now)) (statement_run (O.setting out.now) (path_world (O.under out.now m)) (view_statement body.now)) r k) no_more)) values.old values.new state.old state.new) }
+    ensures walked { OnOk result (Walked V.serves V.has_key V.made V.shows (O.setting out.now) (branch_events (O.setting out.now) (view_statement body.now) ++ tested_events (O.setting out.now) (view_expression test.now)) (as_flow [] (λ m r k. again (do_turn (O.setting out.now) (path_world (O.under out.now m)) (view_expression test.now) (statement_node (view_statement body.now)) (statement_run (O.setting out.now) (path_world (O.under out.now m)) (view_statement body.now)) r k) no_more)) values.old values.new state.old state.new) }
+    ensures cost { OnOk result (Costs V.cost (length (O.setting out.now).kept) ((statement_spent (O.setting out.now) (view_statement body.now)) + 3 + (spent_test (O.setting out.now) (view_expression test.now)) + 6) values.old values.new (length state.old.cells.items) (length state.new.cells.items)) }
 {
     let broken = state.broken;
     let continued = state.continued;
@@ -391,7 +409,8 @@ fn switch<O: ExpressionWalk, V: Values>(
     requires kinded { KindedSections (O.setting out.now) (sections (map view_section list.now)) }
     requires keys { AreThere (V.has_key values.old) (O.kinds out.now) }
     requires made { IsMade (V.made values.old) (O.setting out.now) state.old }
-    ensures { OnOk result (Walked V.serves V.has_key V.made V.shows (O.setting out.now) (value_events (O.setting out.now) (view_expression e.now) ++ sections_events (O.setting out.now) (sections (map view_section list.now))) (as_flow [] (λ m. switch_run (O.setting out.now) (path_world (O.under out.now m)) (view_expression e.now) (sections (map view_section list.now)) (λ n r k. sections_run (O.setting out.now) (path_world (O.under out.now m)) (sections (map view_section list.now)) n r k))) values.old values.new state.old state.new) }
+    ensures walked { OnOk result (Walked V.serves V.has_key V.made V.shows (O.setting out.now) (value_events (O.setting out.now) (view_expression e.now) ++ sections_events (O.setting out.now) (sections (map view_section list.now))) (as_flow [] (λ m. switch_run (O.setting out.now) (path_world (O.under out.now m)) (view_expression e.now) (sections (map view_section list.now)) (λ n r k. sections_run (O.setting out.now) (path_world (O.under out.now m)) (sections (map view_section list.now)) n r k))) values.old values.new state.old state.new) }
+    ensures cost { OnOk result (Costs V.cost (length (O.setting out.now).kept) (spent_value (O.setting out.now) (view_expression e.now) + convert_charge (kind_in (O.setting out.now).typing (view_expression e.now)) (promote (kind_in (O.setting out.now).typing (view_expression e.now))) + (cases_spent (sections (map view_section list.now)) (width_of (promote (kind_in (O.setting out.now).typing (view_expression e.now)))) + 3) + sections_spent (O.setting out.now) (sections (map view_section list.now)) + 6) values.old values.new (length state.old.cells.items) (length state.new.cells.items)) }
 {
     let own = out.kind_at(node_of(e));
     let kind = promote(own);
@@ -421,7 +440,8 @@ fn sections<O: ExpressionWalk, V: Values>(
     requires made { IsMade (V.made values.old) (O.setting out.now) state.old }
     requires length { length tests.now ≡ length list.now }
     requires tests { TestsMade (V.made values.old) tests.now }
-    ensures { OnOk result (WalkedSections V.serves V.has_key V.made V.shows (O.setting out.now) (sections_events (O.setting out.now) (sections (map view_section list.now))) tests.now (λ m n r k. sections_run (O.setting out.now) (path_world (O.under out.now m)) (sections (map view_section list.now)) n r k) values.old values.new state.old state.new) }
+    ensures walked { OnOk result (WalkedSections V.serves V.has_key V.made V.shows (O.setting out.now) (sections_events (O.setting out.now) (sections (map view_section list.now))) tests.now (λ m n r k. sections_run (O.setting out.now) (path_world (O.under out.now m)) (sections (map view_section list.now)) n r k) values.old values.new state.old state.new) }
+    ensures cost { OnOk result (Costs V.cost (length (O.setting out.now).kept) (sections_spent (O.setting out.now) (sections (map view_section list.now))) values.old values.new (length state.old.cells.items) (length state.new.cells.items)) }
 {
     for at in 0..list.len() {
         join(values, tests[at], state)?;
@@ -442,7 +462,8 @@ fn section<O: ExpressionWalk, V: Values>(
     requires kinded { KindedSection (O.setting out.now) (view_section x.now) }
     requires keys { AreThere (V.has_key values.old) (O.kinds out.now) }
     requires made { IsMade (V.made values.old) (O.setting out.now) state.old }
-    ensures { OnOk result (Walked V.serves V.has_key V.made V.shows (O.setting out.now) (section_events (O.setting out.now) (view_section x.now)) (as_flow [] (λ m. section_run (O.setting out.now) (path_world (O.under out.now m)) (view_section x.now))) values.old values.new state.old state.new) }
+    ensures walked { OnOk result (Walked V.serves V.has_key V.made V.shows (O.setting out.now) (section_events (O.setting out.now) (view_section x.now)) (as_flow [] (λ m. section_run (O.setting out.now) (path_world (O.under out.now m)) (view_section x.now))) values.old values.new state.old state.new) }
+    ensures cost { OnOk result (Costs V.cost (length (O.setting out.now).kept) (section_spent (O.setting out.now) (view_section x.now)) values.old values.new (length state.old.cells.items) (length state.new.cells.items)) }
 {
     enter(values, x.node.number, state)?;
     statements(out, x.body.as_slice(), values, state)?;
@@ -461,7 +482,8 @@ fn statements<O: ExpressionWalk, V: Values>(
     requires kinded { KindedStatements (O.setting out.now) (statements (map view_statement list.now)) }
     requires keys { AreThere (V.has_key values.old) (O.kinds out.now) }
     requires made { IsMade (V.made values.old) (O.setting out.now) state.old }
-    ensures { OnOk result (Walked V.serves V.has_key V.made V.shows (O.setting out.now) (statements_events (O.setting out.now) (statements (map view_statement list.now))) (as_flow [] (λ m. statements_run (O.setting out.now) (path_world (O.under out.now m)) (statements (map view_statement list.now)))) values.old values.new state.old state.new) }
+    ensures walked { OnOk result (Walked V.serves V.has_key V.made V.shows (O.setting out.now) (statements_events (O.setting out.now) (statements (map view_statement list.now))) (as_flow [] (λ m. statements_run (O.setting out.now) (path_world (O.under out.now m)) (statements (map view_statement list.now)))) values.old values.new state.old state.new) }
+    ensures cost { OnOk result (Costs V.cost (length (O.setting out.now).kept) (statements_spent (O.setting out.now) (statements (map view_statement list.now))) values.old values.new (length state.old.cells.items) (length state.new.cells.items)) }
 {
     for s in list {
         statement(out, s, values, state)?;

@@ -1,3 +1,5 @@
 pub mod Arguments
 pub mod Sided
 pub mod Parts
+pub mod CallCharges
+pub mod Indexed

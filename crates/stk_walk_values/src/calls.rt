@@ -1,7 +1,7 @@
 //! What a call does once its arguments have been walked. Only calls of the library look at the numbers of their
 //! arguments, and at the first three alone.
 
-ghost use Rattle.std.specs.Prelude.{◌≡◌, ℤ, ◌<◌, ◌+◌, ◌++◌, ◌∷◌, [], get_or, length, pos, List, Some, None, true, option_map, IfOk, OnOk};
+ghost use Rattle.std.specs.Prelude.{◌≡◌, ℤ, ◌<◌, ◌+◌, ◌++◌, ◌∷◌, [], get_or, length, pos, List, Some, None, true, option_map, IfOk, OnOk, ◌*◌, ◌≤◌};
 ghost use Rattle.stk_ctype.specs.declared.kind.IntKind as kinds;
 ghost use Rattle.stk_ctype.specs.Types.{TypeTree, TypeTrees};
 ghost use Rattle.stk_tree.specs.Syntax.{ExprTrees, ExprFormTree, call};
@@ -24,6 +24,10 @@ ghost use Rattle.stk_walking.specs.Leads.{Evaluates};
 ghost use Rattle.stk_walking.specs.NodeTests.{IsAskedOf};
 ghost use Rattle.stk_walking.specs.Stands.{Stands, IsMade};
 ghost use Rattle.stk_walk_values.specs.Arguments.{Takes, set_operand, parameter_kind, in_parameter, parameters_behind, IsFirstKind, ArgumentsMade, ArgumentsShow};
+ghost use Rattle.stk_spending.specs.Charges.{argument_charge, call_charge};
+ghost use Rattle.stk_walking.specs.Charges.{asked_charge};
+ghost use Rattle.stk_walking.specs.Costs.{Costs};
+ghost use Rattle.stk_walk_values.specs.CallCharges.{checks_charge, returned_charge};
 
 use stk_base::NoMemory;
 use stk_numbers::IntKind;
@@ -73,6 +77,7 @@ pub(crate) fn no_arguments<V: Values>(
     ensures makes { IfOk result (λ v. ArgumentsMade (V.made values.new) (option_map library_shown library) v) }
     ensures shown { IfOk result (λ v. (m : List ℤ) → V.serves values.old m → ArgumentsShow (V.shows values.new m) (option_map library_shown library) v []) }
     ensures keeps { Keeps V.serves V.has_key V.made V.shows values.old values.new }
+    ensures charge { OnOk result (V.cost values.new ≤ V.cost values.old) }
 {
     let kind = first_kind(library);
     let none = zero(values, kind)?;
@@ -98,6 +103,7 @@ fn in_parameter<V: Values>(
     ensures kind { IfOk result (λ v. (k : kinds.IntKind) → parameter_kind (library_shown library) at ≡ Some k → v.kind ≡ k) }
     ensures shown { IfOk result (λ v. (m : List ℤ) (x : ℤ) → V.serves values.old m → V.shows values.old m argument.kind argument.value x → V.shows values.new m v.kind v.value (in_parameter (parameter_kind (library_shown library) at) x)) }
     ensures keeps { Keeps V.serves V.has_key V.made V.shows values.old values.new }
+    ensures charge { OnOk result (V.cost values.new ≤ V.cost values.old + argument_charge (Some (library_shown library))) }
 {
     match parameter_kind(library, at) {
         None => Ok(argument),
@@ -152,6 +158,7 @@ pub(crate) fn passed<V: Values>(
     ensures makes { IfOk result (λ v. ArgumentsMade (V.made values.new) (option_map library_shown library) v) }
     ensures shown { IfOk result (λ v. (m : List ℤ) (ts : TypeTrees) (xs : List ℤ) (x : ℤ) → V.serves values.old m → Takes (option_map library_shown library) ts → ArgumentsShow (V.shows values.old m) (option_map library_shown library) arguments xs → V.shows values.old m argument.kind argument.value x → ArgumentsShow (V.shows values.new m) (option_map library_shown library) v (xs ++ passed (parameters_behind (length xs) ts) x ∷ [])) }
     ensures keeps { Keeps V.serves V.has_key V.made V.shows values.old values.new }
+    ensures charge { OnOk result (V.cost values.new ≤ V.cost values.old + argument_charge (option_map library_shown library)) }
 {
     match library {
         None => Ok(arguments),
@@ -169,6 +176,7 @@ pub(crate) fn passed<V: Values>(
 fn library_tests(library: Library) -> NodeTests
     ensures is { tests_of result ≡ library_tests (Some (library_shown library)) }
     ensures asked { (k : kinds.IntKind) → IsFirstKind (Some (library_shown library)) k → IsAskedOf k result }
+    ensures charge { (a b : kinds.IntKind) → IsFirstKind (Some (library_shown library)) a → asked_charge result a b ≤ checks_charge (Some (library_shown library)) }
 {
     match library {
         Library::AbsoluteIn(kind) => NodeTests::Absolute(kind),
@@ -191,6 +199,8 @@ fn check_arguments<O: WalkSetting, V: Values>(
     ensures events { OnOk result ((f : ExprFormTree) → form_tests (O.setting out.now).typing true f ≡ library_tests (option_map library_shown library) → events_in state.new.steps.items ≡ events_in state.old.steps.items ++ condition_events (O.setting out.now) node true f) }
     ensures stands { OnOk result ((m : List ℤ) (s : Standing) (f : ExprFormTree) (xs : List ℤ) → V.serves values.old m → ArgumentsShow (V.shows values.old m) (option_map library_shown library) arguments xs → form_tests (O.setting out.now).typing true f ≡ library_tests (option_map library_shown library) → Stands (V.shows values.old m) (O.setting out.now) state.old s → Stands (V.shows values.new m) (O.setting out.now) state.new (added (breaks (O.setting out.now) node true f (get_or xs 0 (pos 0)) (get_or xs 1 (pos 0)) (get_or xs 2 (pos 0))) s)) }
     ensures keeps { Keeps V.serves V.has_key V.made V.shows values.old values.new }
+    ensures charge { OnOk result (V.cost values.new ≤ V.cost values.old + checks_charge (option_map library_shown library)) }
+    ensures cells { OnOk result (state.new.cells.items ≡ state.old.cells.items) }
 {
     match library {
         None => Ok(()),
@@ -217,6 +227,7 @@ fn outside_number<O: WalkSetting, V: Values>(
     ensures events { OnOk result (events_in state.new.steps.items ≡ events_in state.old.steps.items) }
     ensures follows { IfOk result (λ v. (xs : List ℤ) → Evaluates (V.serves values.old) (V.shows values.old) (V.shows values.new) (O.setting out.now) (λ m x. V.shows values.new m (number_kind ((O.setting out.now).typing.type_at node)) v x) (λ m r k. returned (path_world (O.under out.now m)) node (result_in (called_signature (O.setting out.now).typing (view_expression callee.now))) None xs r k) state.old state.new) }
     ensures keeps { OnOk result (Keeps V.serves V.has_key V.made V.shows values.old values.new) }
+    ensures cost { OnOk result (Costs V.cost (length (O.setting out.now).kept) (3 * length (O.setting out.now).kept) values.old values.new (length state.old.cells.items) (length state.new.cells.items)) }
 {
     let kind = out.kind_at(node);
     forget(out, values, state)?;
@@ -246,6 +257,7 @@ fn library_number<O: WalkSetting, V: Values>(
     ensures events { OnOk result (events_in state.new.steps.items ≡ events_in state.old.steps.items) }
     ensures follows { IfOk result (λ v. (t : TypeTree) (xs : List ℤ) → Evaluates (λ m. V.serves values.old m × ArgumentsShow (V.shows values.old m) (Some (library_shown library)) arguments xs) (V.shows values.old) (V.shows values.new) (O.setting out.now) (λ m x. V.shows values.new m (number_kind ((O.setting out.now).typing.type_at node)) v x) (λ m r k. returned (path_world (O.under out.now m)) node t (Some (library_shown library)) xs r k) state.old state.new) }
     ensures keeps { OnOk result (Keeps V.serves V.has_key V.made V.shows values.old values.new) }
+    ensures cost { OnOk result (Costs V.cost (length (O.setting out.now).kept) (returned_charge (length (O.setting out.now).kept) (Some (library_shown library))) values.old values.new (length state.old.cells.items) (length state.new.cells.items)) }
 {
     match library {
         Library::AbsoluteIn(kind) => {
@@ -280,6 +292,7 @@ fn returned_number<O: WalkSetting, V: Values>(
     ensures events { OnOk result (events_in state.new.steps.items ≡ events_in state.old.steps.items) }
     ensures follows { IfOk result (λ v. (xs : List ℤ) → Evaluates (λ m. V.serves values.old m × ArgumentsShow (V.shows values.old m) (option_map library_shown library) arguments xs) (V.shows values.old) (V.shows values.new) (O.setting out.now) (λ m x. V.shows values.new m (number_kind ((O.setting out.now).typing.type_at node)) v x) (λ m r k. returned (path_world (O.under out.now m)) node (result_in (called_signature (O.setting out.now).typing (view_expression callee.now))) (option_map library_shown library) xs r k) state.old state.new) }
     ensures keeps { OnOk result (Keeps V.serves V.has_key V.made V.shows values.old values.new) }
+    ensures cost { OnOk result (Costs V.cost (length (O.setting out.now).kept) (returned_charge (length (O.setting out.now).kept) (option_map library_shown library)) values.old values.new (length state.old.cells.items) (length state.new.cells.items)) }
 {
     match library {
         None => outside_number(out, node, callee, values, state),
@@ -300,6 +313,7 @@ fn never_returned<O: WalkSetting, V: Values>(
     ensures events { OnOk result (events_in state.new.steps.items ≡ events_in state.old.steps.items) }
     ensures follows { IfOk result (λ v. Evaluates (V.serves values.old) (V.shows values.old) (V.shows values.new) (O.setting out.now) (λ m x. V.shows values.new m (number_kind ((O.setting out.now).typing.type_at node)) v x) (λ m r k. Cut []) state.old state.new) }
     ensures keeps { OnOk result (Keeps V.serves V.has_key V.made V.shows values.old values.new) }
+    ensures cost { OnOk result (Costs V.cost (length (O.setting out.now).kept) 0 values.old values.new (length state.old.cells.items) (length state.new.cells.items)) }
 {
     let none = zero(values, IntKind::Int)?;
     state.guard = none;
@@ -329,6 +343,7 @@ pub(crate) fn called_number<O: WalkSetting, V: Values>(
     ensures events { OnOk result ((es : ExprTrees) → events_in state.new.steps.items ≡ events_in state.old.steps.items ++ condition_events (O.setting out.now) node true (call (view_expression callee.now) es)) }
     ensures follows { IfOk result (λ v. (es : ExprTrees) (xs : List ℤ) → Evaluates (λ m. V.serves values.old m × ArgumentsShow (V.shows values.old m) (option_map library_shown library) arguments xs) (V.shows values.old) (V.shows values.new) (O.setting out.now) (λ m x. V.shows values.new m (number_kind ((O.setting out.now).typing.type_at node)) v x) (λ m r k. call_end (O.setting out.now) (O.under out.now m) node (view_expression callee.now) es xs r k) state.old state.new) }
     ensures keeps { OnOk result (Keeps V.serves V.has_key V.made V.shows values.old values.new) }
+    ensures cost { OnOk result (Costs V.cost (length (O.setting out.now).kept) (call_charge (length (O.setting out.now).kept) (called_library (O.setting out.now).typing (view_expression callee.now))) values.old values.new (length state.old.cells.items) (length state.new.cells.items)) }
 {
     check_arguments(out, node, library, arguments, values, state)?;
     if out.never_returns(callee) {

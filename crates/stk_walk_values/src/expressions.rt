@@ -1,14 +1,14 @@
 //! Expressions.
 
-ghost use Rattle.std.specs.Prelude.{◌≡◌, ◌+◌, ◌++◌, ℤ, Bool, true, false, pos, not, map, option_map, if◌then◌else◌, IfOk};
+ghost use Rattle.std.specs.Prelude.{◌≡◌, ◌+◌, ◌++◌, ℤ, Bool, true, false, pos, not, map, option_map, if◌then◌else◌, IfOk, ◌*◌, length, OnOk};
 ghost use Rattle.stk_ctype.specs.declared.kind.IntKind.TheVariants.{Int};
 ghost use Rattle.stk_ctype.specs.Types.{TypeTrees};
 ghost use Rattle.stk_tree.specs.View.{view_expression, expressions};
 ghost use Rattle.stk_tree.specs.Syntax as s;
 ghost use Rattle.stk_tree.specs.declared.expression.UnaryOp.TheVariants as unary;
-ghost use Rattle.stk_meaning.specs.Typings.{node_of, type_in, number_kind, converted, is_array};
-ghost use Rattle.stk_meaning.specs.Operations.{sort_of, operates, comparing, operation_of, assigned_operator, to_address, truth, bit};
-ghost use Rattle.stk_meaning.specs.Libraries.{called_signature, parameters_in, result_in};
+ghost use Rattle.stk_meaning.specs.Typings.{node_of, type_in, number_kind, converted, is_array, stride_in};
+ghost use Rattle.stk_meaning.specs.Operations.{sort_of, operates, comparing, operation_of, assigned_operator, to_address, truth, bit, step_operation};
+ghost use Rattle.stk_meaning.specs.Libraries.{called_signature, parameters_in, result_in, called_library};
 ghost use Rattle.stk_meaning.specs.Replacements.{replacement};
 ghost use Rattle.stk_meaning.specs.Places.{target_of};
 ghost use Rattle.stk_meaning.specs.Worlds.{Went, and_then, gives};
@@ -23,6 +23,11 @@ ghost use Rattle.stk_walking.specs.ExpressionEvents.{expression_events, tested_e
 ghost use Rattle.stk_walking.specs.Walks.{IsReady, Walks, WalksTo};
 ghost use Rattle.stk_walk_values.specs.Arguments.{Takes, ArgumentsMade, ArgumentsShow};
 ghost use Rattle.stk_walk_values.specs.Parts.{WalksBehind, Finds, WalksToSides};
+ghost use Rattle.stk_numbers.specs.Kinds.{width_of};
+ghost use Rattle.stk_values.specs.Charges.{convert_charge, move_charge};
+ghost use Rattle.stk_spending.specs.Charges.{null_charge, index_charge, read_charge, call_charge};
+ghost use Rattle.stk_spending.specs.Expressions.{kind_in, kind_at, expression_spent, spent_value, spent_place, spent_test, indexed_spent, unary_spent, binary_spent, operator_spent, compared_spent, joined_spent, stored_spent, assigned_spent, arguments_spent};
+ghost use Rattle.stk_walking.specs.Costs.{Costs};
 
 use crate::calls::{Arguments, called_number, no_arguments, passed};
 use crate::guards::parted;
@@ -54,7 +59,8 @@ pub(crate) fn value<O: WalkSetting, V: Values>(
 ) -> Result<V::Value, NoMemory>
     requires kinded { Kinded (O.setting out.now) (view_expression e.now) }
     requires ready { IsReady V.has_key V.made (O.kinds out.now) (O.setting out.now) values.old state.old }
-    ensures { IfOk result (λ v. WalksTo V.serves V.has_key V.made V.shows (O.setting out.now) (number_kind (type_in (O.setting out.now).typing (view_expression e.now))) v (λ m. (meaning_in (O.setting out.now) (O.under out.now m) (view_expression e.now)).value) (expression_events (O.setting out.now) (view_expression e.now)).value values.old values.new state.old state.new) }
+    ensures walks { IfOk result (λ v. WalksTo V.serves V.has_key V.made V.shows (O.setting out.now) (number_kind (type_in (O.setting out.now).typing (view_expression e.now))) v (λ m. (meaning_in (O.setting out.now) (O.under out.now m) (view_expression e.now)).value) (expression_events (O.setting out.now) (view_expression e.now)).value values.old values.new state.old state.new) }
+    ensures cost { OnOk result (Costs V.cost (length (O.setting out.now).kept) (spent_value (O.setting out.now) (view_expression e.now)) values.old values.new (length state.old.cells.items) (length state.new.cells.items)) }
 {
     let k = e.node.number;
     match &e.form {
@@ -96,7 +102,8 @@ fn place_value<O: WalkSetting, V: Values>(
     requires kinded { Kinded (O.setting out.now) (view_expression e.now) }
     requires suits { Suits (O.setting out.now) (target_of (O.setting out.now) (view_expression e.now)) (number_kind (type_in (O.setting out.now).typing (view_expression e.now))) }
     requires ready { IsReady V.has_key V.made (O.kinds out.now) (O.setting out.now) values.old state.old }
-    ensures { IfOk result (λ v. WalksTo V.serves V.has_key V.made V.shows (O.setting out.now) (number_kind (type_in (O.setting out.now).typing (view_expression e.now))) v (λ m. place_value (path_world (O.under out.now m)) (target_of (O.setting out.now) (view_expression e.now)) (node_of (view_expression e.now)) (type_in (O.setting out.now).typing (view_expression e.now)) (meaning_in (O.setting out.now) (O.under out.now m) (view_expression e.now)).place) ((expression_events (O.setting out.now) (view_expression e.now)).place (not (is_array (type_in (O.setting out.now).typing (view_expression e.now))))) values.old values.new state.old state.new) }
+    ensures walks { IfOk result (λ v. WalksTo V.serves V.has_key V.made V.shows (O.setting out.now) (number_kind (type_in (O.setting out.now).typing (view_expression e.now))) v (λ m. place_value (path_world (O.under out.now m)) (target_of (O.setting out.now) (view_expression e.now)) (node_of (view_expression e.now)) (type_in (O.setting out.now).typing (view_expression e.now)) (meaning_in (O.setting out.now) (O.under out.now m) (view_expression e.now)).place) ((expression_events (O.setting out.now) (view_expression e.now)).place (not (is_array (type_in (O.setting out.now).typing (view_expression e.now))))) values.old values.new state.old state.new) }
+    ensures cost { OnOk result (Costs V.cost (length (O.setting out.now).kept) ((spent_place (O.setting out.now) (view_expression e.now)) + read_charge (target_of (O.setting out.now) (view_expression e.now)) (kind_in (O.setting out.now).typing (view_expression e.now))) values.old values.new (length state.old.cells.items) (length state.new.cells.items)) }
 {
     let k = node_of(e);
     let address = place(out, e, !out.is_array_at(k), values, state)?;
@@ -115,7 +122,8 @@ fn place<O: WalkSetting, V: Values>(
 ) -> Result<V::Value, NoMemory>
     requires kinded { Kinded (O.setting out.now) (view_expression e.now) }
     requires ready { IsReady V.has_key V.made (O.kinds out.now) (O.setting out.now) values.old state.old }
-    ensures { IfOk result (λ v. Finds V.serves V.has_key V.made V.shows (O.setting out.now) v (λ m. (meaning_in (O.setting out.now) (O.under out.now m) (view_expression e.now)).place accessed) ((expression_events (O.setting out.now) (view_expression e.now)).place accessed) values.old values.new state.old state.new) }
+    ensures walks { IfOk result (λ v. Finds V.serves V.has_key V.made V.shows (O.setting out.now) v (λ m. (meaning_in (O.setting out.now) (O.under out.now m) (view_expression e.now)).place accessed) ((expression_events (O.setting out.now) (view_expression e.now)).place accessed) values.old values.new state.old state.new) }
+    ensures cost { OnOk result (Costs V.cost (length (O.setting out.now).kept) (spent_place (O.setting out.now) (view_expression e.now)) values.old values.new (length state.old.cells.items) (length state.new.cells.items)) }
 {
     let k = e.node.number;
     match &e.form {
@@ -159,7 +167,8 @@ fn member<O: WalkSetting, V: Values>(
 ) -> Result<V::Value, NoMemory>
     requires kinded { Kinded (O.setting out.now) (view_expression e.now) }
     requires ready { IsReady V.has_key V.made (O.kinds out.now) (O.setting out.now) values.old state.old }
-    ensures { IfOk result (λ v. Finds V.serves V.has_key V.made V.shows (O.setting out.now) v (λ m. λ r i. and_then ((meaning_in (O.setting out.now) (O.under out.now m) (view_expression e.now)).place accessed r i) (λ x. gives (to_address (pos (x + (O.setting out.now).typing.offset_of (type_in (O.setting out.now).typing (view_expression e.now)) name))))) ((expression_events (O.setting out.now) (view_expression e.now)).place accessed) values.old values.new state.old state.new) }
+    ensures walks { IfOk result (λ v. Finds V.serves V.has_key V.made V.shows (O.setting out.now) v (λ m. λ r i. and_then ((meaning_in (O.setting out.now) (O.under out.now m) (view_expression e.now)).place accessed r i) (λ x. gives (to_address (pos (x + (O.setting out.now).typing.offset_of (type_in (O.setting out.now).typing (view_expression e.now)) name))))) ((expression_events (O.setting out.now) (view_expression e.now)).place accessed) values.old values.new state.old state.new) }
+    ensures cost { OnOk result (Costs V.cost (length (O.setting out.now).kept) ((spent_place (O.setting out.now) (view_expression e.now)) + 1024) values.old values.new (length state.old.cells.items) (length state.new.cells.items)) }
 {
     let address = place(out, e, accessed, values, state)?;
     let found = member_place(out, node_of(e), name, address, values)?;
@@ -180,7 +189,8 @@ fn index_place<O: WalkSetting, V: Values>(
     requires first { Kinded (O.setting out.now) (view_expression a.now) }
     requires second { Kinded (O.setting out.now) (view_expression b.now) }
     requires ready { IsReady V.has_key V.made (O.kinds out.now) (O.setting out.now) values.old state.old }
-    ensures { IfOk result (λ v. Finds V.serves V.has_key V.made V.shows (O.setting out.now) v (λ m. index_place (O.setting out.now) k (view_expression a.now) (view_expression b.now) (meaning_in (O.setting out.now) (O.under out.now m) (view_expression a.now)) (meaning_in (O.setting out.now) (O.under out.now m) (view_expression b.now)) accessed) (indexed_events (type_in (O.setting out.now).typing (view_expression a.now)) accessed (expression_events (O.setting out.now) (view_expression a.now)) ++ ((expression_events (O.setting out.now) (view_expression b.now)).value ++ condition_events (O.setting out.now) k accessed (s.index (view_expression a.now) (view_expression b.now)))) values.old values.new state.old state.new) }
+    ensures walks { IfOk result (λ v. Finds V.serves V.has_key V.made V.shows (O.setting out.now) v (λ m. index_place (O.setting out.now) k (view_expression a.now) (view_expression b.now) (meaning_in (O.setting out.now) (O.under out.now m) (view_expression a.now)) (meaning_in (O.setting out.now) (O.under out.now m) (view_expression b.now)) accessed) (indexed_events (type_in (O.setting out.now).typing (view_expression a.now)) accessed (expression_events (O.setting out.now) (view_expression a.now)) ++ ((expression_events (O.setting out.now) (view_expression b.now)).value ++ condition_events (O.setting out.now) k accessed (s.index (view_expression a.now) (view_expression b.now)))) values.old values.new state.old state.new) }
+    ensures cost { OnOk result (Costs V.cost (length (O.setting out.now).kept) (indexed_spent (type_in (O.setting out.now).typing (view_expression a.now)) (expression_spent (O.setting out.now) (view_expression a.now)) + (spent_value (O.setting out.now) (view_expression b.now)) + move_charge (stride_in (O.setting out.now).typing (type_in (O.setting out.now).typing (view_expression a.now))) + index_charge (kind_in (O.setting out.now).typing (view_expression a.now)) (stride_in (O.setting out.now).typing (type_in (O.setting out.now).typing (view_expression a.now)))) values.old values.new (length state.old.cells.items) (length state.new.cells.items)) }
 {
     let x = indexed(out, accessed, a, values, state)?;
     let y = value(out, b, values, state)?;
@@ -207,7 +217,8 @@ fn indexed<O: WalkSetting, V: Values>(
 ) -> Result<V::Value, NoMemory>
     requires kinded { Kinded (O.setting out.now) (view_expression e.now) }
     requires ready { IsReady V.has_key V.made (O.kinds out.now) (O.setting out.now) values.old state.old }
-    ensures { IfOk result (λ v. WalksTo V.serves V.has_key V.made V.shows (O.setting out.now) (number_kind (type_in (O.setting out.now).typing (view_expression e.now))) v (λ m. indexed_from (type_in (O.setting out.now).typing (view_expression e.now)) accessed (meaning_in (O.setting out.now) (O.under out.now m) (view_expression e.now))) (indexed_events (type_in (O.setting out.now).typing (view_expression e.now)) accessed (expression_events (O.setting out.now) (view_expression e.now))) values.old values.new state.old state.new) }
+    ensures walks { IfOk result (λ v. WalksTo V.serves V.has_key V.made V.shows (O.setting out.now) (number_kind (type_in (O.setting out.now).typing (view_expression e.now))) v (λ m. indexed_from (type_in (O.setting out.now).typing (view_expression e.now)) accessed (meaning_in (O.setting out.now) (O.under out.now m) (view_expression e.now))) (indexed_events (type_in (O.setting out.now).typing (view_expression e.now)) accessed (expression_events (O.setting out.now) (view_expression e.now))) values.old values.new state.old state.new) }
+    ensures cost { OnOk result (Costs V.cost (length (O.setting out.now).kept) (indexed_spent (type_in (O.setting out.now).typing (view_expression e.now)) (expression_spent (O.setting out.now) (view_expression e.now))) values.old values.new (length state.old.cells.items) (length state.new.cells.items)) }
 {
     if out.is_array_at(node_of(e)) {
         let address = place(out, e, accessed, values, state)?;
@@ -231,7 +242,8 @@ fn unary_place<O: WalkSetting, V: Values>(
 ) -> Result<V::Value, NoMemory>
     requires kinded { Kinded (O.setting out.now) (view_expression e.now) }
     requires ready { IsReady V.has_key V.made (O.kinds out.now) (O.setting out.now) values.old state.old }
-    ensures { IfOk result (λ v. Finds V.serves V.has_key V.made V.shows (O.setting out.now) v (λ m. (unary_meaning (O.setting out.now) (path_world (O.under out.now m)) k op (view_expression e.now) (meaning_in (O.setting out.now) (O.under out.now m) (view_expression e.now))).place accessed) ((unary_events (O.setting out.now) k op (view_expression e.now) (expression_events (O.setting out.now) (view_expression e.now))).place accessed) values.old values.new state.old state.new) }
+    ensures walks { IfOk result (λ v. Finds V.serves V.has_key V.made V.shows (O.setting out.now) v (λ m. (unary_meaning (O.setting out.now) (path_world (O.under out.now m)) k op (view_expression e.now) (meaning_in (O.setting out.now) (O.under out.now m) (view_expression e.now))).place accessed) ((unary_events (O.setting out.now) k op (view_expression e.now) (expression_events (O.setting out.now) (view_expression e.now))).place accessed) values.old values.new state.old state.new) }
+    ensures cost { OnOk result (Costs V.cost (length (O.setting out.now).kept) (unary_spent (O.setting out.now) k op (kind_in (O.setting out.now).typing (view_expression e.now)) (expression_spent (O.setting out.now) (view_expression e.now))).place values.old values.new (length state.old.cells.items) (length state.new.cells.items)) }
 {
     match op {
         UnaryOp::Deref => target(out, k, accessed, e, values, state),
@@ -255,7 +267,8 @@ fn target<O: WalkSetting, V: Values>(
 ) -> Result<V::Value, NoMemory>
     requires kinded { Kinded (O.setting out.now) (view_expression e.now) }
     requires ready { IsReady V.has_key V.made (O.kinds out.now) (O.setting out.now) values.old state.old }
-    ensures { IfOk result (λ v. Finds V.serves V.has_key V.made V.shows (O.setting out.now) v (λ m. λ r i. and_then ((meaning_in (O.setting out.now) (O.under out.now m) (view_expression e.now)).value r i) (λ x r i. Went (to_address x) r i (breaks (O.setting out.now) k accessed (s.unary unary.Deref (view_expression e.now)) x (pos 0) (pos 0)))) ((expression_events (O.setting out.now) (view_expression e.now)).value ++ condition_events (O.setting out.now) k accessed (s.unary unary.Deref (view_expression e.now))) values.old values.new state.old state.new) }
+    ensures walks { IfOk result (λ v. Finds V.serves V.has_key V.made V.shows (O.setting out.now) v (λ m. λ r i. and_then ((meaning_in (O.setting out.now) (O.under out.now m) (view_expression e.now)).value r i) (λ x r i. Went (to_address x) r i (breaks (O.setting out.now) k accessed (s.unary unary.Deref (view_expression e.now)) x (pos 0) (pos 0)))) ((expression_events (O.setting out.now) (view_expression e.now)).value ++ condition_events (O.setting out.now) k accessed (s.unary unary.Deref (view_expression e.now))) values.old values.new state.old state.new) }
+    ensures cost { OnOk result (Costs V.cost (length (O.setting out.now).kept) ((spent_value (O.setting out.now) (view_expression e.now)) + null_charge (kind_in (O.setting out.now).typing (view_expression e.now))) values.old values.new (length state.old.cells.items) (length state.new.cells.items)) }
 {
     let value = value(out, e, values, state)?;
     let kind = out.kind_at(node_of(e));
@@ -277,7 +290,8 @@ fn unary_value<O: WalkSetting, V: Values>(
     requires kind { UnaryHasKind (O.setting out.now).typing k (number_kind (type_in (O.setting out.now).typing (view_expression e.now))) op }
     requires kinded { Kinded (O.setting out.now) (view_expression e.now) }
     requires ready { IsReady V.has_key V.made (O.kinds out.now) (O.setting out.now) values.old state.old }
-    ensures { IfOk result (λ v. WalksTo V.serves V.has_key V.made V.shows (O.setting out.now) (number_kind ((O.setting out.now).typing.type_at k)) v (λ m. (unary_meaning (O.setting out.now) (path_world (O.under out.now m)) k op (view_expression e.now) (meaning_in (O.setting out.now) (O.under out.now m) (view_expression e.now))).value) (unary_events (O.setting out.now) k op (view_expression e.now) (expression_events (O.setting out.now) (view_expression e.now))).value values.old values.new state.old state.new) }
+    ensures walks { IfOk result (λ v. WalksTo V.serves V.has_key V.made V.shows (O.setting out.now) (number_kind ((O.setting out.now).typing.type_at k)) v (λ m. (unary_meaning (O.setting out.now) (path_world (O.under out.now m)) k op (view_expression e.now) (meaning_in (O.setting out.now) (O.under out.now m) (view_expression e.now))).value) (unary_events (O.setting out.now) k op (view_expression e.now) (expression_events (O.setting out.now) (view_expression e.now))).value values.old values.new state.old state.new) }
+    ensures cost { OnOk result (Costs V.cost (length (O.setting out.now).kept) (unary_spent (O.setting out.now) k op (kind_in (O.setting out.now).typing (view_expression e.now)) (expression_spent (O.setting out.now) (view_expression e.now))).value values.old values.new (length state.old.cells.items) (length state.new.cells.items)) }
 {
     match op {
         UnaryOp::Address => {
@@ -315,7 +329,8 @@ fn target_value<O: WalkSetting, V: Values>(
 ) -> Result<V::Value, NoMemory>
     requires kinded { Kinded (O.setting out.now) (view_expression e.now) }
     requires ready { IsReady V.has_key V.made (O.kinds out.now) (O.setting out.now) values.old state.old }
-    ensures { IfOk result (λ v. WalksTo V.serves V.has_key V.made V.shows (O.setting out.now) (number_kind ((O.setting out.now).typing.type_at k)) v (λ m. (unary_meaning (O.setting out.now) (path_world (O.under out.now m)) k unary.Deref (view_expression e.now) (meaning_in (O.setting out.now) (O.under out.now m) (view_expression e.now))).value) (unary_events (O.setting out.now) k unary.Deref (view_expression e.now) (expression_events (O.setting out.now) (view_expression e.now))).value values.old values.new state.old state.new) }
+    ensures walks { IfOk result (λ v. WalksTo V.serves V.has_key V.made V.shows (O.setting out.now) (number_kind ((O.setting out.now).typing.type_at k)) v (λ m. (unary_meaning (O.setting out.now) (path_world (O.under out.now m)) k unary.Deref (view_expression e.now) (meaning_in (O.setting out.now) (O.under out.now m) (view_expression e.now))).value) (unary_events (O.setting out.now) k unary.Deref (view_expression e.now) (expression_events (O.setting out.now) (view_expression e.now))).value values.old values.new state.old state.new) }
+    ensures cost { OnOk result (Costs V.cost (length (O.setting out.now).kept) ((spent_value (O.setting out.now) (view_expression e.now)) + null_charge (kind_in (O.setting out.now).typing (view_expression e.now))) values.old values.new (length state.old.cells.items) (length state.new.cells.items)) }
 {
     let address = target(out, k, !out.is_array_at(k), e, values, state)?;
     let found = place_number(out, k, Target::Unnamed, address, values, state)?;
@@ -333,7 +348,8 @@ fn cast<O: WalkSetting, V: Values>(
 ) -> Result<V::Value, NoMemory>
     requires kinded { Kinded (O.setting out.now) (view_expression e.now) }
     requires ready { IsReady V.has_key V.made (O.kinds out.now) (O.setting out.now) values.old state.old }
-    ensures { IfOk result (λ v. WalksTo V.serves V.has_key V.made V.shows (O.setting out.now) (number_kind ((O.setting out.now).typing.type_at k)) v (λ m. λ r i. and_then ((meaning_in (O.setting out.now) (O.under out.now m) (view_expression e.now)).value r i) (λ x. gives (converted ((O.setting out.now).typing.type_at k) x))) (expression_events (O.setting out.now) (view_expression e.now)).value values.old values.new state.old state.new) }
+    ensures walks { IfOk result (λ v. WalksTo V.serves V.has_key V.made V.shows (O.setting out.now) (number_kind ((O.setting out.now).typing.type_at k)) v (λ m. λ r i. and_then ((meaning_in (O.setting out.now) (O.under out.now m) (view_expression e.now)).value r i) (λ x. gives (converted ((O.setting out.now).typing.type_at k) x))) (expression_events (O.setting out.now) (view_expression e.now)).value values.old values.new state.old state.new) }
+    ensures cost { OnOk result (Costs V.cost (length (O.setting out.now).kept) ((spent_value (O.setting out.now) (view_expression e.now)) + convert_charge (kind_in (O.setting out.now).typing (view_expression e.now)) (kind_at (O.setting out.now).typing k)) values.old values.new (length state.old.cells.items) (length state.new.cells.items)) }
 {
     let n = value(out, e, values, state)?;
     let found = converted(values, out.kind_at(node_of(e)), out.kind_at(k), n)?;
@@ -350,7 +366,8 @@ pub(crate) fn tested<O: WalkSetting, V: Values>(
 ) -> Result<V::Value, NoMemory>
     requires kinded { Kinded (O.setting out.now) (view_expression e.now) }
     requires ready { IsReady V.has_key V.made (O.kinds out.now) (O.setting out.now) values.old state.old }
-    ensures { IfOk result (λ v. Walks V.serves V.has_key V.made V.shows (O.setting out.now) (λ m. Unit {0}) (λ c. V.made c Int v) (λ c m x. V.shows c m Int v (bit (truth x))) (λ m. test_of (O.setting out.now) (path_world (O.under out.now m)) (view_expression e.now)) (tested_events (O.setting out.now) (view_expression e.now)) values.old values.new state.old state.new) }
+    ensures walks { IfOk result (λ v. Walks V.serves V.has_key V.made V.shows (O.setting out.now) (λ m. Unit {0}) (λ c. V.made c Int v) (λ c m x. V.shows c m Int v (bit (truth x))) (λ m. test_of (O.setting out.now) (path_world (O.under out.now m)) (view_expression e.now)) (tested_events (O.setting out.now) (view_expression e.now)) values.old values.new state.old state.new) }
+    ensures cost { OnOk result (Costs V.cost (length (O.setting out.now).kept) (spent_test (O.setting out.now) (view_expression e.now)) values.old values.new (length state.old.cells.items) (length state.new.cells.items)) }
 {
     let n = value(out, e, values, state)?;
     let test = seen_test(out, e, n, values, state)?;
@@ -367,7 +384,8 @@ fn right_operand<O: WalkSetting, V: Values>(
 ) -> Result<V::Value, NoMemory>
     requires kinded { Kinded (O.setting out.now) (view_expression e.now) }
     requires ready { IsReady V.has_key V.made (O.kinds out.now) (O.setting out.now) values.old state.old }
-    ensures { IfOk result (λ v. WalksTo V.serves V.has_key V.made V.shows (O.setting out.now) Int v (λ m. right_operand (node_of (view_expression e.now)) (meaning_in (O.setting out.now) (O.under out.now m) (view_expression e.now))) (entered_events (view_expression e.now) (expression_events (O.setting out.now) (view_expression e.now)).value) values.old values.new state.old state.new) }
+    ensures walks { IfOk result (λ v. WalksTo V.serves V.has_key V.made V.shows (O.setting out.now) Int v (λ m. right_operand (node_of (view_expression e.now)) (meaning_in (O.setting out.now) (O.under out.now m) (view_expression e.now))) (entered_events (view_expression e.now) (expression_events (O.setting out.now) (view_expression e.now)).value) values.old values.new state.old state.new) }
+    ensures cost { OnOk result (Costs V.cost (length (O.setting out.now).kept) ((spent_value (O.setting out.now) (view_expression e.now)) + 10 * width_of (kind_in (O.setting out.now).typing (view_expression e.now))) values.old values.new (length state.old.cells.items) (length state.new.cells.items)) }
 {
     enter(values, node_of(e), state)?;
     let n = value(out, e, values, state)?;
@@ -389,7 +407,8 @@ fn right_behind<O: WalkSetting, V: Values>(
     requires other { V.made values.old Int other }
     requires kinded { Kinded (O.setting out.now) (view_expression e.now) }
     requires ready { IsReady V.has_key V.made (O.kinds out.now) (O.setting out.now) values.old state.old }
-    ensures { IfOk result (λ v. (d : Bool) (o : ℤ) → WalksBehind V.serves V.has_key V.made V.shows (O.setting out.now) (λ m. V.shows values.old m Int test (bit d) × V.shows values.old m Int other o) Int v (λ m r i. if d then right_operand (node_of (view_expression e.now)) (meaning_in (O.setting out.now) (O.under out.now m) (view_expression e.now)) r i else gives o r i) (entered_events (view_expression e.now) (expression_events (O.setting out.now) (view_expression e.now)).value) values.old values.new state.old state.new) }
+    ensures walks { IfOk result (λ v. (d : Bool) (o : ℤ) → WalksBehind V.serves V.has_key V.made V.shows (O.setting out.now) (λ m. V.shows values.old m Int test (bit d) × V.shows values.old m Int other o) Int v (λ m r i. if d then right_operand (node_of (view_expression e.now)) (meaning_in (O.setting out.now) (O.under out.now m) (view_expression e.now)) r i else gives o r i) (entered_events (view_expression e.now) (expression_events (O.setting out.now) (view_expression e.now)).value) values.old values.new state.old state.new) }
+    ensures cost { OnOk result (Costs V.cost (length (O.setting out.now).kept) (6 + ((spent_value (O.setting out.now) (view_expression e.now)) + 10 * width_of (kind_in (O.setting out.now).typing (view_expression e.now))) + 3 + 96) values.old values.new (length state.old.cells.items) (length state.new.cells.items)) }
 {
     let (first, second) = parted(values, state.guard, test)?;
     state.guard = first;
@@ -411,7 +430,8 @@ fn branch<O: WalkSetting, V: Values>(
 ) -> Result<V::Value, NoMemory>
     requires kinded { Kinded (O.setting out.now) (view_expression e.now) }
     requires ready { IsReady V.has_key V.made (O.kinds out.now) (O.setting out.now) values.old state.old }
-    ensures { IfOk result (λ v. WalksTo V.serves V.has_key V.made V.shows (O.setting out.now) (number_kind ((O.setting out.now).typing.type_at k)) v (λ m. branch_value ((O.setting out.now).typing.type_at k) (node_of (view_expression e.now)) (meaning_in (O.setting out.now) (O.under out.now m) (view_expression e.now))) (entered_events (view_expression e.now) (expression_events (O.setting out.now) (view_expression e.now)).value) values.old values.new state.old state.new) }
+    ensures walks { IfOk result (λ v. WalksTo V.serves V.has_key V.made V.shows (O.setting out.now) (number_kind ((O.setting out.now).typing.type_at k)) v (λ m. branch_value ((O.setting out.now).typing.type_at k) (node_of (view_expression e.now)) (meaning_in (O.setting out.now) (O.under out.now m) (view_expression e.now))) (entered_events (view_expression e.now) (expression_events (O.setting out.now) (view_expression e.now)).value) values.old values.new state.old state.new) }
+    ensures cost { OnOk result (Costs V.cost (length (O.setting out.now).kept) ((spent_value (O.setting out.now) (view_expression e.now)) + convert_charge (kind_in (O.setting out.now).typing (view_expression e.now)) (kind_at (O.setting out.now).typing k)) values.old values.new (length state.old.cells.items) (length state.new.cells.items)) }
 {
     enter(values, node_of(e), state)?;
     let n = value(out, e, values, state)?;
@@ -434,7 +454,8 @@ fn choice<O: WalkSetting, V: Values>(
     requires first { Kinded (O.setting out.now) (view_expression b.now) }
     requires second { Kinded (O.setting out.now) (view_expression c.now) }
     requires ready { IsReady V.has_key V.made (O.kinds out.now) (O.setting out.now) values.old state.old }
-    ensures { IfOk result (λ v. (d : Bool) → WalksBehind V.serves V.has_key V.made V.shows (O.setting out.now) (λ m. V.shows values.old m Int test (bit d)) (number_kind ((O.setting out.now).typing.type_at k)) v (λ m r i. if d then branch_value ((O.setting out.now).typing.type_at k) (node_of (view_expression b.now)) (meaning_in (O.setting out.now) (O.under out.now m) (view_expression b.now)) r i else branch_value ((O.setting out.now).typing.type_at k) (node_of (view_expression c.now)) (meaning_in (O.setting out.now) (O.under out.now m) (view_expression c.now)) r i) (entered_events (view_expression b.now) (expression_events (O.setting out.now) (view_expression b.now)).value ++ entered_events (view_expression c.now) (expression_events (O.setting out.now) (view_expression c.now)).value) values.old values.new state.old state.new) }
+    ensures walks { IfOk result (λ v. (d : Bool) → WalksBehind V.serves V.has_key V.made V.shows (O.setting out.now) (λ m. V.shows values.old m Int test (bit d)) (number_kind ((O.setting out.now).typing.type_at k)) v (λ m r i. if d then branch_value ((O.setting out.now).typing.type_at k) (node_of (view_expression b.now)) (meaning_in (O.setting out.now) (O.under out.now m) (view_expression b.now)) r i else branch_value ((O.setting out.now).typing.type_at k) (node_of (view_expression c.now)) (meaning_in (O.setting out.now) (O.under out.now m) (view_expression c.now)) r i) (entered_events (view_expression b.now) (expression_events (O.setting out.now) (view_expression b.now)).value ++ entered_events (view_expression c.now) (expression_events (O.setting out.now) (view_expression c.now)).value) values.old values.new state.old state.new) }
+    ensures cost { OnOk result (Costs V.cost (length (O.setting out.now).kept) (6 + ((spent_value (O.setting out.now) (view_expression b.now)) + convert_charge (kind_in (O.setting out.now).typing (view_expression b.now)) (kind_at (O.setting out.now).typing k)) + ((spent_value (O.setting out.now) (view_expression c.now)) + convert_charge (kind_in (O.setting out.now).typing (view_expression c.now)) (kind_at (O.setting out.now).typing k)) + 3 + 3 * width_of (kind_at (O.setting out.now).typing k)) values.old values.new (length state.old.cells.items) (length state.new.cells.items)) }
 {
     let (first, second) = parted(values, state.guard, test)?;
     state.guard = first;
@@ -463,7 +484,8 @@ fn binary_value<O: WalkSetting, V: Values>(
     requires first { Kinded (O.setting out.now) (view_expression a.now) }
     requires second { Kinded (O.setting out.now) (view_expression b.now) }
     requires ready { IsReady V.has_key V.made (O.kinds out.now) (O.setting out.now) values.old state.old }
-    ensures { IfOk result (λ v. WalksTo V.serves V.has_key V.made V.shows (O.setting out.now) (number_kind ((O.setting out.now).typing.type_at k)) v (λ m. (binary_meaning (O.setting out.now) k op (view_expression a.now) (view_expression b.now) (sort_of op) (meaning_in (O.setting out.now) (O.under out.now m) (view_expression a.now)) (meaning_in (O.setting out.now) (O.under out.now m) (view_expression b.now))).value) (binary_events (O.setting out.now) k op (view_expression a.now) (view_expression b.now) (sort_of op) (expression_events (O.setting out.now) (view_expression a.now)) (expression_events (O.setting out.now) (view_expression b.now))) values.old values.new state.old state.new) }
+    ensures walks { IfOk result (λ v. WalksTo V.serves V.has_key V.made V.shows (O.setting out.now) (number_kind ((O.setting out.now).typing.type_at k)) v (λ m. (binary_meaning (O.setting out.now) k op (view_expression a.now) (view_expression b.now) (sort_of op) (meaning_in (O.setting out.now) (O.under out.now m) (view_expression a.now)) (meaning_in (O.setting out.now) (O.under out.now m) (view_expression b.now))).value) (binary_events (O.setting out.now) k op (view_expression a.now) (view_expression b.now) (sort_of op) (expression_events (O.setting out.now) (view_expression a.now)) (expression_events (O.setting out.now) (view_expression b.now))) values.old values.new state.old state.new) }
+    ensures cost { OnOk result (Costs V.cost (length (O.setting out.now).kept) ((spent_value (O.setting out.now) (view_expression a.now)) + (spent_value (O.setting out.now) (view_expression b.now)) + binary_spent (O.setting out.now).typing (view_expression a.now) (view_expression b.now) (sort_of op)) values.old values.new (length state.old.cells.items) (length state.new.cells.items)) }
 {
     match sort_of(op) {
         BinarySort::Operates(Operator::Comparing(how)) => {
@@ -503,7 +525,8 @@ fn compared_value<O: WalkSetting, V: Values>(
     requires first { Kinded (O.setting out.now) (view_expression a.now) }
     requires second { Kinded (O.setting out.now) (view_expression b.now) }
     requires ready { IsReady V.has_key V.made (O.kinds out.now) (O.setting out.now) values.old state.old }
-    ensures { IfOk result (λ v. WalksTo V.serves V.has_key V.made V.shows (O.setting out.now) Int v (λ m. comparison_value (O.setting out.now) k how (operation_of (O.setting out.now).typing (comparing how) (type_in (O.setting out.now).typing (view_expression a.now)) (type_in (O.setting out.now).typing (view_expression b.now))) (replacement (O.setting out.now).typing (view_expression a.now) (view_expression b.now)) (meaning_in (O.setting out.now) (O.under out.now m) (view_expression a.now)) (meaning_in (O.setting out.now) (O.under out.now m) (view_expression b.now))) ((expression_events (O.setting out.now) (view_expression a.now)).value ++ ((expression_events (O.setting out.now) (view_expression b.now)).value ++ seen_events k (replacement (O.setting out.now).typing (view_expression a.now) (view_expression b.now)))) values.old values.new state.old state.new) }
+    ensures walks { IfOk result (λ v. WalksTo V.serves V.has_key V.made V.shows (O.setting out.now) Int v (λ m. comparison_value (O.setting out.now) k how (operation_of (O.setting out.now).typing (comparing how) (type_in (O.setting out.now).typing (view_expression a.now)) (type_in (O.setting out.now).typing (view_expression b.now))) (replacement (O.setting out.now).typing (view_expression a.now) (view_expression b.now)) (meaning_in (O.setting out.now) (O.under out.now m) (view_expression a.now)) (meaning_in (O.setting out.now) (O.under out.now m) (view_expression b.now))) ((expression_events (O.setting out.now) (view_expression a.now)).value ++ ((expression_events (O.setting out.now) (view_expression b.now)).value ++ seen_events k (replacement (O.setting out.now).typing (view_expression a.now) (view_expression b.now)))) values.old values.new state.old state.new) }
+    ensures cost { OnOk result (Costs V.cost (length (O.setting out.now).kept) ((spent_value (O.setting out.now) (view_expression a.now)) + (spent_value (O.setting out.now) (view_expression b.now)) + compared_spent (operation_of (O.setting out.now).typing (comparing how) (type_in (O.setting out.now).typing (view_expression a.now)) (type_in (O.setting out.now).typing (view_expression b.now))) (kind_in (O.setting out.now).typing (view_expression a.now)) (kind_in (O.setting out.now).typing (view_expression b.now)) (replacement (O.setting out.now).typing (view_expression a.now) (view_expression b.now))) values.old values.new (length state.old.cells.items) (length state.new.cells.items)) }
 {
     let x = sides(out, a, values, state)?;
     let y = sides(out, b, values, state)?;
@@ -523,7 +546,8 @@ fn or_else<O: WalkSetting, V: Values>(
     requires first { Kinded (O.setting out.now) (view_expression a.now) }
     requires second { Kinded (O.setting out.now) (view_expression b.now) }
     requires ready { IsReady V.has_key V.made (O.kinds out.now) (O.setting out.now) values.old state.old }
-    ensures { IfOk result (λ v. WalksTo V.serves V.has_key V.made V.shows (O.setting out.now) Int v (λ m. or_value (view_expression a.now) (node_of (view_expression b.now)) (meaning_in (O.setting out.now) (O.under out.now m) (view_expression a.now)) (meaning_in (O.setting out.now) (O.under out.now m) (view_expression b.now))) (tested_events (O.setting out.now) (view_expression a.now) ++ entered_events (view_expression b.now) (expression_events (O.setting out.now) (view_expression b.now)).value) values.old values.new state.old state.new) }
+    ensures walks { IfOk result (λ v. WalksTo V.serves V.has_key V.made V.shows (O.setting out.now) Int v (λ m. or_value (view_expression a.now) (node_of (view_expression b.now)) (meaning_in (O.setting out.now) (O.under out.now m) (view_expression a.now)) (meaning_in (O.setting out.now) (O.under out.now m) (view_expression b.now))) (tested_events (O.setting out.now) (view_expression a.now) ++ entered_events (view_expression b.now) (expression_events (O.setting out.now) (view_expression b.now)).value) values.old values.new state.old state.new) }
+    ensures cost { OnOk result (Costs V.cost (length (O.setting out.now).kept) ((spent_value (O.setting out.now) (view_expression a.now)) + (spent_value (O.setting out.now) (view_expression b.now)) + joined_spent (kind_in (O.setting out.now).typing (view_expression a.now)) (kind_in (O.setting out.now).typing (view_expression b.now))) values.old values.new (length state.old.cells.items) (length state.new.cells.items)) }
 {
     let test = tested(out, a, values, state)?;
     let one = values.constant(IntKind::Int, 1)?;
@@ -544,7 +568,8 @@ fn and_also<O: WalkSetting, V: Values>(
     requires first { Kinded (O.setting out.now) (view_expression a.now) }
     requires second { Kinded (O.setting out.now) (view_expression b.now) }
     requires ready { IsReady V.has_key V.made (O.kinds out.now) (O.setting out.now) values.old state.old }
-    ensures { IfOk result (λ v. WalksTo V.serves V.has_key V.made V.shows (O.setting out.now) Int v (λ m. and_value (view_expression a.now) (node_of (view_expression b.now)) (meaning_in (O.setting out.now) (O.under out.now m) (view_expression a.now)) (meaning_in (O.setting out.now) (O.under out.now m) (view_expression b.now))) (tested_events (O.setting out.now) (view_expression a.now) ++ entered_events (view_expression b.now) (expression_events (O.setting out.now) (view_expression b.now)).value) values.old values.new state.old state.new) }
+    ensures walks { IfOk result (λ v. WalksTo V.serves V.has_key V.made V.shows (O.setting out.now) Int v (λ m. and_value (view_expression a.now) (node_of (view_expression b.now)) (meaning_in (O.setting out.now) (O.under out.now m) (view_expression a.now)) (meaning_in (O.setting out.now) (O.under out.now m) (view_expression b.now))) (tested_events (O.setting out.now) (view_expression a.now) ++ entered_events (view_expression b.now) (expression_events (O.setting out.now) (view_expression b.now)).value) values.old values.new state.old state.new) }
+    ensures cost { OnOk result (Costs V.cost (length (O.setting out.now).kept) ((spent_value (O.setting out.now) (view_expression a.now)) + (spent_value (O.setting out.now) (view_expression b.now)) + joined_spent (kind_in (O.setting out.now).typing (view_expression a.now)) (kind_in (O.setting out.now).typing (view_expression b.now))) values.old values.new (length state.old.cells.items) (length state.new.cells.items)) }
 {
     let test = tested(out, a, values, state)?;
     let none = zero(values, IntKind::Int)?;
@@ -570,6 +595,7 @@ fn operator_sides<O: WalkSetting, V: Values>(
     requires ready { IsReady V.has_key V.made (O.kinds out.now) (O.setting out.now) values.old state.old }
     ensures value { IfOk result (λ v. WalksTo V.serves V.has_key V.made V.shows (O.setting out.now) (operation_kind (operation_of (O.setting out.now).typing (operator_shown how) (type_in (O.setting out.now).typing (view_expression a.now)) (type_in (O.setting out.now).typing (view_expression b.now)))) v.number (λ m. (operator_meaning (O.setting out.now) k (s.binary op (view_expression a.now) (view_expression b.now)) (operation_of (O.setting out.now).typing (operator_shown how) (type_in (O.setting out.now).typing (view_expression a.now)) (type_in (O.setting out.now).typing (view_expression b.now))) (meaning_in (O.setting out.now) (O.under out.now m) (view_expression a.now)) (meaning_in (O.setting out.now) (O.under out.now m) (view_expression b.now))).value) ((expression_events (O.setting out.now) (view_expression a.now)).value ++ ((expression_events (O.setting out.now) (view_expression b.now)).value ++ condition_events (O.setting out.now) k true (s.binary op (view_expression a.now) (view_expression b.now)))) values.old values.new state.old state.new) }
     ensures sides { IfOk result (λ v. WalksToSides V.serves V.has_key V.made V.shows (O.setting out.now) (operation_kind (operation_of (O.setting out.now).typing (operator_shown how) (type_in (O.setting out.now).typing (view_expression a.now)) (type_in (O.setting out.now).typing (view_expression b.now)))) v (λ m. operator_sides (O.setting out.now) k (s.binary op (view_expression a.now) (view_expression b.now)) (operation_of (O.setting out.now).typing (operator_shown how) (type_in (O.setting out.now).typing (view_expression a.now)) (type_in (O.setting out.now).typing (view_expression b.now))) (meaning_in (O.setting out.now) (O.under out.now m) (view_expression a.now)) (meaning_in (O.setting out.now) (O.under out.now m) (view_expression b.now))) ((expression_events (O.setting out.now) (view_expression a.now)).value ++ ((expression_events (O.setting out.now) (view_expression b.now)).value ++ condition_events (O.setting out.now) k true (s.binary op (view_expression a.now) (view_expression b.now)))) values.old values.new state.old state.new) }
+    ensures cost { OnOk result (Costs V.cost (length (O.setting out.now).kept) ((spent_value (O.setting out.now) (view_expression a.now)) + (spent_value (O.setting out.now) (view_expression b.now)) + operator_spent (operation_of (O.setting out.now).typing (operator_shown how) (type_in (O.setting out.now).typing (view_expression a.now)) (type_in (O.setting out.now).typing (view_expression b.now))) (kind_in (O.setting out.now).typing (view_expression a.now)) (kind_in (O.setting out.now).typing (view_expression b.now))) values.old values.new (length state.old.cells.items) (length state.new.cells.items)) }
 {
     let x = value(out, a, values, state)?;
     let y = value(out, b, values, state)?;
@@ -605,7 +631,8 @@ fn binary_sides<O: WalkSetting, V: Values>(
     requires first { Kinded (O.setting out.now) (view_expression a.now) }
     requires second { Kinded (O.setting out.now) (view_expression b.now) }
     requires ready { IsReady V.has_key V.made (O.kinds out.now) (O.setting out.now) values.old state.old }
-    ensures { IfOk result (λ v. WalksToSides V.serves V.has_key V.made V.shows (O.setting out.now) (number_kind ((O.setting out.now).typing.type_at k)) v (λ m. (binary_meaning (O.setting out.now) k op (view_expression a.now) (view_expression b.now) (sort_of op) (meaning_in (O.setting out.now) (O.under out.now m) (view_expression a.now)) (meaning_in (O.setting out.now) (O.under out.now m) (view_expression b.now))).sides) (binary_events (O.setting out.now) k op (view_expression a.now) (view_expression b.now) (sort_of op) (expression_events (O.setting out.now) (view_expression a.now)) (expression_events (O.setting out.now) (view_expression b.now))) values.old values.new state.old state.new) }
+    ensures walks { IfOk result (λ v. WalksToSides V.serves V.has_key V.made V.shows (O.setting out.now) (number_kind ((O.setting out.now).typing.type_at k)) v (λ m. (binary_meaning (O.setting out.now) k op (view_expression a.now) (view_expression b.now) (sort_of op) (meaning_in (O.setting out.now) (O.under out.now m) (view_expression a.now)) (meaning_in (O.setting out.now) (O.under out.now m) (view_expression b.now))).sides) (binary_events (O.setting out.now) k op (view_expression a.now) (view_expression b.now) (sort_of op) (expression_events (O.setting out.now) (view_expression a.now)) (expression_events (O.setting out.now) (view_expression b.now))) values.old values.new state.old state.new) }
+    ensures cost { OnOk result (Costs V.cost (length (O.setting out.now).kept) ((spent_value (O.setting out.now) (view_expression a.now)) + (spent_value (O.setting out.now) (view_expression b.now)) + binary_spent (O.setting out.now).typing (view_expression a.now) (view_expression b.now) (sort_of op)) values.old values.new (length state.old.cells.items) (length state.new.cells.items)) }
 {
     match sort_of(op) {
         BinarySort::Operates(Operator::Arithmetic(how)) => {
@@ -647,7 +674,8 @@ fn sides<O: WalkSetting, V: Values>(
 ) -> Result<Sides<V::Value>, NoMemory>
     requires kinded { Kinded (O.setting out.now) (view_expression e.now) }
     requires ready { IsReady V.has_key V.made (O.kinds out.now) (O.setting out.now) values.old state.old }
-    ensures { IfOk result (λ v. WalksToSides V.serves V.has_key V.made V.shows (O.setting out.now) (number_kind (type_in (O.setting out.now).typing (view_expression e.now))) v (λ m. (meaning_in (O.setting out.now) (O.under out.now m) (view_expression e.now)).sides) (expression_events (O.setting out.now) (view_expression e.now)).value values.old values.new state.old state.new) }
+    ensures walks { IfOk result (λ v. WalksToSides V.serves V.has_key V.made V.shows (O.setting out.now) (number_kind (type_in (O.setting out.now).typing (view_expression e.now))) v (λ m. (meaning_in (O.setting out.now) (O.under out.now m) (view_expression e.now)).sides) (expression_events (O.setting out.now) (view_expression e.now)).value values.old values.new state.old state.new) }
+    ensures cost { OnOk result (Costs V.cost (length (O.setting out.now).kept) (spent_value (O.setting out.now) (view_expression e.now)) values.old values.new (length state.old.cells.items) (length state.new.cells.items)) }
 {
     match &e.form {
         ExprForm::Paren(x) => sides(out, x.get(), values, state),
@@ -690,7 +718,8 @@ fn stepped_value<O: WalkSetting, V: Values>(
     requires stored { IsStored (O.setting out.now) (view_expression e.now) }
     requires kinded { Kinded (O.setting out.now) (view_expression e.now) }
     requires ready { IsReady V.has_key V.made (O.kinds out.now) (O.setting out.now) values.old state.old }
-    ensures { IfOk result (λ v. WalksTo V.serves V.has_key V.made V.shows (O.setting out.now) (number_kind ((O.setting out.now).typing.type_at k)) v (λ m. step_value (O.setting out.now) (path_world (O.under out.now m)) k op (view_expression e.now) (meaning_in (O.setting out.now) (O.under out.now m) (view_expression e.now))) ((expression_events (O.setting out.now) (view_expression e.now)).place true ++ condition_events (O.setting out.now) k true (s.step op (view_expression e.now))) values.old values.new state.old state.new) }
+    ensures walks { IfOk result (λ v. WalksTo V.serves V.has_key V.made V.shows (O.setting out.now) (number_kind ((O.setting out.now).typing.type_at k)) v (λ m. step_value (O.setting out.now) (path_world (O.under out.now m)) k op (view_expression e.now) (meaning_in (O.setting out.now) (O.under out.now m) (view_expression e.now))) ((expression_events (O.setting out.now) (view_expression e.now)).place true ++ condition_events (O.setting out.now) k true (s.step op (view_expression e.now))) values.old values.new state.old state.new) }
+    ensures cost { OnOk result (Costs V.cost (length (O.setting out.now).kept) ((spent_place (O.setting out.now) (view_expression e.now)) + stored_spent (O.setting out.now) (view_expression e.now) (step_operation (O.setting out.now).typing op (type_in (O.setting out.now).typing (view_expression e.now))) Int) values.old values.new (length state.old.cells.items) (length state.new.cells.items)) }
 {
     let _place = place(out, e, true, values, state)?;
     let found = stepped_number(out, k, op, e, values, state)?;
@@ -713,7 +742,8 @@ fn assigned_value<O: WalkSetting, V: Values>(
     requires first { Kinded (O.setting out.now) (view_expression a.now) }
     requires second { Kinded (O.setting out.now) (view_expression b.now) }
     requires ready { IsReady V.has_key V.made (O.kinds out.now) (O.setting out.now) values.old state.old }
-    ensures { IfOk result (λ v. WalksTo V.serves V.has_key V.made V.shows (O.setting out.now) (number_kind ((O.setting out.now).typing.type_at k)) v (λ m. assigned_value (O.setting out.now) (path_world (O.under out.now m)) k op (view_expression a.now) (view_expression b.now) (assigned_operator op) (meaning_in (O.setting out.now) (O.under out.now m) (view_expression a.now)) (meaning_in (O.setting out.now) (O.under out.now m) (view_expression b.now))) (assigned_events (O.setting out.now) k (s.assign op (view_expression a.now) (view_expression b.now)) (assigned_operator op) (expression_events (O.setting out.now) (view_expression a.now)) (expression_events (O.setting out.now) (view_expression b.now))) values.old values.new state.old state.new) }
+    ensures walks { IfOk result (λ v. WalksTo V.serves V.has_key V.made V.shows (O.setting out.now) (number_kind ((O.setting out.now).typing.type_at k)) v (λ m. assigned_value (O.setting out.now) (path_world (O.under out.now m)) k op (view_expression a.now) (view_expression b.now) (assigned_operator op) (meaning_in (O.setting out.now) (O.under out.now m) (view_expression a.now)) (meaning_in (O.setting out.now) (O.under out.now m) (view_expression b.now))) (assigned_events (O.setting out.now) k (s.assign op (view_expression a.now) (view_expression b.now)) (assigned_operator op) (expression_events (O.setting out.now) (view_expression a.now)) (expression_events (O.setting out.now) (view_expression b.now))) values.old values.new state.old state.new) }
+    ensures cost { OnOk result (Costs V.cost (length (O.setting out.now).kept) ((spent_value (O.setting out.now) (view_expression b.now)) + (spent_place (O.setting out.now) (view_expression a.now)) + assigned_spent (O.setting out.now) (view_expression a.now) (view_expression b.now) (assigned_operator op)) values.old values.new (length state.old.cells.items) (length state.new.cells.items)) }
 {
     let value = value(out, b, values, state)?;
     let _place = place(out, a, true, values, state)?;
@@ -745,7 +775,8 @@ fn call_value<O: WalkSetting, V: Values>(
     requires kind { (number_kind ((O.setting out.now).typing.type_at k)) ≡ number_kind (result_in (called_signature (O.setting out.now).typing (view_expression callee.now))) }
     requires kinded { KindedAll (O.setting out.now) (expressions (map view_expression list.now)) }
     requires ready { IsReady V.has_key V.made (O.kinds out.now) (O.setting out.now) values.old state.old }
-    ensures { IfOk result (λ v. WalksTo V.serves V.has_key V.made V.shows (O.setting out.now) (number_kind ((O.setting out.now).typing.type_at k)) v (λ m. call_value (O.setting out.now) (path_world (O.under out.now m)) k (view_expression callee.now) (expressions (map view_expression list.now)) (arguments_values (O.setting out.now) (path_world (O.under out.now m)) (parameters_in (called_signature (O.setting out.now).typing (view_expression callee.now))) (expressions (map view_expression list.now)))) (argument_events (O.setting out.now) (expressions (map view_expression list.now)) ++ condition_events (O.setting out.now) k true (s.call (view_expression callee.now) (expressions (map view_expression list.now)))) values.old values.new state.old state.new) }
+    ensures walks { IfOk result (λ v. WalksTo V.serves V.has_key V.made V.shows (O.setting out.now) (number_kind ((O.setting out.now).typing.type_at k)) v (λ m. call_value (O.setting out.now) (path_world (O.under out.now m)) k (view_expression callee.now) (expressions (map view_expression list.now)) (arguments_values (O.setting out.now) (path_world (O.under out.now m)) (parameters_in (called_signature (O.setting out.now).typing (view_expression callee.now))) (expressions (map view_expression list.now)))) (argument_events (O.setting out.now) (expressions (map view_expression list.now)) ++ condition_events (O.setting out.now) k true (s.call (view_expression callee.now) (expressions (map view_expression list.now)))) values.old values.new state.old state.new) }
+    ensures cost { OnOk result (Costs V.cost (length (O.setting out.now).kept) (arguments_spent (O.setting out.now) (called_library (O.setting out.now).typing (view_expression callee.now)) (expressions (map view_expression list.now)) + call_charge (length (O.setting out.now).kept) (called_library (O.setting out.now).typing (view_expression callee.now))) values.old values.new (length state.old.cells.items) (length state.new.cells.items)) }
 {
     let library = out.library(callee);
     let found = arguments(out, library, list, values, state)?;
@@ -764,7 +795,8 @@ fn arguments<O: WalkSetting, V: Values>(
 ) -> Result<Arguments<V::Value>, NoMemory>
     requires kinded { KindedAll (O.setting out.now) (expressions (map view_expression list.now)) }
     requires ready { IsReady V.has_key V.made (O.kinds out.now) (O.setting out.now) values.old state.old }
-    ensures { IfOk result (λ v. (ts : TypeTrees) → Takes (option_map library_shown library) ts → Walks V.serves V.has_key V.made V.shows (O.setting out.now) (λ m. Unit {0}) (λ c. ArgumentsMade (V.made c) (option_map library_shown library) v) (λ c m xs. ArgumentsShow (V.shows c m) (option_map library_shown library) v xs) (λ m. arguments_values (O.setting out.now) (path_world (O.under out.now m)) ts (expressions (map view_expression list.now))) (argument_events (O.setting out.now) (expressions (map view_expression list.now))) values.old values.new state.old state.new) }
+    ensures walks { IfOk result (λ v. (ts : TypeTrees) → Takes (option_map library_shown library) ts → Walks V.serves V.has_key V.made V.shows (O.setting out.now) (λ m. Unit {0}) (λ c. ArgumentsMade (V.made c) (option_map library_shown library) v) (λ c m xs. ArgumentsShow (V.shows c m) (option_map library_shown library) v xs) (λ m. arguments_values (O.setting out.now) (path_world (O.under out.now m)) ts (expressions (map view_expression list.now))) (argument_events (O.setting out.now) (expressions (map view_expression list.now))) values.old values.new state.old state.new) }
+    ensures cost { OnOk result (Costs V.cost (length (O.setting out.now).kept) (arguments_spent (O.setting out.now) (option_map library_shown library) (expressions (map view_expression list.now))) values.old values.new (length state.old.cells.items) (length state.new.cells.items)) }
 {
     let mut found = no_arguments(library, values)?;
     for e in list {

@@ -1,6 +1,6 @@
 //! Branches of a walk, each under its guard.
 
-ghost use Rattle.std.specs.Prelude.{ℤ, List, Bool, ◌&&◌, not, IfOk};
+ghost use Rattle.std.specs.Prelude.{ℤ, List, Bool, ◌&&◌, not, IfOk, ◌+◌, ◌≤◌, OnOk};
 ghost use Rattle.stk_ctype.specs.declared.kind.IntKind.TheVariants.{Int};
 ghost use Rattle.stk_meaning.specs.Operations.{bit};
 ghost use Rattle.stk_values.specs.Keeping.{Keeps};
@@ -20,6 +20,7 @@ pub(crate) fn parted<V: Values>(
     ensures second { IfOk result (λ v. V.made values.new Int v.1) }
     ensures value { IfOk result (λ v. (m : List ℤ) (a b : Bool) → V.serves values.old m → V.shows values.old m Int guard (bit a) → V.shows values.old m Int test (bit b) → V.shows values.new m Int v.0 (bit (a && b)) × V.shows values.new m Int v.1 (bit (a && not b))) }
     ensures keeps { Keeps V.serves V.has_key V.made V.shows values.old values.new }
+    ensures charge { OnOk result (V.cost values.new ≤ V.cost values.old + 6) }
 {
     let opposite = values.opposite(test)?;
     let first = values.both(guard, test)?;

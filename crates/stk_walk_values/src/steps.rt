@@ -1,6 +1,7 @@
 //! Places and numbers that a walk comes to once it has walked what they rest on.
 
-ghost use Rattle.std.specs.Prelude.{◌≡◌, ◌+◌, ◌++◌, [], ℕ, ℤ, List, Bool, false, pos, unwrap_or, IfOk, OnOk};
+ghost use Rattle.std.specs.Prelude.{◌≡◌, ◌+◌, ◌++◌, [], ℕ, ℤ, List, Bool, false, pos, unwrap_or, IfOk, OnOk, ◌≤◌, length};
+ghost use Rattle.stk_ctype.specs.declared.kind.IntKind as kinds;
 ghost use Rattle.stk_ctype.specs.declared.kind.IntKind.TheVariants.{ULong};
 ghost use Rattle.stk_tree.specs.Syntax.{ExprTree, ExprFormTree};
 ghost use Rattle.stk_tree.specs.Syntax as s;
@@ -9,7 +10,7 @@ ghost use Rattle.stk_tree.specs.declared.expression.UnaryOp.TheVariants as unary
 ghost use Rattle.stk_numbers.specs.Values.{moved};
 ghost use Rattle.stk_meaning.specs.Typings.{type_in, number_kind, pointed, stride_in};
 ghost use Rattle.stk_meaning.specs.Operations.{to_address};
-ghost use Rattle.stk_meaning.specs.Conditions.{form_tests};
+ghost use Rattle.stk_meaning.specs.Conditions.{form_tests, target_tests, index_tests};
 ghost use Rattle.stk_meaning.specs.Places.{target_at, object_named};
 ghost use Rattle.stk_meaning.specs.Worlds.{Went, Cut, gives};
 ghost use Rattle.stk_meaning.specs.Paths.{path_world};
@@ -26,12 +27,18 @@ ghost use Rattle.stk_walking.specs.Stands.{Stands, IsMade};
 ghost use Rattle.stk_walking.specs.NodeTests.{IsAskedOf};
 ghost use Rattle.stk_walking.specs.Keyed.{AreThere};
 ghost use Rattle.stk_walking.specs.Walks.{IsReady, WalksTo};
+ghost use Rattle.stk_walk_values.specs.Indexed.{bounds_in, moved_tests};
 ghost use Rattle.stk_walk_values.specs.Parts.{WalksBehind, FindsBehind, Finds};
+ghost use Rattle.stk_values.specs.Charges.{move_charge};
+ghost use Rattle.stk_spending.specs.Charges.{null_charge, index_charge, read_charge};
+ghost use Rattle.stk_spending.specs.Expressions.{kind_in};
+ghost use Rattle.stk_walking.specs.Charges.{asked_charge};
+ghost use Rattle.stk_walking.specs.Costs.{Costs};
 
 use stk_base::{NoMemory, Span};
 use stk_eval_expr::node_of;
 use stk_numbers::IntKind;
-use stk_operators::{NodeTests, Stride, Target, Word, target_node_tests};
+use stk_operators::{NodeTests, Stride, Target, Word};
 use stk_tree::Expr;
 use stk_values::Values;
 use stk_walking::{
@@ -57,7 +64,8 @@ pub(crate) fn own_number<O: WalkSetting, V: Values>(
     state: &WalkState<V::Value>,
 ) -> Result<V::Value, NoMemory>
     requires ready { IsReady V.has_key V.made (O.kinds out.now) (O.setting out.now) values.old state.now }
-    ensures { IfOk result (λ v. WalksTo V.serves V.has_key V.made V.shows (O.setting out.now) (number_kind ((O.setting out.now).typing.type_at node)) v (λ m. (own_number (O.setting out.now) node).value) [] values.old values.new state.now state.now) }
+    ensures walks { IfOk result (λ v. WalksTo V.serves V.has_key V.made V.shows (O.setting out.now) (number_kind ((O.setting out.now).typing.type_at node)) v (λ m. (own_number (O.setting out.now) node).value) [] values.old values.new state.now state.now) }
+    ensures cost { OnOk result (Costs V.cost (length (O.setting out.now).kept) 0 values.old values.new (length state.now.cells.items) (length state.now.cells.items)) }
 {
     let kind = out.kind_at(node);
     let own = own_word(out.own_number(node));
@@ -72,7 +80,8 @@ pub(crate) fn no_place<O: WalkSetting, V: Values>(
     state: &mut WalkState<V::Value>,
 ) -> Result<V::Value, NoMemory>
     requires ready { IsReady V.has_key V.made (O.kinds out.now) (O.setting out.now) values.old state.old }
-    ensures { IfOk result (λ v. Finds V.serves V.has_key V.made V.shows (O.setting out.now) v (λ m r k. Cut []) [] values.old values.new state.old state.new) }
+    ensures walks { IfOk result (λ v. Finds V.serves V.has_key V.made V.shows (O.setting out.now) v (λ m r k. Cut []) [] values.old values.new state.old state.new) }
+    ensures cost { OnOk result (Costs V.cost (length (O.setting out.now).kept) 0 values.old values.new (length state.old.cells.items) (length state.new.cells.items)) }
 {
     let none = zero(values, IntKind::ULong)?;
     let guard = zero(values, IntKind::Int)?;
@@ -90,6 +99,7 @@ fn object_address<O: WalkSetting, V: Values>(
     ensures makes { IfOk result (λ v. V.made values.new ULong v) }
     ensures value { IfOk result (λ v. (m : List ℤ) → V.serves values.old m → V.shows values.new m ULong v (pos (address_of (path_world (O.under out.now m)) (target_at (O.setting out.now) object) object))) }
     ensures keeps { Keeps V.serves V.has_key V.made V.shows values.old values.new }
+    ensures charge { OnOk result (V.cost values.new ≤ V.cost values.old) }
 {
     match out.target_at(object) {
         Target::Register(_) => zero(values, IntKind::ULong),
@@ -109,6 +119,7 @@ fn named_address<O: WalkSetting, V: Values>(
     ensures makes { IfOk result (λ v. V.made values.new ULong v) }
     ensures value { IfOk result (λ v. (m : List ℤ) → V.serves values.old m → V.shows values.new m ULong v (pos ((path_world (O.under out.now m)).address object))) }
     ensures keeps { Keeps V.serves V.has_key V.made V.shows values.old values.new }
+    ensures charge { OnOk result (V.cost values.new ≤ V.cost values.old) }
 {
     let found = input_value(out, InputKey::Address(object), IntKind::ULong, values)?;
     Ok(found)
@@ -122,7 +133,8 @@ pub(crate) fn text_place<O: WalkSetting, V: Values>(
     state: &WalkState<V::Value>,
 ) -> Result<V::Value, NoMemory>
     requires ready { IsReady V.has_key V.made (O.kinds out.now) (O.setting out.now) values.old state.now }
-    ensures { IfOk result (λ v. Finds V.serves V.has_key V.made V.shows (O.setting out.now) v (λ m. gives ((path_world (O.under out.now m)).address node)) [] values.old values.new state.now state.now) }
+    ensures walks { IfOk result (λ v. Finds V.serves V.has_key V.made V.shows (O.setting out.now) v (λ m. gives ((path_world (O.under out.now m)).address node)) [] values.old values.new state.now state.now) }
+    ensures cost { OnOk result (Costs V.cost (length (O.setting out.now).kept) 0 values.old values.new (length state.now.cells.items) (length state.now.cells.items)) }
 {
     let found = named_address(out, node, values)?;
     Ok(found)
@@ -137,7 +149,8 @@ pub(crate) fn named_place<O: WalkSetting, V: Values>(
     state: &mut WalkState<V::Value>,
 ) -> Result<V::Value, NoMemory>
     requires ready { IsReady V.has_key V.made (O.kinds out.now) (O.setting out.now) values.old state.old }
-    ensures { IfOk result (λ v. (accessed : Bool) → Finds V.serves V.has_key V.made V.shows (O.setting out.now) v (λ m. (name_meaning (O.setting out.now) (path_world (O.under out.now m)) node (s.name name) (object_named (O.setting out.now) node name) ((O.setting out.now).typing.number_at node)).place accessed) [] values.old values.new state.old state.new) }
+    ensures walks { IfOk result (λ v. (accessed : Bool) → Finds V.serves V.has_key V.made V.shows (O.setting out.now) v (λ m. (name_meaning (O.setting out.now) (path_world (O.under out.now m)) node (s.name name) (object_named (O.setting out.now) node name) ((O.setting out.now).typing.number_at node)).place accessed) [] values.old values.new state.old state.new) }
+    ensures cost { OnOk result (Costs V.cost (length (O.setting out.now).kept) 0 values.old values.new (length state.old.cells.items) (length state.new.cells.items)) }
 {
     match out.own_number(node) {
         Some(_) => {
@@ -161,6 +174,7 @@ fn behind<V: Values>(
     ensures makes { IfOk result (λ v. V.made values.new ULong v) }
     ensures value { IfOk result (λ v. (m : List ℤ) (x : ℤ) → V.serves values.old m → V.shows values.old m base.kind base.value x → V.shows values.new m ULong v (pos (to_address (pos (to_address x + bytes))))) }
     ensures keeps { Keeps V.serves V.has_key V.made V.shows values.old values.new }
+    ensures charge { OnOk result (V.cost values.new ≤ V.cost values.old + 1024) }
 {
     let value = values.constant(IntKind::ULong, i128::from(bytes))?;
     let step = Operand {
@@ -183,6 +197,7 @@ pub(crate) fn member_place<O: WalkSetting, V: Values>(
     ensures makes { IfOk result (λ v. V.made values.new ULong v) }
     ensures value { IfOk result (λ v. (m : List ℤ) (a : ℕ) → V.serves values.old m → V.shows values.old m ULong address (pos a) → V.shows values.new m ULong v (pos (to_address (pos (a + (O.setting out.now).typing.offset_of ((O.setting out.now).typing.type_at node) name))))) }
     ensures keeps { Keeps V.serves V.has_key V.made V.shows values.old values.new }
+    ensures charge { OnOk result (V.cost values.new ≤ V.cost values.old + 1024) }
 {
     let base = Operand {
         kind: IntKind::ULong,
@@ -208,6 +223,8 @@ pub(crate) fn check_one<O: WalkSetting, V: Values>(
     ensures events { OnOk result ((accessed : Bool) (f : ExprFormTree) → form_tests (O.setting out.now).typing accessed f ≡ tests_of tests → events_in state.new.steps.items ≡ events_in state.old.steps.items ++ condition_events (O.setting out.now) node accessed f) }
     ensures stands { OnOk result ((m : List ℤ) (s : Standing) (x : ℤ) (accessed : Bool) (f : ExprFormTree) → V.serves values.old m → V.shows values.old m first.kind first.value x → form_tests (O.setting out.now).typing accessed f ≡ tests_of tests → Stands (V.shows values.old m) (O.setting out.now) state.old s → Stands (V.shows values.new m) (O.setting out.now) state.new (added (breaks (O.setting out.now) node accessed f x (pos 0) (pos 0)) s)) }
     ensures keeps { Keeps V.serves V.has_key V.made V.shows values.old values.new }
+    ensures charge { OnOk result (V.cost values.new ≤ V.cost values.old + asked_charge tests first.kind first.kind) }
+    ensures cells { OnOk result (state.new.cells.items ≡ state.old.cells.items) }
 {
     let kind = first.kind;
     let value = zero(values, kind)?;
@@ -238,6 +255,8 @@ pub(crate) fn check_two<O: WalkSetting, V: Values>(
     ensures events { OnOk result ((accessed : Bool) (f : ExprFormTree) → form_tests (O.setting out.now).typing accessed f ≡ tests_of tests → events_in state.new.steps.items ≡ events_in state.old.steps.items ++ condition_events (O.setting out.now) node accessed f) }
     ensures stands { OnOk result ((m : List ℤ) (s : Standing) (x y : ℤ) (accessed : Bool) (f : ExprFormTree) → V.serves values.old m → V.shows values.old m pair.0.kind pair.0.value x → V.shows values.old m pair.1.kind pair.1.value y → form_tests (O.setting out.now).typing accessed f ≡ tests_of tests → Stands (V.shows values.old m) (O.setting out.now) state.old s → Stands (V.shows values.new m) (O.setting out.now) state.new (added (breaks (O.setting out.now) node accessed f x y (pos 0)) s)) }
     ensures keeps { Keeps V.serves V.has_key V.made V.shows values.old values.new }
+    ensures charge { OnOk result (V.cost values.new ≤ V.cost values.old + asked_charge tests pair.0.kind pair.1.kind) }
+    ensures cells { OnOk result (state.new.cells.items ≡ state.old.cells.items) }
 {
     let (first, second) = pair;
     let kind = IntKind::Int;
@@ -251,6 +270,61 @@ pub(crate) fn check_two<O: WalkSetting, V: Values>(
     Ok(())
 }
 
+// What is asked of the address of `*e` and of `e->m`, where the place is accessed or not.
+fn target_tests(accessed: bool) -> NodeTests
+    ensures is { tests_of result ≡ target_tests accessed }
+    ensures charge { (a b : kinds.IntKind) → asked_charge result a b ≤ null_charge a }
+{
+    if accessed {
+        NodeTests::Target
+    } else {
+        NodeTests::Nothing
+    }
+}
+
+// The bounds that are asked for.
+fn bounds_in(tests: NodeTests) -> Option<u64>
+    ensures { result ≡ bounds_in tests }
+{
+    match tests {
+        NodeTests::Bounds(count) => Some(count),
+        NodeTests::Nothing
+        | NodeTests::Operation(_)
+        | NodeTests::Negation(_)
+        | NodeTests::Target
+        | NodeTests::Moved(_)
+        | NodeTests::TargetMoved(_)
+        | NodeTests::Absolute(_)
+        | NodeTests::Copy => None,
+    }
+}
+
+// What is asked of a pointer that is indexed, by the size of what it points to; of one that isn't an array also that it
+// is null, where the place is accessed.
+fn moved_tests(accessed: bool, is_array: bool, size: Stride) -> NodeTests
+    ensures { result ≡ moved_tests accessed is_array size }
+{
+    if accessed && !is_array {
+        NodeTests::TargetMoved(size)
+    } else {
+        NodeTests::Moved(size)
+    }
+}
+
+// What is asked at `e[e]`, for the node of what is indexed.
+fn index_tests<O: WalkSetting>(out: &O, accessed: bool, at: u32) -> NodeTests
+    ensures is { tests_of result ≡ index_tests accessed ((O.setting out.now).typing.type_at at) (stride_in (O.setting out.now).typing ((O.setting out.now).typing.type_at at)) }
+    ensures charge { (a b : kinds.IntKind) → asked_charge result a b ≤ index_charge a (stride_in (O.setting out.now).typing ((O.setting out.now).typing.type_at at)) }
+{
+    let asked = out.index_node_tests(accessed, at);
+    let is_array = out.is_array_at(at);
+    let size = out.stride_at(at);
+    match bounds_in(asked) {
+        Some(count) => NodeTests::Bounds(count),
+        None => moved_tests(accessed, is_array, size),
+    }
+}
+
 /// The address of `*e`, for the value of e.
 pub(crate) fn target_place<O: WalkSetting, V: Values>(
     out: &O,
@@ -262,10 +336,11 @@ pub(crate) fn target_place<O: WalkSetting, V: Values>(
 ) -> Result<V::Value, NoMemory>
     requires pointer { V.made values.old pointer.kind pointer.value }
     requires ready { IsReady V.has_key V.made (O.kinds out.now) (O.setting out.now) values.old state.old }
-    ensures { IfOk result (λ v. (e : ExprTree) (x : ℤ) → FindsBehind V.serves V.has_key V.made V.shows (O.setting out.now) (λ m. V.shows values.old m pointer.kind pointer.value x) v (λ m r k. Went (to_address x) r k (breaks (O.setting out.now) node accessed (s.unary unary.Deref e) x (pos 0) (pos 0))) (condition_events (O.setting out.now) node accessed (s.unary unary.Deref e)) values.old values.new state.old state.new) }
+    ensures walks { IfOk result (λ v. (e : ExprTree) (x : ℤ) → FindsBehind V.serves V.has_key V.made V.shows (O.setting out.now) (λ m. V.shows values.old m pointer.kind pointer.value x) v (λ m r k. Went (to_address x) r k (breaks (O.setting out.now) node accessed (s.unary unary.Deref e) x (pos 0) (pos 0))) (condition_events (O.setting out.now) node accessed (s.unary unary.Deref e)) values.old values.new state.old state.new) }
+    ensures cost { OnOk result (Costs V.cost (length (O.setting out.now).kept) (null_charge pointer.kind) values.old values.new (length state.old.cells.items) (length state.new.cells.items)) }
 {
     let address = to_address(values, pointer)?;
-    let tests = target_node_tests(accessed);
+    let tests = target_tests(accessed);
     check_one(out, node, tests, pointer, values, state)?;
     Ok(address)
 }
@@ -283,7 +358,8 @@ pub(crate) fn arrow_place<O: WalkSetting, V: Values>(
 ) -> Result<V::Value, NoMemory>
     requires value { V.made values.old (number_kind (type_in (O.setting out.now).typing (view_expression e.now))) value }
     requires ready { IsReady V.has_key V.made (O.kinds out.now) (O.setting out.now) values.old state.old }
-    ensures { IfOk result (λ v. (x : ℤ) → let g = O.setting out.now in let p = view_expression e.now in FindsBehind V.serves V.has_key V.made V.shows g (λ m. V.shows values.old m (number_kind (type_in g.typing p)) value x) v (λ m r k. Went (to_address (pos (to_address x + g.typing.offset_of (pointed (type_in g.typing p)) name))) r k (breaks g node accessed (s.arrow p name) x (pos 0) (pos 0))) (condition_events g node accessed (s.arrow p name)) values.old values.new state.old state.new) }
+    ensures walks { IfOk result (λ v. (x : ℤ) → let g = O.setting out.now in let p = view_expression e.now in FindsBehind V.serves V.has_key V.made V.shows g (λ m. V.shows values.old m (number_kind (type_in g.typing p)) value x) v (λ m r k. Went (to_address (pos (to_address x + g.typing.offset_of (pointed (type_in g.typing p)) name))) r k (breaks g node accessed (s.arrow p name) x (pos 0) (pos 0))) (condition_events g node accessed (s.arrow p name)) values.old values.new state.old state.new) }
+    ensures cost { OnOk result (Costs V.cost (length (O.setting out.now).kept) (1024 + null_charge (kind_in (O.setting out.now).typing (view_expression e.now))) values.old values.new (length state.old.cells.items) (length state.new.cells.items)) }
 {
     let at = node_of(e);
     let pointer = Operand {
@@ -291,7 +367,7 @@ pub(crate) fn arrow_place<O: WalkSetting, V: Values>(
         value,
     };
     let address = behind(values, pointer, out.pointed_offset(at, name))?;
-    let tests = target_node_tests(accessed);
+    let tests = target_tests(accessed);
     check_one(out, node, tests, pointer, values, state)?;
     Ok(address)
 }
@@ -309,12 +385,13 @@ pub(crate) fn indexed_place<O: WalkSetting, V: Values>(
     requires first { V.made values.old pair.0.kind pair.0.value }
     requires second { V.made values.old pair.1.kind pair.1.value }
     requires ready { IsReady V.has_key V.made (O.kinds out.now) (O.setting out.now) values.old state.old }
-    ensures { IfOk result (λ v. (right : ExprTree) (x y : ℤ) → let g = O.setting out.now in let a = view_expression left.now in FindsBehind V.serves V.has_key V.made V.shows g (λ m. V.shows values.old m pair.0.kind pair.0.value x × V.shows values.old m pair.1.kind pair.1.value y) v (λ m r k. Went (moved (to_address x) y (stride_in g.typing (type_in g.typing a)) false) r k (breaks g node accessed (s.index a right) x y (pos 0))) (condition_events g node accessed (s.index a right)) values.old values.new state.old state.new) }
+    ensures walks { IfOk result (λ v. (right : ExprTree) (x y : ℤ) → let g = O.setting out.now in let a = view_expression left.now in FindsBehind V.serves V.has_key V.made V.shows g (λ m. V.shows values.old m pair.0.kind pair.0.value x × V.shows values.old m pair.1.kind pair.1.value y) v (λ m r k. Went (moved (to_address x) y (stride_in g.typing (type_in g.typing a)) false) r k (breaks g node accessed (s.index a right) x y (pos 0))) (condition_events g node accessed (s.index a right)) values.old values.new state.old state.new) }
+    ensures cost { OnOk result (Costs V.cost (length (O.setting out.now).kept) (move_charge (stride_in (O.setting out.now).typing (type_in (O.setting out.now).typing (view_expression left.now))) + index_charge pair.0.kind (stride_in (O.setting out.now).typing (type_in (O.setting out.now).typing (view_expression left.now)))) values.old values.new (length state.old.cells.items) (length state.new.cells.items)) }
 {
     let at = node_of(left);
     let (base, step) = pair;
     let address = moved_address(values, base, step, out.stride_at(at), false)?;
-    let tests = out.index_node_tests(accessed, at);
+    let tests = index_tests(out, accessed, at);
     check_two(out, node, tests, (base, step), values, state)?;
     Ok(address)
 }
@@ -331,7 +408,8 @@ pub(crate) fn place_number<O: WalkSetting, V: Values>(
     requires suits { Suits (O.setting out.now) (target_shown target) (number_kind ((O.setting out.now).typing.type_at node)) }
     requires address { V.made values.old ULong address }
     requires ready { IsReady V.has_key V.made (O.kinds out.now) (O.setting out.now) values.old state.old }
-    ensures { IfOk result (λ v. (a : ℕ) → WalksBehind V.serves V.has_key V.made V.shows (O.setting out.now) (λ m. V.shows values.old m ULong address (pos a)) (number_kind ((O.setting out.now).typing.type_at node)) v (λ m. place_end (O.setting out.now) (O.under out.now m) node (target_shown target) a) [] values.old values.new state.old state.new) }
+    ensures walks { IfOk result (λ v. (a : ℕ) → WalksBehind V.serves V.has_key V.made V.shows (O.setting out.now) (λ m. V.shows values.old m ULong address (pos a)) (number_kind ((O.setting out.now).typing.type_at node)) v (λ m. place_end (O.setting out.now) (O.under out.now m) node (target_shown target) a) [] values.old values.new state.old state.new) }
+    ensures cost { OnOk result (Costs V.cost (length (O.setting out.now).kept) (read_charge (target_shown target) (number_kind ((O.setting out.now).typing.type_at node))) values.old values.new (length state.old.cells.items) (length state.new.cells.items)) }
 {
     if out.is_array_at(node) {
         return Ok(address);

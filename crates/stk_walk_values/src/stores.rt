@@ -1,6 +1,6 @@
 //! What an assignment, `++` and `--` do once their operands have been walked.
 
-ghost use Rattle.std.specs.Prelude.{◌≡◌, ℤ, ℕ, ◌++◌, pos, List, true, if◌then◌else◌, IfOk, OnOk};
+ghost use Rattle.std.specs.Prelude.{◌≡◌, ℤ, ℕ, ◌++◌, pos, List, true, if◌then◌else◌, IfOk, OnOk, ◌+◌, ◌≤◌, length};
 ghost use Rattle.stk_tree.specs.Syntax.{ExprFormTree, step};
 ghost use Rattle.stk_tree.specs.View.{view_expression};
 ghost use Rattle.stk_meaning.specs.Typings.{type_in, number_kind, converted, node_of, bare};
@@ -22,6 +22,11 @@ ghost use Rattle.stk_walking.specs.Keyed.{AreThere};
 ghost use Rattle.stk_walking.specs.Leads.{Leads, Evaluates};
 ghost use Rattle.stk_walking.specs.Operands.{IsShiftOf};
 ghost use Rattle.stk_walking.specs.Stands.{Stands, IsMade};
+ghost use Rattle.stk_ctype.specs.declared.kind.IntKind.TheVariants.{Int};
+ghost use Rattle.stk_values.specs.Charges.{convert_charge};
+ghost use Rattle.stk_spending.specs.Charges.{operated_charge, tests_charge, read_charge, store_charge};
+ghost use Rattle.stk_spending.specs.Expressions.{kind_in, stored_spent};
+ghost use Rattle.stk_walking.specs.Costs.{Costs};
 
 use stk_base::NoMemory;
 use stk_eval_expr::{bare, node_of, target_of};
@@ -85,6 +90,7 @@ fn operated_in<V: Values>(
     ensures makes { IfOk result (λ v. V.made values.new kind v) }
     ensures value { IfOk result (λ v. (m : List ℤ) (x y : ℤ) → V.serves values.old m → V.shows values.old m operands.0.kind operands.0.value x → V.shows values.old m operands.1.kind operands.1.value y → V.shows values.new m kind v (wrap kind (operated (operation_shown operation.now) x y))) }
     ensures keeps { Keeps V.serves V.has_key V.made V.shows values.old values.new }
+    ensures charge { OnOk result (V.cost values.new ≤ V.cost values.old + (operated_charge (operation_shown operation.now) operands.0.kind operands.1.kind + convert_charge (operation_kind (operation_shown operation.now)) kind)) }
 {
     let (left, right) = operands;
     let number = operated(values, operation, left, right)?;
@@ -109,6 +115,8 @@ fn check_operation<O: WalkSetting, V: Values>(
     ensures events { OnOk result ((f : ExprFormTree) → form_tests (O.setting out.now).typing true f ≡ operation_tests (operation_shown operation) → events_in state.new.steps.items ≡ events_in state.old.steps.items ++ condition_events (O.setting out.now) node true f) }
     ensures stands { OnOk result ((m : List ℤ) (s : Standing) (f : ExprFormTree) (x y : ℤ) → V.serves values.old m → V.shows values.old m operands.0.kind operands.0.value x → V.shows values.old m operands.1.kind operands.1.value y → form_tests (O.setting out.now).typing true f ≡ operation_tests (operation_shown operation) → Stands (V.shows values.old m) (O.setting out.now) state.old s → Stands (V.shows values.new m) (O.setting out.now) state.new (added (breaks (O.setting out.now) node true f x y (pos 0)) s)) }
     ensures keeps { OnOk result (Keeps V.serves V.has_key V.made V.shows values.old values.new) }
+    ensures charge { OnOk result (V.cost values.new ≤ V.cost values.old + tests_charge (operation_shown operation) operands.0.kind operands.1.kind) }
+    ensures cells { OnOk result (state.new.cells.items ≡ state.old.cells.items) }
 {
     let (first, second) = operands;
     let none = zero(values, IntKind::Int)?;
@@ -141,6 +149,7 @@ fn old_number<O: WalkSetting, V: Values>(
     ensures events { OnOk result (events_in state.new.steps.items ≡ events_in state.old.steps.items) }
     ensures follows { IfOk result (λ v. (a : ℕ) → Evaluates (V.serves values.old) (V.shows values.old) (V.shows values.new) (O.setting out.now) (λ m x. V.shows values.new m (number_kind (type_in (O.setting out.now).typing (view_expression left.now))) v x) (λ m r kept. number_in (path_world (O.under out.now m)) (target_of (O.setting out.now) (view_expression left.now)) (node_of (bare (view_expression left.now))) (number_kind (type_in (O.setting out.now).typing (view_expression left.now))) a r kept) state.old state.new) }
     ensures keeps { OnOk result (Keeps V.serves V.has_key V.made V.shows values.old values.new) }
+    ensures cost { OnOk result (Costs V.cost (length (O.setting out.now).kept) (read_charge (target_of (O.setting out.now) (view_expression left.now)) (kind_in (O.setting out.now).typing (view_expression left.now))) values.old values.new (length state.old.cells.items) (length state.new.cells.items)) }
 {
     let target = target_of(out, left);
     let node = node_of(bare(left));
@@ -163,6 +172,7 @@ fn store_number<O: WalkSetting, V: Values>(
     ensures events { OnOk result (events_in state.new.steps.items ≡ events_in state.old.steps.items) }
     ensures stored { OnOk result ((m : List ℤ) (s : Standing) (inputs : InputMap) (a : ℕ) (x y : ℤ) → V.serves values.old m → V.shows values.old m (number_kind (type_in (O.setting out.now).typing (view_expression left.now))) number x → Stands (V.shows values.old m) (O.setting out.now) state.old s → Leads (V.shows values.new m) (O.setting out.now) (λ z. z ≡ y) (stored_at (path_world inputs) (target_of (O.setting out.now) (view_expression left.now)) (number_kind (type_in (O.setting out.now).typing (view_expression left.now))) a x y s.numbers s.kept) s state.new) }
     ensures keeps { OnOk result (Keeps V.serves V.has_key V.made V.shows values.old values.new) }
+    ensures cost { OnOk result (Costs V.cost (length (O.setting out.now).kept) (store_charge (length (O.setting out.now).kept) (target_of (O.setting out.now) (view_expression left.now)) (kind_in (O.setting out.now).typing (view_expression left.now))) values.old values.new (length state.old.cells.items) (length state.new.cells.items)) }
 {
     let target = target_of(out, left);
     let node = node_of(left);
@@ -192,6 +202,7 @@ fn checked_store<O: WalkSetting, V: Values>(
     ensures value { IfOk result (λ v. (m : List ℤ) (x y : ℤ) → V.serves values.old m → V.shows values.old m operands.0.kind operands.0.value x → V.shows values.old m operands.1.kind operands.1.value y → V.shows values.new m (number_kind (type_in (O.setting out.now).typing (view_expression left.now))) v (converted (type_in (O.setting out.now).typing (view_expression left.now)) (operated (operation_shown operation) x y))) }
     ensures stored { OnOk result ((m : List ℤ) (s : Standing) (inputs : InputMap) (f : ExprFormTree) (a : ℕ) (x y z : ℤ) → V.serves values.old m → V.shows values.old m operands.0.kind operands.0.value x → V.shows values.old m operands.1.kind operands.1.value y → form_tests (O.setting out.now).typing true f ≡ operation_tests (operation_shown operation) → Stands (V.shows values.old m) (O.setting out.now) state.old s → Leads (V.shows values.new m) (O.setting out.now) (λ n. n ≡ z) (after (breaks (O.setting out.now) node true f x y (pos 0)) (stored_at (path_world inputs) (target_of (O.setting out.now) (view_expression left.now)) (number_kind (type_in (O.setting out.now).typing (view_expression left.now))) a (converted (type_in (O.setting out.now).typing (view_expression left.now)) (operated (operation_shown operation) x y)) z s.numbers s.kept)) s state.new) }
     ensures keeps { OnOk result (Keeps V.serves V.has_key V.made V.shows values.old values.new) }
+    ensures cost { OnOk result (Costs V.cost (length (O.setting out.now).kept) (operated_charge (operation_shown operation) operands.0.kind operands.1.kind + convert_charge (operation_kind (operation_shown operation)) (kind_in (O.setting out.now).typing (view_expression left.now)) + tests_charge (operation_shown operation) operands.0.kind operands.1.kind + store_charge (length (O.setting out.now).kept) (target_of (O.setting out.now) (view_expression left.now)) (kind_in (O.setting out.now).typing (view_expression left.now))) values.old values.new (length state.old.cells.items) (length state.new.cells.items)) }
 {
     let kind = kind_in(out, left);
     let number = operated_in(&operation, operands, kind, values)?;
@@ -226,6 +237,7 @@ pub(crate) fn stepped_number<O: WalkSetting, V: Values>(
     ensures events { OnOk result (events_in state.new.steps.items ≡ events_in state.old.steps.items ++ condition_events (O.setting out.now) node true (step op (view_expression e.now))) }
     ensures follows { IfOk result (λ v. (place : ℕ) → Evaluates (V.serves values.old) (V.shows values.old) (V.shows values.new) (O.setting out.now) (λ m x. V.shows values.new m (number_kind ((O.setting out.now).typing.type_at node)) v x) (λ m r k. step_end (O.setting out.now) (O.under out.now m) node op (view_expression e.now) place r k) state.old state.new) }
     ensures keeps { OnOk result (Keeps V.serves V.has_key V.made V.shows values.old values.new) }
+    ensures cost { OnOk result (Costs V.cost (length (O.setting out.now).kept) (stored_spent (O.setting out.now) (view_expression e.now) (step_operation (O.setting out.now).typing op (type_in (O.setting out.now).typing (view_expression e.now))) Int) values.old values.new (length state.old.cells.items) (length state.new.cells.items)) }
 {
     let kind = kind_in(out, e);
     let old = old_number(out, e, values, state)?;
@@ -261,6 +273,7 @@ pub(crate) fn assigned_number<O: WalkSetting, V: Values>(
     ensures events { OnOk result (events_in state.new.steps.items ≡ events_in state.old.steps.items) }
     ensures follows { IfOk result (λ v. (x : ℤ) (place : ℕ) → Evaluates (λ m. V.serves values.old m × V.shows values.old m number.kind number.value x) (V.shows values.old) (V.shows values.new) (O.setting out.now) (λ m y. V.shows values.new m (number_kind ((O.setting out.now).typing.type_at node)) v y) (λ m r k. plain_end (O.setting out.now) (O.under out.now m) (view_expression left.now) x place r k) state.old state.new) }
     ensures keeps { OnOk result (Keeps V.serves V.has_key V.made V.shows values.old values.new) }
+    ensures cost { OnOk result (Costs V.cost (length (O.setting out.now).kept) (convert_charge number.kind (number_kind ((O.setting out.now).typing.type_at node)) + store_charge (length (O.setting out.now).kept) (target_of (O.setting out.now) (view_expression left.now)) (kind_in (O.setting out.now).typing (view_expression left.now))) values.old values.new (length state.old.cells.items) (length state.new.cells.items)) }
 {
     let kind = out.kind_at(node);
     let found = converted(values, number.kind, kind, number.value)?;
@@ -291,6 +304,7 @@ pub(crate) fn compound_number<O: WalkSetting, V: Values>(
     ensures events { OnOk result ((f : ExprFormTree) → form_tests (O.setting out.now).typing true f ≡ operation_tests (operation_shown operation) → events_in state.new.steps.items ≡ events_in state.old.steps.items ++ condition_events (O.setting out.now) node true f) }
     ensures follows { IfOk result (λ v. (f : ExprFormTree) (x : ℤ) (place : ℕ) → form_tests (O.setting out.now).typing true f ≡ operation_tests (operation_shown operation) → Evaluates (λ m. V.serves values.old m × V.shows values.old m number.kind number.value x) (V.shows values.old) (V.shows values.new) (O.setting out.now) (λ m y. V.shows values.new m (number_kind ((O.setting out.now).typing.type_at node)) v y) (λ m r k. compound_end (O.setting out.now) (O.under out.now m) node f (operation_shown operation) (view_expression left.now) x place r k) state.old state.new) }
     ensures keeps { OnOk result (Keeps V.serves V.has_key V.made V.shows values.old values.new) }
+    ensures cost { OnOk result (Costs V.cost (length (O.setting out.now).kept) (stored_spent (O.setting out.now) (view_expression left.now) (operation_shown operation) number.kind) values.old values.new (length state.old.cells.items) (length state.new.cells.items)) }
 {
     let kind = kind_in(out, left);
     let old = old_number(out, left, values, state)?;

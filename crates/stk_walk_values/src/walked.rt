@@ -1,6 +1,6 @@
 //! The walk of expressions, as a walk over statements asks for it.
 
-ghost use Rattle.std.specs.Prelude.{◌≡◌, ◌++◌, IfOk, OnOk};
+ghost use Rattle.std.specs.Prelude.{◌≡◌, ◌++◌, IfOk, OnOk, ◌+◌, length};
 ghost use Rattle.stk_ctype.specs.declared.kind.IntKind.TheVariants.{Int};
 ghost use Rattle.stk_tree.specs.View.{view_expression};
 ghost use Rattle.stk_meaning.specs.Typings.{type_in, number_kind, converted};
@@ -14,6 +14,9 @@ ghost use Rattle.stk_walking.specs.ExpressionEvents.{value_events, tested_events
 ghost use Rattle.stk_walking.specs.Stands.{IsMade};
 ghost use Rattle.stk_walking.specs.Keyed.{AreThere};
 ghost use Rattle.stk_walking.specs.Leads.{Evaluates};
+ghost use Rattle.stk_values.specs.Charges.{convert_charge};
+ghost use Rattle.stk_spending.specs.Expressions.{spent_value, spent_test, kind_in, kind_at};
+ghost use Rattle.stk_walking.specs.Costs.{Costs};
 
 use crate::expressions;
 use stk_base::NoMemory;
@@ -39,6 +42,7 @@ pub fn value<O: WalkSetting, V: Values>(
     ensures events { OnOk result (events_in state.new.steps.items ≡ events_in state.old.steps.items ++ value_events (O.setting out.now) (view_expression e.now)) }
     ensures follows { IfOk result (λ v. Evaluates (V.serves values.old) (V.shows values.old) (V.shows values.new) (O.setting out.now) (λ m x. V.shows values.new m (number_kind (type_in (O.setting out.now).typing (view_expression e.now))) v x) (λ m. value_of (O.setting out.now) (path_world (O.under out.now m)) (view_expression e.now)) state.old state.new) }
     ensures keeps { OnOk result (Keeps V.serves V.has_key V.made V.shows values.old values.new) }
+    ensures cost { OnOk result (Costs V.cost (length (O.setting out.now).kept) (spent_value (O.setting out.now) (view_expression e.now)) values.old values.new (length state.old.cells.items) (length state.new.cells.items)) }
 {
     let found = expressions::value(out, e, values, state)?;
     Ok(found)
@@ -60,6 +64,7 @@ pub fn tested<O: WalkSetting, V: Values>(
     ensures events { OnOk result (events_in state.new.steps.items ≡ events_in state.old.steps.items ++ tested_events (O.setting out.now) (view_expression e.now)) }
     ensures follows { IfOk result (λ v. Evaluates (V.serves values.old) (V.shows values.old) (V.shows values.new) (O.setting out.now) (λ m x. V.shows values.new m Int v (bit (truth x))) (λ m. test_of (O.setting out.now) (path_world (O.under out.now m)) (view_expression e.now)) state.old state.new) }
     ensures keeps { OnOk result (Keeps V.serves V.has_key V.made V.shows values.old values.new) }
+    ensures cost { OnOk result (Costs V.cost (length (O.setting out.now).kept) (spent_test (O.setting out.now) (view_expression e.now)) values.old values.new (length state.old.cells.items) (length state.new.cells.items)) }
 {
     let found = expressions::tested(out, e, values, state)?;
     Ok(found)
@@ -82,6 +87,7 @@ pub fn converted_value<O: WalkSetting, V: Values>(
     ensures events { OnOk result (events_in state.new.steps.items ≡ events_in state.old.steps.items ++ value_events (O.setting out.now) (view_expression e.now)) }
     ensures follows { IfOk result (λ v. Evaluates (V.serves values.old) (V.shows values.old) (V.shows values.new) (O.setting out.now) (λ m x. V.shows values.new m (number_kind ((O.setting out.now).typing.type_at node)) v (converted ((O.setting out.now).typing.type_at node) x)) (λ m. value_of (O.setting out.now) (path_world (O.under out.now m)) (view_expression e.now)) state.old state.new) }
     ensures keeps { OnOk result (Keeps V.serves V.has_key V.made V.shows values.old values.new) }
+    ensures cost { OnOk result (Costs V.cost (length (O.setting out.now).kept) (spent_value (O.setting out.now) (view_expression e.now) + convert_charge (kind_in (O.setting out.now).typing (view_expression e.now)) (kind_at (O.setting out.now).typing node)) values.old values.new (length state.old.cells.items) (length state.new.cells.items)) }
 {
     let number = expressions::value(out, e, values, state)?;
     let from = out.kind_at(node_of(e));

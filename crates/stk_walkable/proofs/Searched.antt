@@ -13,6 +13,8 @@ use Rattle.stk_terms.specs.Terms.{Stored}
 use Rattle.stk_function_types.specs.Nodes.{typing_in}
 use Rattle.stk_type_laws.proofs.Whole.{accepted_units_are_typed}
 use Rattle.stk_kind_laws.proofs.Whole.{accepted_units_are_kinded}
+use Rattle.stk_cost_laws.proofs.Whole.{walks_are_within}
+use Rattle.stk_cost_laws.proofs.Accepted.{accepted_units_have_bits}
 use Rattle.stk_key_laws.proofs.KeyKinds.{keys_have_their_kinds}
 use Rattle.stk_key_laws.proofs.Weights.{keys_are_within_weight}
 use Rattle.stk_finding_laws.proofs.Visits.{few_candidates}
@@ -44,6 +46,7 @@ typed_functions_are_searched t f h =
       };
       few = few_in ty without f (length (candidates ty f)) (few_candidates ty f no_node) h.light;
       bits = keys_are_within_weight.bits ty without f;
+      cheap = walks_are_within ty without f h.bits;
       light = h.light;
     }
 
@@ -53,6 +56,7 @@ accepted_functions_are_searched t node f h =
     (record {
       typed = accepted_units_are_typed t.places.types node f t.places.without h.accepted;
       kinded = accepted_units_are_kinded t.places.types node f t.places.without h.accepted;
+      bits = accepted_units_have_bits t.places.types node f h.accepted;
       tables = h.tables;
       light = h.light;
     })

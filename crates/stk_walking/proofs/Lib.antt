@@ -1,5 +1,6 @@
 mod Apart
 pub mod Carried
+pub mod Costing
 pub mod KeptCells
 pub mod Leading
 mod Listed

@@ -7,3 +7,5 @@ pub mod NodeTests
 pub mod ExpressionEvents
 pub mod Walks
 pub mod StatementEvents
+pub mod Costs
+pub mod Charges

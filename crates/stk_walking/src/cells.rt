@@ -1,6 +1,6 @@
 //! Kept objects of a walk.
 
-ghost use Rattle.std.specs.Prelude.{◌≡◌, ℤ, ℕ, List, Bool, Option, Some, None, IfOk, OnOk, get_or, set, length, not, if◌then◌else◌};
+ghost use Rattle.std.specs.Prelude.{◌≡◌, ℤ, ℕ, List, Bool, Option, Some, None, IfOk, OnOk, get_or, set, length, not, if◌then◌else◌, ◌+◌, ◌*◌, ◌≤◌};
 ghost use Rattle.stk_ctype.specs.declared.kind.IntKind as kinds;
 ghost use Rattle.stk_ctype.specs.declared.kind.IntKind.TheVariants.{Int};
 ghost use Rattle.stk_meaning.specs.Operations.{bit};
@@ -8,6 +8,8 @@ ghost use Rattle.stk_meaning.specs.Paths.{KeptNumbers, all_forgotten};
 ghost use Rattle.stk_values.specs.Keeping.{Keeps};
 ghost use Rattle.stk_guarded.specs.Cells.{read_of};
 ghost use Rattle.stk_walking.specs.Stands.{CellsShow, CellsMade};
+ghost use Rattle.stk_numbers.specs.Kinds.{width_of};
+ghost use Rattle.stk_walking.specs.Costs.{Costs};
 
 use crate::state::KeptCell;
 use crate::tests::either;
@@ -33,6 +35,7 @@ pub fn read_cell<V: Values>(
     ensures value { IfOk result (λ v. (m : List ℤ) (row : ℕ → kinds.IntKind) (y : ℤ) (kept : KeptNumbers) → V.serves values.old m → row at ≡ kind → V.shows values.old m kind loaded y → CellsShow (V.shows values.old m) row 0 cells.old.items kept → V.shows values.new m kind v (read_of y (get_or kept at None))) }
     ensures shown { OnOk result ((m : List ℤ) (row : ℕ → kinds.IntKind) (b : Bool) (y : ℤ) (kept : KeptNumbers) → V.serves values.old m → row at ≡ kind → V.shows values.old m Int guard (bit b) → V.shows values.old m kind loaded y → CellsShow (V.shows values.old m) row 0 cells.old.items kept → CellsShow (V.shows values.new m) row 0 cells.new.items (if b then set kept at (Some (read_of y (get_or kept at None))) else kept)) }
     ensures keeps { Keeps V.serves V.has_key V.made V.shows values.old values.new }
+    ensures cost { OnOk result ((kept : ℕ) → Costs V.cost kept (3 * width_of kind + 3) values.old values.new (length cells.old.items) (length cells.new.items)) }
 {
     let place = at as usize;
     if place >= cells.len() {
@@ -60,6 +63,7 @@ pub fn store_cell<V: Values>(
     ensures made { OnOk result ((row : ℕ → kinds.IntKind) → row at ≡ kind → CellsMade (V.made values.old) row 0 cells.old.items → CellsMade (V.made values.new) row 0 cells.new.items) }
     ensures shown { OnOk result ((m : List ℤ) (row : ℕ → kinds.IntKind) (b : Bool) (x : ℤ) (kept : KeptNumbers) → V.serves values.old m → row at ≡ kind → V.shows values.old m Int guard (bit b) → V.shows values.old m kind value x → CellsShow (V.shows values.old m) row 0 cells.old.items kept → CellsShow (V.shows values.new m) row 0 cells.new.items (if b then set kept at (Some x) else kept)) }
     ensures keeps { Keeps V.serves V.has_key V.made V.shows values.old values.new }
+    ensures cost { OnOk result ((kept : ℕ) → Costs V.cost kept (3 * width_of kind + 3) values.old values.new (length cells.old.items) (length cells.new.items)) }
 {
     let place = at as usize;
     if place >= cells.len() {
@@ -85,6 +89,7 @@ pub(crate) fn keep_only<V: Values>(
     ensures made { OnOk result ((row : ℕ → kinds.IntKind) → CellsMade (V.made values.old) row 0 cells.old.items → CellsMade (V.made values.new) row 0 cells.new.items) }
     ensures shown { OnOk result ((m : List ℤ) (row : ℕ → kinds.IntKind) (b : Bool) (kept : KeptNumbers) → V.serves values.old m → V.shows values.old m Int stays (bit (not b)) → CellsShow (V.shows values.old m) row 0 cells.old.items kept → CellsShow (V.shows values.new m) row 0 cells.new.items (if b then set kept place None else kept)) }
     ensures keeps { Keeps V.serves V.has_key V.made V.shows values.old values.new }
+    ensures charge { OnOk result (V.cost values.new ≤ V.cost values.old + 3) }
 {
     if place >= cells.len() {
         return Ok(());
@@ -110,6 +115,7 @@ pub fn remove_cell<V: Values>(
     ensures made { OnOk result ((row : ℕ → kinds.IntKind) → CellsMade (V.made values.old) row 0 cells.old.items → CellsMade (V.made values.new) row 0 cells.new.items) }
     ensures shown { OnOk result ((m : List ℤ) (row : ℕ → kinds.IntKind) (b : Bool) (kept : KeptNumbers) → V.serves values.old m → V.shows values.old m Int guard (bit b) → CellsShow (V.shows values.old m) row 0 cells.old.items kept → CellsShow (V.shows values.new m) row 0 cells.new.items (if b then set kept at None else kept)) }
     ensures keeps { Keeps V.serves V.has_key V.made V.shows values.old values.new }
+    ensures cost { OnOk result ((kept : ℕ) → Costs V.cost kept 3 values.old values.new (length cells.old.items) (length cells.new.items)) }
 {
     let stays = values.opposite(guard)?;
     keep_only(values, stays, cells, at as usize)?;
@@ -127,6 +133,7 @@ pub fn remove_cells<V: Values>(
     ensures made { OnOk result ((row : ℕ → kinds.IntKind) → CellsMade (V.made values.old) row 0 cells.old.items → CellsMade (V.made values.new) row 0 cells.new.items) }
     ensures shown { OnOk result ((m : List ℤ) (row : ℕ → kinds.IntKind) (b : Bool) (kept : KeptNumbers) → V.serves values.old m → V.shows values.old m Int guard (bit b) → CellsShow (V.shows values.old m) row 0 cells.old.items kept → CellsShow (V.shows values.new m) row 0 cells.new.items (if b then all_forgotten kept else kept)) }
     ensures keeps { OnOk result (Keeps V.serves V.has_key V.made V.shows values.old values.new) }
+    ensures cost { OnOk result ((kept : ℕ) → Costs V.cost kept (3 * kept) values.old values.new (length cells.old.items) (length cells.new.items)) }
 {
     let stays = values.opposite(guard)?;
     for place in 0..cells.len() {

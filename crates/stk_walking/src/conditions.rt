@@ -1,6 +1,6 @@
 //! The conditions of a node, as steps of a walk.
 
-ghost use Rattle.std.specs.Prelude.{◌≡◌, ℤ, List, [], ◌∷◌, ◌++◌, Bool, if◌then◌else◌, OnOk};
+ghost use Rattle.std.specs.Prelude.{◌≡◌, ℤ, List, [], ◌∷◌, ◌++◌, Bool, if◌then◌else◌, OnOk, ◌+◌, ◌≤◌};
 ghost use Rattle.stk_ctype.specs.declared.kind.IntKind.TheVariants.{Int};
 ghost use Rattle.stk_meaning.specs.Operations.{bit};
 ghost use Rattle.stk_meaning.specs.Conditions.{violated};
@@ -10,6 +10,7 @@ ghost use Rattle.stk_walking.specs.Stands.{StepsMade};
 ghost use Rattle.stk_walking.specs.NodeTests.{test_of, kept_of, test_events, maybe_tests, IsTestOf, IsAskedOf, MaybeIsTestOf, OperandsMade, OperandsShow};
 ghost use Rattle.stk_operators.specs.Checked.{tests_of};
 ghost use Rattle.stk_walking.specs.declared.state.Event as events;
+ghost use Rattle.stk_walking.specs.Charges.{test_charge, maybe_charge, asked_charge};
 
 use crate::lists::listed;
 use crate::node_tests::{NodeTest, Operands, breaks};
@@ -53,6 +54,7 @@ pub fn push_test<V: Values>(
     ensures events { OnOk result (events_in steps.new.items ≡ events_in steps.old.items ++ test_events node (kept_of without (test_of test ∷ []))) }
     ensures live { OnOk result ((m : List ℤ) (g : Bool) (x y z : ℤ) (t : List events.Event) → V.serves values.old m → V.shows values.old m Int guard (bit g) → OperandsShow (V.shows values.old m) operands x y z → Live (V.shows values.old m Int) steps.old.items t → Live (V.shows values.new m Int) steps.new.items (t ++ (if g then events_of (violated node (kept_of without (test_of test ∷ [])) x y z) else []))) }
     ensures keeps { Keeps V.serves V.has_key V.made V.shows values.old values.new }
+    ensures charge { OnOk result (V.cost values.new ≤ V.cost values.old + (test_charge test operands.first.kind operands.second.kind + 3)) }
 {
     let kind = kind_of(&test);
     if without.has(kind) {
@@ -82,6 +84,7 @@ fn push_maybe<V: Values>(
     ensures events { OnOk result (events_in steps.new.items ≡ events_in steps.old.items ++ test_events node (kept_of without (maybe_tests test))) }
     ensures live { OnOk result ((m : List ℤ) (g : Bool) (x y z : ℤ) (t : List events.Event) → V.serves values.old m → V.shows values.old m Int guard (bit g) → OperandsShow (V.shows values.old m) operands x y z → Live (V.shows values.old m Int) steps.old.items t → Live (V.shows values.new m Int) steps.new.items (t ++ (if g then events_of (violated node (kept_of without (maybe_tests test)) x y z) else []))) }
     ensures keeps { Keeps V.serves V.has_key V.made V.shows values.old values.new }
+    ensures charge { OnOk result (V.cost values.new ≤ V.cost values.old + maybe_charge test operands.first.kind operands.second.kind) }
 {
     match test {
         None => Ok(()),
@@ -107,6 +110,7 @@ pub(crate) fn push_tests<V: Values>(
     ensures events { OnOk result (events_in steps.new.items ≡ events_in steps.old.items ++ test_events node (kept_of without (tests_of tests))) }
     ensures live { OnOk result ((m : List ℤ) (g : Bool) (x y z : ℤ) (t : List events.Event) → V.serves values.old m → V.shows values.old m Int guard (bit g) → OperandsShow (V.shows values.old m) operands x y z → Live (V.shows values.old m Int) steps.old.items t → Live (V.shows values.new m Int) steps.new.items (t ++ (if g then events_of (violated node (kept_of without (tests_of tests)) x y z) else []))) }
     ensures keeps { Keeps V.serves V.has_key V.made V.shows values.old values.new }
+    ensures charge { OnOk result (V.cost values.new ≤ V.cost values.old + asked_charge tests operands.first.kind operands.second.kind) }
 {
     let (first, second) = listed(tests);
     push_maybe(values, guard, without, node, first, operands, steps)?;

@@ -1,6 +1,6 @@
 //! What a walk over statements asks of the one over expressions.
 
-ghost use Rattle.std.specs.Prelude.{◌≡◌, ℤ, ◌++◌, IfOk, OnOk};
+ghost use Rattle.std.specs.Prelude.{◌≡◌, ℤ, ◌++◌, IfOk, OnOk, ◌+◌, length};
 ghost use Rattle.stk_ctype.specs.declared.kind.IntKind.TheVariants.{Int};
 ghost use Rattle.stk_tree.specs.View.{view_expression};
 ghost use Rattle.stk_meaning.specs.Typings.{type_in, number_kind, converted};
@@ -14,6 +14,9 @@ ghost use Rattle.stk_walking.specs.ExpressionEvents.{value_events, tested_events
 ghost use Rattle.stk_walking.specs.Stands.{IsMade};
 ghost use Rattle.stk_walking.specs.Keyed.{AreThere};
 ghost use Rattle.stk_walking.specs.Leads.{Evaluates};
+ghost use Rattle.stk_values.specs.Charges.{convert_charge};
+ghost use Rattle.stk_spending.specs.Expressions.{spent_value, spent_test, kind_in, kind_at};
+ghost use Rattle.stk_walking.specs.Costs.{Costs};
 
 use crate::asked::WalkSetting;
 use crate::state::WalkState;
@@ -40,7 +43,8 @@ pub trait ExpressionWalk: WalkSetting {
         ensures made { OnOk result (IsMade (V.made values.new) (Self.setting self.now) state.new) }
         ensures events { OnOk result (events_in state.new.steps.items ≡ events_in state.old.steps.items ++ value_events (Self.setting self.now) (view_expression e.now)) }
         ensures follows { IfOk result (λ v. Evaluates (V.serves values.old) (V.shows values.old) (V.shows values.new) (Self.setting self.now) (λ m x. V.shows values.new m (number_kind (type_in (Self.setting self.now).typing (view_expression e.now))) v x) (λ m. value_of (Self.setting self.now) (path_world (Self.under self.now m)) (view_expression e.now)) state.old state.new) }
-        ensures keeps { OnOk result (Keeps V.serves V.has_key V.made V.shows values.old values.new) };
+        ensures keeps { OnOk result (Keeps V.serves V.has_key V.made V.shows values.old values.new) }
+        ensures cost { OnOk result (Costs V.cost (length (Self.setting self.now).kept) (spent_value (Self.setting self.now) (view_expression e.now)) values.old values.new (length state.old.cells.items) (length state.new.cells.items)) };
 
     /// Whether a controlling expression is true, as a test (C11 6.8.4.1): it is seen without its parentheses, unless it
     /// is a comparison, which has been seen already.
@@ -57,7 +61,8 @@ pub trait ExpressionWalk: WalkSetting {
         ensures made { OnOk result (IsMade (V.made values.new) (Self.setting self.now) state.new) }
         ensures events { OnOk result (events_in state.new.steps.items ≡ events_in state.old.steps.items ++ tested_events (Self.setting self.now) (view_expression e.now)) }
         ensures follows { IfOk result (λ v. Evaluates (V.serves values.old) (V.shows values.old) (V.shows values.new) (Self.setting self.now) (λ m x. V.shows values.new m Int v (bit (truth x))) (λ m. test_of (Self.setting self.now) (path_world (Self.under self.now m)) (view_expression e.now)) state.old state.new) }
-        ensures keeps { OnOk result (Keeps V.serves V.has_key V.made V.shows values.old values.new) };
+        ensures keeps { OnOk result (Keeps V.serves V.has_key V.made V.shows values.old values.new) }
+        ensures cost { OnOk result (Costs V.cost (length (Self.setting self.now).kept) (spent_test (Self.setting self.now) (view_expression e.now)) values.old values.new (length state.old.cells.items) (length state.new.cells.items)) };
 
     /// The value of an expression, converted to the type of a node, as the initialiser of a declarator at this node is
     /// (C11 6.7.9p11). The run's number is the one from before the conversion.
@@ -75,5 +80,6 @@ pub trait ExpressionWalk: WalkSetting {
         ensures made { OnOk result (IsMade (V.made values.new) (Self.setting self.now) state.new) }
         ensures events { OnOk result (events_in state.new.steps.items ≡ events_in state.old.steps.items ++ value_events (Self.setting self.now) (view_expression e.now)) }
         ensures follows { IfOk result (λ v. Evaluates (V.serves values.old) (V.shows values.old) (V.shows values.new) (Self.setting self.now) (λ m x. V.shows values.new m (number_kind ((Self.setting self.now).typing.type_at node)) v (converted ((Self.setting self.now).typing.type_at node) x)) (λ m. value_of (Self.setting self.now) (path_world (Self.under self.now m)) (view_expression e.now)) state.old state.new) }
-        ensures keeps { OnOk result (Keeps V.serves V.has_key V.made V.shows values.old values.new) };
+        ensures keeps { OnOk result (Keeps V.serves V.has_key V.made V.shows values.old values.new) }
+        ensures cost { OnOk result (Costs V.cost (length (Self.setting self.now).kept) (spent_value (Self.setting self.now) (view_expression e.now) + convert_charge (kind_in (Self.setting self.now).typing (view_expression e.now)) (kind_at (Self.setting self.now).typing node)) values.old values.new (length state.old.cells.items) (length state.new.cells.items)) };
 }

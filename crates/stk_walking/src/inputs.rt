@@ -1,6 +1,6 @@
 //! The values of input keys, by their places.
 
-ghost use Rattle.std.specs.Prelude.{◌≡◌, ℤ, List, IfOk};
+ghost use Rattle.std.specs.Prelude.{◌≡◌, ℤ, List, IfOk, ◌≤◌, OnOk};
 ghost use Rattle.stk_kinded.specs.Kinds.{key_kind};
 ghost use Rattle.stk_values.specs.Keeping.{Keeps};
 ghost use Rattle.stk_walking.specs.Keyed.{key_shown, AreThere};
@@ -24,6 +24,7 @@ pub fn input_value<O: WalkSetting, V: Values>(
     ensures makes { IfOk result (λ v. V.made values.new kind v) }
     ensures value { IfOk result (λ v. (m : List ℤ) → V.serves values.old m → V.shows values.new m kind v (O.under out.now m (key_shown key))) }
     ensures keeps { Keeps V.serves V.has_key V.made V.shows values.old values.new }
+    ensures charge { OnOk result (V.cost values.new ≤ V.cost values.old) }
 {
     let place = out.place_of(key);
     let number = keyed(values, place, kind)?;

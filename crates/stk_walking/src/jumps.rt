@@ -1,6 +1,6 @@
 //! Jumps of a walk, and where the body of a loop begins (C11 6.8.5, 6.8.6).
 
-ghost use Rattle.std.specs.Prelude.{◌≡◌, ℤ, ℕ, List, [], IfOk, OnOk};
+ghost use Rattle.std.specs.Prelude.{◌≡◌, ℤ, ℕ, List, [], IfOk, OnOk, ◌+◌, ◌≤◌};
 ghost use Rattle.stk_ctype.specs.declared.kind.IntKind.TheVariants.{Int};
 ghost use Rattle.stk_meaning.specs.Places.{Setting};
 ghost use Rattle.stk_meaning.specs.Worlds.{Break, Continue, Return, gives};
@@ -28,6 +28,8 @@ pub fn leave_by_break<V: Values>(
     ensures events { OnOk result (events_in state.new.steps.items ≡ events_in state.old.steps.items) }
     ensures follows { OnOk result ((g : Setting) → Performs (V.serves values.old) (V.shows values.old) (V.shows values.new) g [] (λ m r kept. gives Break r kept) state.old state.new) }
     ensures keeps { Keeps V.serves V.has_key V.made V.shows values.old values.new }
+    ensures charge { OnOk result (V.cost values.new ≤ V.cost values.old + 3) }
+    ensures cells { OnOk result (state.new.cells.items ≡ state.old.cells.items) }
 {
     let broken = either(values, state.broken, state.guard)?;
     let none = zero(values, IntKind::Int)?;
@@ -47,6 +49,8 @@ pub fn leave_by_continue<V: Values>(
     ensures events { OnOk result (events_in state.new.steps.items ≡ events_in state.old.steps.items) }
     ensures follows { OnOk result ((g : Setting) → Performs (V.serves values.old) (V.shows values.old) (V.shows values.new) g [] (λ m r kept. gives Continue r kept) state.old state.new) }
     ensures keeps { Keeps V.serves V.has_key V.made V.shows values.old values.new }
+    ensures charge { OnOk result (V.cost values.new ≤ V.cost values.old + 3) }
+    ensures cells { OnOk result (state.new.cells.items ≡ state.old.cells.items) }
 {
     let continued = either(values, state.continued, state.guard)?;
     let none = zero(values, IntKind::Int)?;
@@ -64,6 +68,8 @@ pub fn leave_by_return<V: Values>(
     ensures events { OnOk result (events_in state.new.steps.items ≡ events_in state.old.steps.items) }
     ensures follows { OnOk result ((g : Setting) → Performs (V.serves values.old) (V.shows values.old) (V.shows values.new) g [] (λ m r kept. gives Return r kept) state.old state.new) }
     ensures keeps { Keeps V.serves V.has_key V.made V.shows values.old values.new }
+    ensures charge { OnOk result (V.cost values.new ≤ V.cost values.old) }
+    ensures cells { OnOk result (state.new.cells.items ≡ state.old.cells.items) }
 {
     let none = zero(values, IntKind::Int)?;
     state.guard = none;
@@ -76,6 +82,8 @@ pub fn open_body<V: Values>(values: &mut V, state: &mut WalkState<V::Value>) -> 
     ensures events { OnOk result (events_in state.new.steps.items ≡ events_in state.old.steps.items) }
     ensures stands { OnOk result ((g : Setting) (m : List ℤ) (s : Standing) → V.serves values.old m → Stands (V.shows values.old m) g state.old s → Stands (V.shows values.new m) g state.new (opened s)) }
     ensures keeps { Keeps V.serves V.has_key V.made V.shows values.old values.new }
+    ensures charge { OnOk result (V.cost values.new ≤ V.cost values.old) }
+    ensures cells { OnOk result (state.new.cells.items ≡ state.old.cells.items) }
 {
     let none = zero(values, IntKind::Int)?;
     state.broken = none;

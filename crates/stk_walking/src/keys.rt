@@ -1,6 +1,6 @@
 //! The input keys that a walk asks for, and their values.
 
-ghost use Rattle.std.specs.Prelude.{◌≡◌, ℤ, List, IfOk, IfSome};
+ghost use Rattle.std.specs.Prelude.{◌≡◌, ℤ, List, IfOk, IfSome, ◌≤◌};
 ghost use Rattle.stk_values.specs.Keeping.{Keeps};
 ghost use Rattle.stk_walking.specs.Keyed.{placed};
 
@@ -30,6 +30,7 @@ pub fn keyed<V: Values>(
     ensures makes { IfOk result (λ v. V.made values.new kind v) }
     ensures value { IfOk result (λ v. (m : List ℤ) → V.serves values.old m → V.shows values.new m kind v (placed place m)) }
     ensures keeps { Keeps V.serves V.has_key V.made V.shows values.old values.new }
+    ensures charge { V.cost values.new ≤ V.cost values.old }
 {
     match place {
         Some(place) => values.input(place, kind),

@@ -1,6 +1,6 @@
 //! The tests of a node, one by one.
 
-ghost use Rattle.std.specs.Prelude.{◌≡◌, ◌++◌, ◌&&◌};
+ghost use Rattle.std.specs.Prelude.{◌≡◌, ◌++◌, ◌&&◌, ◌+◌, ◌≤◌, if◌then◌else◌};
 ghost use Rattle.stk_ctype.specs.declared.kind.IntKind as kinds;
 ghost use Rattle.stk_numbers.specs.Kinds.{is_signed};
 ghost use Rattle.stk_numbers.specs.Conditions.{divides};
@@ -10,6 +10,8 @@ ghost use Rattle.stk_operators.specs.Shown.{operation_shown};
 ghost use Rattle.stk_operators.specs.Checked.{tests_of};
 ghost use Rattle.stk_walking.specs.NodeTests.{test_of, maybe_tests, IsAskedOf, MaybeIsTestOf};
 ghost use Rattle.stk_walking.specs.declared.node_tests.NodeTest.TheVariants as node_test;
+ghost use Rattle.stk_spending.specs.Charges.{arithmetic_test_charge, tests_charge};
+ghost use Rattle.stk_walking.specs.Charges.{maybe_charge, asked_charge, negation_charge};
 
 use crate::node_tests::NodeTest;
 use stk_numbers::{ArithOp, IntKind, UbKind, signed};
@@ -40,6 +42,7 @@ fn divides(op: ArithOp) -> bool
 fn overflow_test(op: ArithOp, kind: IntKind) -> Option<NodeTest>
     ensures is { maybe_tests result ≡ one_if (may_overflow op && is_signed kind) (test_of (node_test.Arithmetic ub.Overflow op kind)) }
     ensures asked { (j : kinds.IntKind) → MaybeIsTestOf j result }
+    ensures charge { (a b : kinds.IntKind) → maybe_charge result a b ≤ (if may_overflow op then arithmetic_test_charge op kind a b else 0) }
 {
     let overflows = may_overflow(op);
     let leaves = signed(kind);
@@ -54,6 +57,7 @@ fn overflow_test(op: ArithOp, kind: IntKind) -> Option<NodeTest>
 fn zero_test(op: ArithOp, kind: IntKind) -> Option<NodeTest>
     ensures is { maybe_tests result ≡ one_if (divides op) (test_of (node_test.Arithmetic ub.Zero op kind)) }
     ensures asked { (j : kinds.IntKind) → MaybeIsTestOf j result }
+    ensures charge { (a b : kinds.IntKind) → maybe_charge result a b ≤ (if divides op then arithmetic_test_charge op kind a b else 0) }
 {
     if divides(op) {
         Some(NodeTest::Arithmetic(UbKind::Zero, op, kind))
@@ -67,6 +71,7 @@ fn listed_operation(operation: Operation) -> (Option<NodeTest>, Option<NodeTest>
     ensures is { maybe_tests result.0 ++ maybe_tests result.1 ≡ operation_tests (operation_shown operation) }
     ensures first { (j : kinds.IntKind) → MaybeIsTestOf j result.0 }
     ensures second { (j : kinds.IntKind) → MaybeIsTestOf j result.1 }
+    ensures charge { (a b : kinds.IntKind) → maybe_charge result.0 a b + maybe_charge result.1 a b ≤ tests_charge (operation_shown operation) a b }
 {
     match operation {
         Operation::InKind(op, kind) => (overflow_test(op, kind), zero_test(op, kind)),
@@ -82,6 +87,7 @@ fn listed_operation(operation: Operation) -> (Option<NodeTest>, Option<NodeTest>
 fn negation_test(kind: IntKind) -> Option<NodeTest>
     ensures is { maybe_tests result ≡ one_if (is_signed kind) (test_of (node_test.Negation ub.Overflow kind)) }
     ensures asked { (j : kinds.IntKind) → MaybeIsTestOf j result }
+    ensures charge { (a b : kinds.IntKind) → maybe_charge result a b ≤ negation_charge kind a }
 {
     if signed(kind) {
         Some(NodeTest::Negation(UbKind::Overflow, kind))
@@ -95,6 +101,7 @@ pub(crate) fn listed(tests: NodeTests) -> (Option<NodeTest>, Option<NodeTest>)
     ensures is { maybe_tests result.0 ++ maybe_tests result.1 ≡ tests_of tests }
     ensures first { (j : kinds.IntKind) → IsAskedOf j tests → MaybeIsTestOf j result.0 }
     ensures second { (j : kinds.IntKind) → IsAskedOf j tests → MaybeIsTestOf j result.1 }
+    ensures charge { (a b : kinds.IntKind) → maybe_charge result.0 a b + maybe_charge result.1 a b ≤ asked_charge tests a b }
 {
     match tests {
         NodeTests::Nothing => (None, None),

@@ -1,6 +1,6 @@
 //! The registers that a loop of a walk sets first, to the numbers of their keys (C11 6.8.5).
 
-ghost use Rattle.std.specs.Prelude.{◌≡◌, ◌<◌, ℤ, ℕ, List, Bool, Some, OnOk, length, set, slice_get, if◌then◌else◌};
+ghost use Rattle.std.specs.Prelude.{◌≡◌, ◌<◌, ℤ, ℕ, List, Bool, Some, OnOk, length, set, slice_get, if◌then◌else◌, ◌+◌, ◌*◌, ◌≤◌};
 ghost use Rattle.stk_ctype.specs.declared.kind.IntKind.TheVariants.{Int};
 ghost use Rattle.stk_tree.specs.View.{view_statement_form};
 ghost use Rattle.stk_meaning.specs.Operations.{bit};
@@ -38,6 +38,7 @@ fn begin_register<O: WalkSetting, V: Values>(
     ensures made { OnOk result (RowMade (V.made values.new) (register_kind (O.setting out.now)) 0 registers.new.items) }
     ensures shown { OnOk result ((m : List ℤ) (j : ℕ) (b : Bool) (xs : List ℤ) → slice_get (assigned_in (O.setting out.now) (view_statement_form form.now)) at ≡ Some j → V.serves values.old m → V.shows values.old m Int guard (bit b) → RowShows (V.shows values.old m) (register_kind (O.setting out.now)) 0 registers.old.items xs → RowShows (V.shows values.new m) (register_kind (O.setting out.now)) 0 registers.new.items (if b then set xs j (O.under out.now m (loop_key node j)) else xs)) }
     ensures keeps { Keeps V.serves V.has_key V.made V.shows values.old values.new }
+    ensures charge { OnOk result (V.cost values.new ≤ V.cost values.old + 192) }
 {
     let register = out.slot(node, form, at);
     let kind = out.kind_at(register);
@@ -62,6 +63,7 @@ pub(crate) fn begin_registers<O: WalkSetting, V: Values>(
     ensures made { OnOk result (RowMade (V.made values.new) (register_kind (O.setting out.now)) 0 registers.new.items) }
     ensures shown { OnOk result ((m : List ℤ) (b : Bool) (xs : List ℤ) → V.serves values.old m → V.shows values.old m Int guard (bit b) → RowShows (V.shows values.old m) (register_kind (O.setting out.now)) 0 registers.old.items xs → RowShows (V.shows values.new m) (register_kind (O.setting out.now)) 0 registers.new.items (if b then reset_all (O.under out.now m) node (assigned_in (O.setting out.now) (view_statement_form form.now)) xs else xs)) }
     ensures keeps { OnOk result (Keeps V.serves V.has_key V.made V.shows values.old values.new) }
+    ensures charge { OnOk result (V.cost values.new ≤ V.cost values.old + 192 * length (assigned_in (O.setting out.now) (view_statement_form form.now))) }
 {
     for at in 0..out.count_slots(node, form) {
         begin_register(out, node, form, values, guard, registers, at)?;

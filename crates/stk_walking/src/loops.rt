@@ -1,7 +1,7 @@
 //! Where a loop of a walk begins: its registers have the numbers of their keys, and what it may change isn't kept (C11
 //! 6.8.5).
 
-ghost use Rattle.std.specs.Prelude.{◌≡◌, ℤ, ℕ, List, Bool, OnOk, None, length, not, set, if◌then◌else◌};
+ghost use Rattle.std.specs.Prelude.{◌≡◌, ℤ, ℕ, List, Bool, OnOk, None, length, not, set, if◌then◌else◌, ◌+◌, ◌*◌, ◌≤◌};
 ghost use Rattle.stk_ctype.specs.declared.kind.IntKind as kinds;
 ghost use Rattle.stk_ctype.specs.declared.kind.IntKind.TheVariants.{Int};
 ghost use Rattle.stk_tree.specs.View.{view_statement_form};
@@ -13,6 +13,8 @@ ghost use Rattle.stk_guarded.specs.Standing.{Standing, moved_to};
 ghost use Rattle.stk_walking.specs.Events.{events_in};
 ghost use Rattle.stk_walking.specs.Keyed.{AreThere};
 ghost use Rattle.stk_walking.specs.Stands.{CellsShow, CellsMade, Stands, IsMade};
+ghost use Rattle.stk_spending.specs.Statements.{loop_spent};
+ghost use Rattle.stk_walking.specs.Costs.{Costs};
 
 use crate::asked::WalkSetting;
 use crate::cells::keep_only;
@@ -39,6 +41,7 @@ fn begin_cell<O: WalkSetting, V: Values>(
     ensures made { OnOk result ((row : ℕ → kinds.IntKind) → CellsMade (V.made values.old) row 0 cells.old.items → CellsMade (V.made values.new) row 0 cells.new.items) }
     ensures shown { OnOk result ((m : List ℤ) (row : ℕ → kinds.IntKind) (b : Bool) (kept : KeptNumbers) → V.serves values.old m → V.shows values.old m Int stays (bit (not b)) → CellsShow (V.shows values.old m) row 0 cells.old.items kept → CellsShow (V.shows values.new m) row 0 cells.new.items (if forgotten_in (O.setting out.now) (view_statement_form form.now) place then (if b then set kept place None else kept) else kept)) }
     ensures keeps { Keeps V.serves V.has_key V.made V.shows values.old values.new }
+    ensures charge { OnOk result (V.cost values.new ≤ V.cost values.old + 3) }
 {
     if out.forgets(node, form, place) {
         keep_only(values, stays, cells, place)?;
@@ -61,6 +64,7 @@ pub fn begin_cells<O: WalkSetting, V: Values>(
     ensures made { OnOk result ((row : ℕ → kinds.IntKind) → CellsMade (V.made values.old) row 0 cells.old.items → CellsMade (V.made values.new) row 0 cells.new.items) }
     ensures shown { OnOk result ((m : List ℤ) (row : ℕ → kinds.IntKind) (b : Bool) (kept : KeptNumbers) → V.serves values.old m → V.shows values.old m Int guard (bit b) → CellsShow (V.shows values.old m) row 0 cells.old.items kept → CellsShow (V.shows values.new m) row 0 cells.new.items (if b then forgotten (forgotten_in (O.setting out.now) (view_statement_form form.now)) kept else kept)) }
     ensures keeps { OnOk result (Keeps V.serves V.has_key V.made V.shows values.old values.new) }
+    ensures cost { OnOk result ((kept : ℕ) → Costs V.cost kept (3 * kept) values.old values.new (length cells.old.items) (length cells.new.items)) }
 {
     let stays = values.opposite(guard)?;
     for place in 0..cells.len() {
@@ -85,6 +89,7 @@ pub fn begin_loop<O: WalkSetting, V: Values>(
     ensures events { OnOk result (events_in state.new.steps.items ≡ events_in state.old.steps.items) }
     ensures stands { OnOk result ((m : List ℤ) (s : Standing) → V.serves values.old m → Stands (V.shows values.old m) (O.setting out.now) state.old s → Stands (V.shows values.new m) (O.setting out.now) state.new (moved_to (reset_all (O.under out.now m) node (assigned_in (O.setting out.now) (view_statement_form form.now)) s.numbers) (forgotten (forgotten_in (O.setting out.now) (view_statement_form form.now)) s.kept) s)) }
     ensures keeps { OnOk result (Keeps V.serves V.has_key V.made V.shows values.old values.new) }
+    ensures cost { OnOk result (Costs V.cost (length (O.setting out.now).kept) (loop_spent (O.setting out.now) (view_statement_form form.now)) values.old values.new (length state.old.cells.items) (length state.new.cells.items)) }
 {
     let guard = state.guard;
     begin_registers(out, node, form, values, guard, &mut state.registers)?;

@@ -1,14 +1,16 @@
 //! Whether the numbers of a node's operands violate the conditions of the node, as tests.
 
-ghost use Rattle.std.specs.Prelude.{◌≡◌, ℤ, pos, List, IfOk};
+ghost use Rattle.std.specs.Prelude.{◌≡◌, ℤ, pos, List, IfOk, ◌+◌, ◌*◌, ◌≤◌, OnOk};
 ghost use Rattle.std.specs.Ordering.{int_eq};
 ghost use Rattle.stk_ctype.specs.declared.kind.IntKind.TheVariants.{Int, ULong};
 ghost use Rattle.stk_numbers.specs.declared.operators.ArithOp.TheVariants.{Sub};
-ghost use Rattle.stk_numbers.specs.Kinds.{wrap, least};
+ghost use Rattle.stk_numbers.specs.Kinds.{wrap, least, width_of};
 ghost use Rattle.stk_numbers.specs.Conditions.{violates, leaves_memory, apart, overlaps};
 ghost use Rattle.stk_meaning.specs.Operations.{bit, to_address};
 ghost use Rattle.stk_values.specs.Keeping.{Keeps};
 ghost use Rattle.stk_walking.specs.NodeTests.{test_of, IsTestOf, OperandsMade, OperandsShow};
+ghost use Rattle.stk_values.specs.Charges.{convert_charge, breaks_charge, move_charge};
+ghost use Rattle.stk_walking.specs.Charges.{test_charge};
 
 use crate::operations::{Operand, to_address};
 use crate::tests::{converted, zero};
@@ -73,6 +75,7 @@ fn breaks_in_kind<V: Values>(
     ensures makes { IfOk result (λ v. V.made values.new Int v) }
     ensures value { IfOk result (λ v. (m : List ℤ) (x y : ℤ) → V.serves values.old m → V.shows values.old m left.kind left.value x → V.shows values.old m right.kind right.value y → V.shows values.new m Int v (bit (violates what op kind (wrap kind x) (wrap kind y)))) }
     ensures keeps { Keeps V.serves V.has_key V.made V.shows values.old values.new }
+    ensures charge { OnOk result (V.cost values.new ≤ V.cost values.old + (convert_charge left.kind kind + convert_charge right.kind kind + breaks_charge op (width_of kind))) }
 {
     let x = converted(values, left.kind, kind, left.value)?;
     let y = converted(values, right.kind, kind, right.value)?;
@@ -91,6 +94,7 @@ fn breaks_negation<V: Values>(
     ensures makes { IfOk result (λ v. V.made values.new Int v) }
     ensures value { IfOk result (λ v. (m : List ℤ) (x : ℤ) → V.serves values.old m → V.shows values.old m operand.kind operand.value x → V.shows values.new m Int v (bit (violates what Sub kind (wrap kind (pos 0)) (wrap kind x)))) }
     ensures keeps { Keeps V.serves V.has_key V.made V.shows values.old values.new }
+    ensures charge { OnOk result (V.cost values.new ≤ V.cost values.old + (convert_charge kind kind + convert_charge operand.kind kind + breaks_charge Sub (width_of kind))) }
 {
     let none = zero(values, kind)?;
     let left = Operand { kind, value: none };
@@ -111,6 +115,7 @@ fn breaks_move<V: Values>(
     ensures makes { IfOk result (λ v. V.made values.new Int v) }
     ensures value { IfOk result (λ v. (m : List ℤ) (x y : ℤ) → V.serves values.old m → V.shows values.old m base.kind base.value x → V.shows values.old m step.kind step.value y → V.shows values.new m Int v (bit (leaves_memory (to_address x) y size minus))) }
     ensures keeps { Keeps V.serves V.has_key V.made V.shows values.old values.new }
+    ensures charge { OnOk result (V.cost values.new ≤ V.cost values.old + (move_charge size + 512)) }
 {
     let bytes = size.bytes();
     if bytes == 0 {
@@ -128,6 +133,7 @@ fn is_null<V: Values>(values: &mut V, operand: Operand<V::Value>) -> Result<V::V
     ensures makes { IfOk result (λ v. V.made values.new Int v) }
     ensures value { IfOk result (λ v. (m : List ℤ) (x : ℤ) → V.serves values.old m → V.shows values.old m operand.kind operand.value x → V.shows values.new m Int v (bit (int_eq x (pos 0)))) }
     ensures keeps { Keeps V.serves V.has_key V.made V.shows values.old values.new }
+    ensures charge { OnOk result (V.cost values.new ≤ V.cost values.old + 10 * width_of operand.kind) }
 {
     let none = zero(values, operand.kind)?;
     let found = values.compare(CompareOp::Eq, operand.kind, operand.value, none)?;
@@ -140,6 +146,7 @@ fn is_least<V: Values>(values: &mut V, operand: Operand<V::Value>) -> Result<V::
     ensures makes { IfOk result (λ v. V.made values.new Int v) }
     ensures value { IfOk result (λ v. (m : List ℤ) (x : ℤ) → V.serves values.old m → V.shows values.old m operand.kind operand.value x → V.shows values.new m Int v (bit (int_eq x (least operand.kind)))) }
     ensures keeps { Keeps V.serves V.has_key V.made V.shows values.old values.new }
+    ensures charge { OnOk result (V.cost values.new ≤ V.cost values.old + 10 * width_of operand.kind) }
 {
     let lowest = values.constant(operand.kind, least(operand.kind))?;
     let found = values.compare(CompareOp::Eq, operand.kind, operand.value, lowest)?;
@@ -153,6 +160,7 @@ fn apart<V: Values>(values: &mut V, left: V::Value, right: V::Value) -> Result<V
     ensures makes { IfOk result (λ v. V.made values.new ULong v) }
     ensures value { IfOk result (λ v. (m : List ℤ) (x y : ℤ) → V.serves values.old m → V.shows values.old m ULong left (pos (to_address x)) → V.shows values.old m ULong right (pos (to_address y)) → V.shows values.new m ULong v (pos (apart (to_address x) (to_address y)))) }
     ensures keeps { Keeps V.serves V.has_key V.made V.shows values.old values.new }
+    ensures charge { OnOk result (V.cost values.new ≤ V.cost values.old + 2112) }
 {
     let below = values.compare(CompareOp::Lt, IntKind::ULong, left, right)?;
     let up = values.arith(ArithOp::Sub, IntKind::ULong, right, left)?;
@@ -170,6 +178,7 @@ fn breaks_copy<V: Values>(
     ensures makes { IfOk result (λ v. V.made values.new Int v) }
     ensures value { IfOk result (λ v. (m : List ℤ) (x y z : ℤ) → V.serves values.old m → OperandsShow (V.shows values.old m) operands x y z → V.shows values.new m Int v (bit (overlaps (to_address x) (to_address y) (to_address z)))) }
     ensures keeps { Keeps V.serves V.has_key V.made V.shows values.old values.new }
+    ensures charge { OnOk result (V.cost values.new ≤ V.cost values.old + 2752) }
 {
     let to = to_address(values, operands.first)?;
     let from = to_address(values, operands.second)?;
@@ -190,6 +199,7 @@ pub fn breaks<V: Values>(
     ensures makes { IfOk result (λ v. V.made values.new Int v) }
     ensures value { IfOk result (λ v. (m : List ℤ) (x y z : ℤ) → V.serves values.old m → OperandsShow (V.shows values.old m) operands x y z → V.shows values.new m Int v (bit ((test_of test).broken x y z))) }
     ensures keeps { Keeps V.serves V.has_key V.made V.shows values.old values.new }
+    ensures charge { OnOk result (V.cost values.new ≤ V.cost values.old + test_charge test operands.first.kind operands.second.kind) }
 {
     let left = operands.first;
     let right = operands.second;

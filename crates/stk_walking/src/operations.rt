@@ -1,8 +1,8 @@
 //! What operators do to values.
 
-ghost use Rattle.std.specs.Prelude.{◌≡◌, ℤ, ℕ, pos, negsuc, ◌-ℤ◌, List, Bool, not, IfOk};
+ghost use Rattle.std.specs.Prelude.{◌≡◌, ℤ, ℕ, pos, negsuc, ◌-ℤ◌, List, Bool, not, IfOk, ◌+◌, ◌*◌, ◌≤◌, OnOk};
 ghost use Rattle.stk_ctype.specs.declared.kind.IntKind.TheVariants.{Int, Long, ULong};
-ghost use Rattle.stk_numbers.specs.Kinds.{wrap, promote};
+ghost use Rattle.stk_numbers.specs.Kinds.{wrap, promote, width_of};
 ghost use Rattle.stk_numbers.specs.Values.{arith, shifted, compared, moved, distance, absolute};
 ghost use Rattle.stk_meaning.specs.Operations.{operated, in_kind, truth, bit, to_address};
 ghost use Rattle.stk_numbers.specs.declared.operators.ArithOp.TheVariants.{Sub};
@@ -11,6 +11,8 @@ ghost use Rattle.stk_operators.specs.Shown.{operation_shown};
 ghost use Rattle.stk_kinded.specs.Kinds.{operation_kind};
 ghost use Rattle.stk_values.specs.Keeping.{Keeps};
 ghost use Rattle.stk_walking.specs.Operands.{IsShiftOf};
+ghost use Rattle.stk_values.specs.Charges.{wider, convert_charge, arith_charge, move_charge, distance_charge};
+ghost use Rattle.stk_spending.specs.Charges.{operated_charge};
 
 use crate::tests::{converted, is_true, zero};
 use stk_base::NoMemory;
@@ -38,6 +40,7 @@ fn in_kind<V: Values>(
     ensures makes { IfOk result (λ v. V.made values.new kind v) }
     ensures value { IfOk result (λ v. (m : List ℤ) (x y : ℤ) → V.serves values.old m → V.shows values.old m left.kind left.value x → V.shows values.old m right.kind right.value y → V.shows values.new m kind v (arith op kind (wrap kind x) (wrap kind y))) }
     ensures keeps { Keeps V.serves V.has_key V.made V.shows values.old values.new }
+    ensures charge { OnOk result (V.cost values.new ≤ V.cost values.old + (convert_charge left.kind kind + convert_charge right.kind kind + arith_charge op (width_of kind))) }
 {
     let x = converted(values, left.kind, kind, left.value)?;
     let y = converted(values, right.kind, kind, right.value)?;
@@ -59,6 +62,7 @@ fn shifted<V: Values>(
     ensures makes { IfOk result (λ v. V.made values.new kind v) }
     ensures value { IfOk result (λ v. (m : List ℤ) (x y : ℤ) → V.serves values.old m → V.shows values.old m left.kind left.value x → V.shows values.old m right.kind right.value y → V.shows values.new m kind v (shifted op kind x y)) }
     ensures keeps { Keeps V.serves V.has_key V.made V.shows values.old values.new }
+    ensures charge { OnOk result (V.cost values.new ≤ V.cost values.old + (convert_charge left.kind kind + 26 * wider kind right.kind)) }
 {
     let x = converted(values, left.kind, kind, left.value)?;
     let found = values.shift(op, kind, x, right.kind, right.value)?;
@@ -78,6 +82,7 @@ fn compared<V: Values>(
     ensures makes { IfOk result (λ v. V.made values.new Int v) }
     ensures value { IfOk result (λ v. (m : List ℤ) (x y : ℤ) → V.serves values.old m → V.shows values.old m left.kind left.value x → V.shows values.old m right.kind right.value y → V.shows values.new m Int v (bit (compared op (wrap kind x) (wrap kind y)))) }
     ensures keeps { Keeps V.serves V.has_key V.made V.shows values.old values.new }
+    ensures charge { OnOk result (V.cost values.new ≤ V.cost values.old + (convert_charge left.kind kind + convert_charge right.kind kind + 10 * width_of kind)) }
 {
     let x = converted(values, left.kind, kind, left.value)?;
     let y = converted(values, right.kind, kind, right.value)?;
@@ -94,6 +99,7 @@ pub fn to_address<V: Values>(
     ensures makes { IfOk result (λ v. V.made values.new ULong v) }
     ensures value { IfOk result (λ v. (m : List ℤ) (x : ℤ) → V.serves values.old m → V.shows values.old m operand.kind operand.value x → V.shows values.new m ULong v (pos (to_address x))) }
     ensures keeps { Keeps V.serves V.has_key V.made V.shows values.old values.new }
+    ensures charge { OnOk result (V.cost values.new ≤ V.cost values.old) }
 {
     let found = converted(values, operand.kind, IntKind::ULong, operand.value)?;
     Ok(found)
@@ -113,6 +119,7 @@ pub fn moved_address<V: Values>(
     ensures makes { IfOk result (λ v. V.made values.new ULong v) }
     ensures value { IfOk result (λ v. (m : List ℤ) (x y : ℤ) → V.serves values.old m → V.shows values.old m base.kind base.value x → V.shows values.old m step.kind step.value y → V.shows values.new m ULong v (pos (moved (to_address x) y size minus))) }
     ensures keeps { Keeps V.serves V.has_key V.made V.shows values.old values.new }
+    ensures charge { OnOk result (V.cost values.new ≤ V.cost values.old + move_charge size) }
 {
     let address = to_address(values, base)?;
     let bytes = size.bytes();
@@ -135,6 +142,7 @@ fn measured<V: Values>(
     ensures makes { IfOk result (λ v. V.made values.new Long v) }
     ensures value { IfOk result (λ v. (m : List ℤ) (x y : ℤ) → V.serves values.old m → V.shows values.old m left.kind left.value x → V.shows values.old m right.kind right.value y → V.shows values.new m Long v (distance (to_address x) (to_address y) size)) }
     ensures keeps { Keeps V.serves V.has_key V.made V.shows values.old values.new }
+    ensures charge { OnOk result (V.cost values.new ≤ V.cost values.old + distance_charge size) }
 {
     let bytes = size.bytes();
     if bytes == 0 {
@@ -160,6 +168,7 @@ pub fn operated<V: Values>(
     ensures makes { IfOk result (λ v. V.made values.new (operation_kind (operation_shown operation.now)) v) }
     ensures value { IfOk result (λ v. (m : List ℤ) (x y : ℤ) → V.serves values.old m → V.shows values.old m left.kind left.value x → V.shows values.old m right.kind right.value y → V.shows values.new m (operation_kind (operation_shown operation.now)) v (operated (operation_shown operation.now) x y)) }
     ensures keeps { Keeps V.serves V.has_key V.made V.shows values.old values.new }
+    ensures charge { OnOk result (V.cost values.new ≤ V.cost values.old + operated_charge (operation_shown operation.now) left.kind right.kind) }
 {
     match operation {
         Operation::InKind(op, kind) => in_kind(values, *op, *kind, left, right),
@@ -181,6 +190,7 @@ pub fn negated<V: Values>(
     ensures makes { IfOk result (λ v. V.made values.new kind v) }
     ensures value { IfOk result (λ v. (m : List ℤ) (x : ℤ) → V.serves values.old m → V.shows values.old m operand.kind operand.value x → V.shows values.new m kind v (operated (in_kind Sub kind) (pos 0) x)) }
     ensures keeps { Keeps V.serves V.has_key V.made V.shows values.old values.new }
+    ensures charge { OnOk result (V.cost values.new ≤ V.cost values.old + operated_charge (in_kind Sub kind) kind operand.kind) }
 {
     let none = zero(values, kind)?;
     let left = Operand { kind, value: none };
@@ -199,6 +209,7 @@ pub fn flipped<V: Values>(
     ensures makes { IfOk result (λ v. V.made values.new kind v) }
     ensures value { IfOk result (λ v. (m : List ℤ) (x : ℤ) → V.serves values.old m → V.shows values.old m operand.kind operand.value x → V.shows values.new m kind v (wrap kind (negsuc 0 -ℤ x))) }
     ensures keeps { Keeps V.serves V.has_key V.made V.shows values.old values.new }
+    ensures charge { OnOk result (V.cost values.new ≤ V.cost values.old + (convert_charge operand.kind kind + 10 * width_of kind)) }
 {
     let ones = values.constant(kind, wrap(kind, -1))?;
     let x = converted(values, operand.kind, kind, operand.value)?;
@@ -212,6 +223,7 @@ pub fn is_zero<V: Values>(values: &mut V, operand: Operand<V::Value>) -> Result<
     ensures makes { IfOk result (λ v. V.made values.new Int v) }
     ensures value { IfOk result (λ v. (m : List ℤ) (x : ℤ) → V.serves values.old m → V.shows values.old m operand.kind operand.value x → V.shows values.new m Int v (bit (not (truth x)))) }
     ensures keeps { Keeps V.serves V.has_key V.made V.shows values.old values.new }
+    ensures charge { OnOk result (V.cost values.new ≤ V.cost values.old + 10 * width_of operand.kind) }
 {
     let test = is_true(values, operand.kind, operand.value)?;
     let found = values.opposite(test)?;
@@ -228,6 +240,7 @@ pub fn absolute<V: Values>(
     ensures makes { IfOk result (λ v. V.made values.new kind v) }
     ensures value { IfOk result (λ v. (m : List ℤ) (x : ℤ) → V.serves values.old m → V.shows values.old m kind value x → V.shows values.new m kind v (absolute kind x)) }
     ensures keeps { Keeps V.serves V.has_key V.made V.shows values.old values.new }
+    ensures charge { OnOk result (V.cost values.new ≤ V.cost values.old + 23 * width_of kind) }
 {
     let none = zero(values, kind)?;
     let below = values.compare(CompareOp::Lt, kind, value, none)?;
@@ -248,6 +261,7 @@ pub fn replaced_test<V: Values>(
     ensures makes { IfOk result (λ v. V.made values.new Int v) }
     ensures value { IfOk result (λ v. (m : List ℤ) (y : ℤ) → V.serves values.old m → V.shows values.old m operand.kind operand.value y → V.shows values.new m Int v (bit (replaced_truth zero_first op kept y))) }
     ensures keeps { Keeps V.serves V.has_key V.made V.shows values.old values.new }
+    ensures charge { OnOk result (V.cost values.new ≤ V.cost values.old + 640) }
 {
     let kind = common(kept, IntKind::Int);
     let y = converted(values, operand.kind, kind, operand.value)?;

@@ -1,6 +1,6 @@
 //! Reads and stores of places by name, on the whole state of a walk.
 
-ghost use Rattle.std.specs.Prelude.{◌≡◌, ℤ, ℕ, List, Some, IfOk, OnOk, set};
+ghost use Rattle.std.specs.Prelude.{◌≡◌, ℤ, ℕ, List, Some, IfOk, OnOk, set, ◌+◌, ◌*◌, ◌≤◌, length};
 ghost use Rattle.stk_meaning.specs.Typings.{number_kind};
 ghost use Rattle.stk_meaning.specs.Places.{in_register, in_kept};
 ghost use Rattle.stk_meaning.specs.Keys.{load_key};
@@ -15,6 +15,9 @@ ghost use Rattle.stk_walking.specs.Events.{events_in};
 ghost use Rattle.stk_walking.specs.Stands.{Stands, IsMade};
 ghost use Rattle.stk_walking.specs.Keyed.{AreThere, key_shown};
 ghost use Rattle.stk_walking.specs.Leads.{Leads, Evaluates};
+ghost use Rattle.stk_numbers.specs.Kinds.{width_of};
+ghost use Rattle.stk_spending.specs.Charges.{read_charge, store_charge};
+ghost use Rattle.stk_walking.specs.Costs.{Costs};
 
 use crate::asked::WalkSetting;
 use crate::cells::{read_cell, remove_cells, store_cell};
@@ -42,6 +45,7 @@ fn read_named_register<O: WalkSetting, V: Values>(
     ensures made { OnOk result (IsMade (V.made values.new) (O.setting out.now) state.now) }
     ensures follows { IfOk result (λ v. (a : ℕ) → Evaluates (V.serves values.old) (V.shows values.old) (V.shows values.new) (O.setting out.now) (λ m x. V.shows values.new m kind v x) (λ m r kept. number_in (path_world (O.under out.now m)) (in_register at) node kind a r kept) state.now state.now) }
     ensures keeps { Keeps V.serves V.has_key V.made V.shows values.old values.new }
+    ensures cost { OnOk result ((kept : ℕ) → Costs V.cost kept 0 values.old values.new (length state.now.cells.items) (length state.now.cells.items)) }
 {
     let found = read_register(values, &state.registers, at, kind)?;
     Ok(found)
@@ -65,6 +69,7 @@ fn read_named_cell<O: WalkSetting, V: Values>(
     ensures events { OnOk result (events_in state.new.steps.items ≡ events_in state.old.steps.items) }
     ensures follows { IfOk result (λ v. (a : ℕ) → Evaluates (V.serves values.old) (V.shows values.old) (V.shows values.new) (O.setting out.now) (λ m x. V.shows values.new m kind v x) (λ m r kept. number_in (path_world (O.under out.now m)) (in_kept at) node kind a r kept) state.old state.new) }
     ensures keeps { Keeps V.serves V.has_key V.made V.shows values.old values.new }
+    ensures cost { OnOk result ((kept : ℕ) → Costs V.cost kept (3 * width_of kind + 3) values.old values.new (length state.old.cells.items) (length state.new.cells.items)) }
 {
     let guard = state.guard;
     let loaded = input_value(out, InputKey::Load(node), kind, values)?;
@@ -87,6 +92,7 @@ fn read_loaded<O: WalkSetting, V: Values>(
     ensures made { OnOk result (IsMade (V.made values.new) (O.setting out.now) state.now) }
     ensures follows { IfOk result (λ v. Evaluates (V.serves values.old) (V.shows values.old) (V.shows values.new) (O.setting out.now) (λ m x. V.shows values.new m kind v x) (λ m. gives (O.under out.now m (load_key node))) state.now state.now) }
     ensures keeps { Keeps V.serves V.has_key V.made V.shows values.old values.new }
+    ensures cost { OnOk result ((kept : ℕ) → Costs V.cost kept 0 values.old values.new (length state.now.cells.items) (length state.now.cells.items)) }
 {
     let found = input_value(out, InputKey::Load(node), kind, values)?;
     Ok(found)
@@ -110,6 +116,7 @@ fn read_in_kind<O: WalkSetting, V: Values>(
     ensures events { OnOk result (events_in state.new.steps.items ≡ events_in state.old.steps.items) }
     ensures follows { IfOk result (λ v. (a : ℕ) → Evaluates (V.serves values.old) (V.shows values.old) (V.shows values.new) (O.setting out.now) (λ m x. V.shows values.new m kind v x) (λ m r kept. number_in (path_world (O.under out.now m)) (target_shown target) node kind a r kept) state.old state.new) }
     ensures keeps { Keeps V.serves V.has_key V.made V.shows values.old values.new }
+    ensures cost { OnOk result ((kept : ℕ) → Costs V.cost kept (read_charge (target_shown target) kind) values.old values.new (length state.old.cells.items) (length state.new.cells.items)) }
 {
     match target {
         Target::Register(at) => read_named_register(out, node, at, kind, values, state),
@@ -136,6 +143,7 @@ pub fn read_place<O: WalkSetting, V: Values>(
     ensures events { OnOk result (events_in state.new.steps.items ≡ events_in state.old.steps.items) }
     ensures follows { IfOk result (λ v. (a : ℕ) → Evaluates (V.serves values.old) (V.shows values.old) (V.shows values.new) (O.setting out.now) (λ m x. V.shows values.new m (number_kind ((O.setting out.now).typing.type_at node)) v x) (λ m r kept. number_in (path_world (O.under out.now m)) (target_shown target) node (number_kind ((O.setting out.now).typing.type_at node)) a r kept) state.old state.new) }
     ensures keeps { Keeps V.serves V.has_key V.made V.shows values.old values.new }
+    ensures cost { OnOk result ((kept : ℕ) → Costs V.cost kept (read_charge (target_shown target) (number_kind ((O.setting out.now).typing.type_at node))) values.old values.new (length state.old.cells.items) (length state.new.cells.items)) }
 {
     let kind = out.kind_at(node);
     let found = read_in_kind(out, node, target, kind, values, state)?;
@@ -158,6 +166,8 @@ fn store_in_register<O: WalkSetting, V: Values>(
     ensures events { OnOk result (events_in state.new.steps.items ≡ events_in state.old.steps.items) }
     ensures stands { OnOk result ((m : List ℤ) (s : Standing) (x : ℤ) → V.serves values.old m → V.shows values.old m kind value x → Stands (V.shows values.old m) (O.setting out.now) state.old s → Stands (V.shows values.new m) (O.setting out.now) state.new (moved_to (set s.numbers at x) s.kept s)) }
     ensures keeps { Keeps V.serves V.has_key V.made V.shows values.old values.new }
+    ensures charge { OnOk result (V.cost values.new ≤ V.cost values.old + 3 * width_of kind) }
+    ensures cells { OnOk result (state.new.cells.items ≡ state.old.cells.items) }
 {
     let guard = state.guard;
     set_register(values, guard, &mut state.registers, at, kind, value)?;
@@ -180,6 +190,7 @@ fn store_in_cell<O: WalkSetting, V: Values>(
     ensures events { OnOk result (events_in state.new.steps.items ≡ events_in state.old.steps.items) }
     ensures stands { OnOk result ((m : List ℤ) (s : Standing) (x : ℤ) → V.serves values.old m → V.shows values.old m kind value x → Stands (V.shows values.old m) (O.setting out.now) state.old s → Stands (V.shows values.new m) (O.setting out.now) state.new (moved_to s.numbers (set s.kept at (Some x)) s)) }
     ensures keeps { Keeps V.serves V.has_key V.made V.shows values.old values.new }
+    ensures cost { OnOk result ((kept : ℕ) → Costs V.cost kept (3 * width_of kind + 3) values.old values.new (length state.old.cells.items) (length state.new.cells.items)) }
 {
     let guard = state.guard;
     store_cell(values, guard, &mut state.cells, at, kind, value)?;
@@ -197,6 +208,7 @@ pub fn forget<O: WalkSetting, V: Values>(
     ensures events { OnOk result (events_in state.new.steps.items ≡ events_in state.old.steps.items) }
     ensures stands { OnOk result ((m : List ℤ) (s : Standing) → V.serves values.old m → Stands (V.shows values.old m) (O.setting out.now) state.old s → Stands (V.shows values.new m) (O.setting out.now) state.new (moved_to s.numbers (all_forgotten s.kept) s)) }
     ensures keeps { OnOk result (Keeps V.serves V.has_key V.made V.shows values.old values.new) }
+    ensures cost { OnOk result ((kept : ℕ) → Costs V.cost kept (3 * kept) values.old values.new (length state.old.cells.items) (length state.new.cells.items)) }
 {
     let guard = state.guard;
     remove_cells(values, guard, &mut state.cells)?;
@@ -219,6 +231,7 @@ fn store_in_kind<O: WalkSetting, V: Values>(
     ensures events { OnOk result (events_in state.new.steps.items ≡ events_in state.old.steps.items) }
     ensures stored { OnOk result ((m : List ℤ) (s : Standing) (inputs : InputMap) (a : ℕ) (x y : ℤ) → V.serves values.old m → V.shows values.old m kind value x → Stands (V.shows values.old m) (O.setting out.now) state.old s → Leads (V.shows values.new m) (O.setting out.now) (λ z. z ≡ y) (stored_at (path_world inputs) (target_shown target) kind a x y s.numbers s.kept) s state.new) }
     ensures keeps { OnOk result (Keeps V.serves V.has_key V.made V.shows values.old values.new) }
+    ensures cost { OnOk result ((kept : ℕ) → Costs V.cost kept (store_charge kept (target_shown target) kind) values.old values.new (length state.old.cells.items) (length state.new.cells.items)) }
 {
     match target {
         Target::Register(at) => {
@@ -255,6 +268,7 @@ pub fn store_place<O: WalkSetting, V: Values>(
     ensures events { OnOk result (events_in state.new.steps.items ≡ events_in state.old.steps.items) }
     ensures stored { OnOk result ((m : List ℤ) (s : Standing) (inputs : InputMap) (a : ℕ) (x y : ℤ) → V.serves values.old m → V.shows values.old m (number_kind ((O.setting out.now).typing.type_at node)) value x → Stands (V.shows values.old m) (O.setting out.now) state.old s → Leads (V.shows values.new m) (O.setting out.now) (λ z. z ≡ y) (stored_at (path_world inputs) (target_shown target) (number_kind ((O.setting out.now).typing.type_at node)) a x y s.numbers s.kept) s state.new) }
     ensures keeps { OnOk result (Keeps V.serves V.has_key V.made V.shows values.old values.new) }
+    ensures cost { OnOk result ((kept : ℕ) → Costs V.cost kept (store_charge kept (target_shown target) (number_kind ((O.setting out.now).typing.type_at node))) values.old values.new (length state.old.cells.items) (length state.new.cells.items)) }
 {
     let kind = out.kind_at(node);
     store_in_kind(out, target, kind, value, values, state)?;

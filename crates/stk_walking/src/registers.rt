@@ -1,11 +1,12 @@
 //! Registers of a walk.
 
-ghost use Rattle.std.specs.Prelude.{◌≡◌, ℤ, ℕ, pos, List, Bool, IfOk, OnOk, get_or, set, if◌then◌else◌};
+ghost use Rattle.std.specs.Prelude.{◌≡◌, ℤ, ℕ, pos, List, Bool, IfOk, OnOk, get_or, set, if◌then◌else◌, ◌+◌, ◌*◌, ◌≤◌};
 ghost use Rattle.stk_ctype.specs.declared.kind.IntKind as kinds;
 ghost use Rattle.stk_ctype.specs.declared.kind.IntKind.TheVariants.{Int};
 ghost use Rattle.stk_meaning.specs.Operations.{bit};
 ghost use Rattle.stk_values.specs.Keeping.{Keeps};
 ghost use Rattle.stk_walking.specs.Stands.{RowShows, RowMade};
+ghost use Rattle.stk_numbers.specs.Kinds.{width_of};
 
 use crate::tests::zero;
 use stk_base::NoMemory;
@@ -23,6 +24,7 @@ pub fn read_register<V: Values>(
     ensures makes { IfOk result (λ v. V.made values.new kind v) }
     ensures value { IfOk result (λ v. (m : List ℤ) (row : ℕ → kinds.IntKind) (xs : List ℤ) → V.serves values.old m → row at ≡ kind → RowShows (V.shows values.old m) row 0 registers.now.items xs → V.shows values.new m kind v (get_or xs at (pos 0))) }
     ensures keeps { Keeps V.serves V.has_key V.made V.shows values.old values.new }
+    ensures charge { OnOk result (V.cost values.new ≤ V.cost values.old) }
 {
     let place = at as usize;
     if place >= registers.len() {
@@ -47,6 +49,7 @@ pub fn set_register<V: Values>(
     ensures makes { OnOk result ((row : ℕ → kinds.IntKind) → row at ≡ kind → RowMade (V.made values.old) row 0 registers.old.items → RowMade (V.made values.new) row 0 registers.new.items) }
     ensures shown { OnOk result ((m : List ℤ) (row : ℕ → kinds.IntKind) (b : Bool) (x : ℤ) (xs : List ℤ) → V.serves values.old m → row at ≡ kind → V.shows values.old m Int guard (bit b) → V.shows values.old m kind value x → RowShows (V.shows values.old m) row 0 registers.old.items xs → RowShows (V.shows values.new m) row 0 registers.new.items (if b then set xs at x else xs)) }
     ensures keeps { Keeps V.serves V.has_key V.made V.shows values.old values.new }
+    ensures charge { OnOk result (V.cost values.new ≤ V.cost values.old + 3 * width_of kind) }
 {
     let place = at as usize;
     if place >= registers.len() {

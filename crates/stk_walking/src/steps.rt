@@ -1,6 +1,6 @@
 //! Steps of a walk.
 
-ghost use Rattle.std.specs.Prelude.{◌≡◌, ℤ, ℕ, List, [], ◌∷◌, ◌++◌, Bool, ◌&&◌, ◌||◌, not, Option, Some, None, OnOk, IfOk};
+ghost use Rattle.std.specs.Prelude.{◌≡◌, ℤ, ℕ, List, [], ◌∷◌, ◌++◌, Bool, ◌&&◌, ◌||◌, not, Option, Some, None, OnOk, IfOk, ◌+◌, ◌≤◌};
 ghost use Rattle.stk_ctype.specs.declared.kind.IntKind.TheVariants.{Int};
 ghost use Rattle.stk_numbers.specs.declared.conditions.CandKind.TheVariants as cand;
 ghost use Rattle.stk_meaning.specs.declared.entry.Entry.TheVariants.{Enter, Seen};
@@ -11,6 +11,7 @@ ghost use Rattle.stk_guarded.specs.Standing.{Standing, added};
 ghost use Rattle.stk_walking.specs.Events.{Live, one_if, hit, differs, entry_events, events_in, truth_events, seen_events};
 ghost use Rattle.stk_walking.specs.Stands.{Stands, IsMade, StepsMade, MaybeShows, MaybeMade};
 ghost use Rattle.stk_walking.specs.declared.state.Event as events;
+ghost use Rattle.stk_spending.specs.Charges.{seen_charge};
 
 use crate::state::{Event, GuardedEvent, WalkState};
 use crate::tests::either;
@@ -33,6 +34,7 @@ pub fn push_step<V: Values>(
     ensures events { OnOk result (events_in steps.new.items ≡ events_in steps.old.items ++ event ∷ []) }
     ensures live { OnOk result ((m : List ℤ) (g b : Bool) (t : List events.Event) → V.serves values.old m → V.shows values.old m Int guard (bit g) → V.shows values.old m Int test (bit b) → Live (V.shows values.old m Int) steps.old.items t → Live (V.shows values.new m Int) steps.new.items (t ++ one_if (g && b) event)) }
     ensures keeps { Keeps V.serves V.has_key V.made V.shows values.old values.new }
+    ensures charge { OnOk result (V.cost values.new ≤ V.cost values.old + 3) }
 {
     let test = values.both(guard, test)?;
     steps.push(GuardedEvent { event, test })?;
@@ -48,6 +50,7 @@ pub fn enter<V: Values>(
     ensures made { OnOk result ((g : Setting) → IsMade (V.made values.now) g state.old → IsMade (V.made values.now) g state.new) }
     ensures events { OnOk result (events_in state.new.steps.items ≡ events_in state.old.steps.items ++ hit node cand.Arm ∷ []) }
     ensures stands { OnOk result ((g : Setting) (m : List ℤ) (s : Standing) → Stands (V.shows values.now m) g state.old s → Stands (V.shows values.now m) g state.new (added (Enter node ∷ []) s)) }
+    ensures cells { OnOk result (state.new.cells.items ≡ state.old.cells.items) }
 {
     let event = Event::Hit(Candidate {
         node,
@@ -71,6 +74,7 @@ fn differing<V: Values>(
     ensures makes { IfOk result (λ v. V.made values.new Int v) }
     ensures value { IfOk result (λ v. (m : List ℤ) (a b : Bool) → V.serves values.old m → V.shows values.old m Int left (bit a) → V.shows values.old m Int right (bit b) → V.shows values.new m Int v (bit (differs a b))) }
     ensures keeps { Keeps V.serves V.has_key V.made V.shows values.old values.new }
+    ensures charge { OnOk result (V.cost values.new ≤ V.cost values.old + 9) }
 {
     let not_right = values.opposite(right)?;
     let first = values.both(left, not_right)?;
@@ -95,6 +99,7 @@ fn push_truth<V: Values>(
     ensures events { OnOk result (events_in steps.new.items ≡ events_in steps.old.items ++ truth_events node) }
     ensures live { OnOk result ((m : List ℤ) (g b : Bool) (t : List events.Event) → V.serves values.old m → V.shows values.old m Int guard (bit g) → V.shows values.old m Int test (bit b) → Live (V.shows values.old m Int) steps.old.items t → Live (V.shows values.new m Int) steps.new.items ((t ++ one_if (g && not b) (hit node cand.AlwaysTrue)) ++ one_if (g && b) (hit node cand.AlwaysFalse))) }
     ensures keeps { Keeps V.serves V.has_key V.made V.shows values.old values.new }
+    ensures charge { OnOk result (V.cost values.new ≤ V.cost values.old + 6) }
 {
     let opposite = values.opposite(test)?;
     let always_true = Event::Hit(Candidate {
@@ -126,6 +131,7 @@ fn push_difference<V: Values>(
     ensures events { OnOk result (events_in steps.new.items ≡ events_in steps.old.items ++ hit node cand.Algebra ∷ []) }
     ensures live { OnOk result ((m : List ℤ) (g a b : Bool) (t : List events.Event) → V.serves values.old m → V.shows values.old m Int guard (bit g) → V.shows values.old m Int tests.0 (bit a) → V.shows values.old m Int tests.1 (bit b) → Live (V.shows values.old m Int) steps.old.items t → Live (V.shows values.new m Int) steps.new.items (t ++ one_if (g && differs a b) (hit node cand.Algebra))) }
     ensures keeps { Keeps V.serves V.has_key V.made V.shows values.old values.new }
+    ensures charge { OnOk result (V.cost values.new ≤ V.cost values.old + 12) }
 {
     let different = differing(values, tests.0, tests.1)?;
     let algebra = Event::Hit(Candidate {
@@ -152,6 +158,7 @@ fn push_replaced<V: Values>(
     ensures events { OnOk result (events_in steps.new.items ≡ events_in steps.old.items ++ (truth_events node ++ hit node cand.Algebra ∷ [])) }
     ensures live { OnOk result ((m : List ℤ) (g a b : Bool) (t : List events.Event) → V.serves values.old m → V.shows values.old m Int guard (bit g) → V.shows values.old m Int tests.0 (bit a) → V.shows values.old m Int tests.1 (bit b) → Live (V.shows values.old m Int) steps.old.items t → Live (V.shows values.new m Int) steps.new.items (((t ++ one_if (g && not a) (hit node cand.AlwaysTrue)) ++ one_if (g && a) (hit node cand.AlwaysFalse)) ++ one_if (g && differs a b) (hit node cand.Algebra))) }
     ensures keeps { Keeps V.serves V.has_key V.made V.shows values.old values.new }
+    ensures charge { OnOk result (V.cost values.new ≤ V.cost values.old + 18) }
 {
     push_truth(values, guard, node, tests.0, steps)?;
     push_difference(values, guard, node, tests, steps)?;
@@ -174,6 +181,8 @@ pub fn see<V: Values>(
     ensures events { OnOk result (events_in state.new.steps.items ≡ events_in state.old.steps.items ++ seen_events node replaced) }
     ensures stands { OnOk result ((g : Setting) (m : List ℤ) (s : Standing) (b : Bool) (other : Option Bool) → V.serves values.old m → V.shows values.old m Int test (bit b) → MaybeShows (V.shows values.old m Int) replaced other → Stands (V.shows values.old m) g state.old s → Stands (V.shows values.new m) g state.new (added (Seen node b other ∷ []) s)) }
     ensures keeps { Keeps V.serves V.has_key V.made V.shows values.old values.new }
+    ensures charge { OnOk result (V.cost values.new ≤ V.cost values.old + seen_charge replaced) }
+    ensures cells { OnOk result (state.new.cells.items ≡ state.old.cells.items) }
 {
     let guard = state.guard;
     match replaced {

@@ -1,10 +1,11 @@
 //! Tests and conversions of values.
 
-ghost use Rattle.std.specs.Prelude.{◌≡◌, ℤ, pos, List, Bool, ◌||◌, IfOk};
+ghost use Rattle.std.specs.Prelude.{◌≡◌, ℤ, pos, List, Bool, ◌||◌, IfOk, ◌+◌, ◌*◌, ◌≤◌, OnOk};
 ghost use Rattle.stk_ctype.specs.declared.kind.IntKind.TheVariants.{Int};
-ghost use Rattle.stk_numbers.specs.Kinds.{wrap};
+ghost use Rattle.stk_numbers.specs.Kinds.{wrap, width_of};
 ghost use Rattle.stk_meaning.specs.Operations.{truth, bit};
 ghost use Rattle.stk_values.specs.Keeping.{Keeps};
+ghost use Rattle.stk_values.specs.Charges.{convert_charge};
 
 use stk_base::NoMemory;
 use stk_numbers::{CompareOp, IntKind};
@@ -15,6 +16,7 @@ pub fn zero<V: Values>(values: &mut V, kind: IntKind) -> Result<V::Value, NoMemo
     ensures makes { IfOk result (λ v. V.made values.new kind v) }
     ensures value { IfOk result (λ v. (m : List ℤ) → V.serves values.old m → V.shows values.new m kind v (pos 0)) }
     ensures keeps { Keeps V.serves V.has_key V.made V.shows values.old values.new }
+    ensures charge { V.cost values.new ≤ V.cost values.old }
 {
     values.constant(kind, 0)
 }
@@ -30,6 +32,7 @@ pub fn either<V: Values>(
     ensures makes { IfOk result (λ v. V.made values.new Int v) }
     ensures value { IfOk result (λ v. (m : List ℤ) (a b : Bool) → V.serves values.old m → V.shows values.old m Int left (bit a) → V.shows values.old m Int right (bit b) → V.shows values.new m Int v (bit (a || b))) }
     ensures keeps { Keeps V.serves V.has_key V.made V.shows values.old values.new }
+    ensures charge { OnOk result (V.cost values.new ≤ V.cost values.old + 3) }
 {
     let not_left = values.opposite(left)?;
     let not_right = values.opposite(right)?;
@@ -48,6 +51,7 @@ pub fn is_true<V: Values>(
     ensures makes { IfOk result (λ v. V.made values.new Int v) }
     ensures value { IfOk result (λ v. (m : List ℤ) (x : ℤ) → V.serves values.old m → V.shows values.old m kind value x → V.shows values.new m Int v (bit (truth x))) }
     ensures keeps { Keeps V.serves V.has_key V.made V.shows values.old values.new }
+    ensures charge { OnOk result (V.cost values.new ≤ V.cost values.old + 10 * width_of kind) }
 {
     let none = zero(values, kind)?;
     let found = values.compare(CompareOp::Ne, kind, value, none)?;
@@ -65,6 +69,7 @@ pub fn converted<V: Values>(
     ensures makes { IfOk result (λ v. V.made values.new to v) }
     ensures value { IfOk result (λ v. (m : List ℤ) (x : ℤ) → V.serves values.old m → V.shows values.old m from value x → V.shows values.new m to v (wrap to x)) }
     ensures keeps { Keeps V.serves V.has_key V.made V.shows values.old values.new }
+    ensures charge { V.cost values.new ≤ V.cost values.old + convert_charge from to }
 {
     values.convert(from, to, value)
 }

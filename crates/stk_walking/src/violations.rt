@@ -1,6 +1,6 @@
 //! The conditions of a node, as steps of a walk that has come to it.
 
-ghost use Rattle.std.specs.Prelude.{◌≡◌, ℤ, List, ◌++◌, Bool, OnOk};
+ghost use Rattle.std.specs.Prelude.{◌≡◌, ℤ, List, ◌++◌, Bool, OnOk, ◌+◌, ◌≤◌};
 ghost use Rattle.stk_tree.specs.Syntax.{ExprFormTree};
 ghost use Rattle.stk_meaning.specs.Conditions.{form_tests};
 ghost use Rattle.stk_meaning.specs.Expressions.{breaks};
@@ -11,6 +11,7 @@ ghost use Rattle.stk_walking.specs.Events.{events_in};
 ghost use Rattle.stk_walking.specs.ExpressionEvents.{condition_events};
 ghost use Rattle.stk_walking.specs.Stands.{Stands, IsMade};
 ghost use Rattle.stk_walking.specs.NodeTests.{IsAskedOf, OperandsMade, OperandsShow};
+ghost use Rattle.stk_walking.specs.Charges.{asked_charge};
 
 use crate::asked::WalkSetting;
 use crate::conditions::push_tests;
@@ -37,6 +38,8 @@ pub fn violate<O: WalkSetting, V: Values>(
     ensures events { OnOk result ((accessed : Bool) (f : ExprFormTree) → form_tests (O.setting out.now).typing accessed f ≡ tests_of tests → events_in state.new.steps.items ≡ events_in state.old.steps.items ++ condition_events (O.setting out.now) node accessed f) }
     ensures stands { OnOk result ((m : List ℤ) (s : Standing) (x y z : ℤ) (accessed : Bool) (f : ExprFormTree) → V.serves values.old m → OperandsShow (V.shows values.old m) operands x y z → form_tests (O.setting out.now).typing accessed f ≡ tests_of tests → Stands (V.shows values.old m) (O.setting out.now) state.old s → Stands (V.shows values.new m) (O.setting out.now) state.new (added (breaks (O.setting out.now) node accessed f x y z) s)) }
     ensures keeps { Keeps V.serves V.has_key V.made V.shows values.old values.new }
+    ensures charge { OnOk result (V.cost values.new ≤ V.cost values.old + asked_charge tests operands.first.kind operands.second.kind) }
+    ensures cells { OnOk result (state.new.cells.items ≡ state.old.cells.items) }
 {
     let guard = state.guard;
     let without = out.without();

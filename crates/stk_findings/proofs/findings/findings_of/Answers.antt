@@ -1,7 +1,6 @@
-use Rattle.std.proofs.Common.{◌≡◌, ◌≤◌, sym, subst}
+use Rattle.std.proofs.Common.{◌≡◌}
 use Rattle.stk_tree.specs.View.{view_function}
 use Rattle.stk_meaning.specs.Keys.{keys_of, input_bits}
-use Rattle.stk_meaning.specs.Weights.{most_weight}
 use Rattle.stk_meaning.specs.PathFindings.{most_bits}
 use Rattle.stk_meaning.specs.Findings.{AreLawful}
 use Rattle.stk_function_types.specs.Nodes.{typing_in}
@@ -17,7 +16,7 @@ use Rattle.stk_findings.proofs.findings.findings_of.Goals as goal
 pub wide_findings-requires-clause-searched : goal.wide_findings-requires-clause-searched
 wide_findings-requires-clause-searched g c =
     typed_functions_are_searched c.args.searched.now.tables.now (view_function c.args.searched.now.function.now)
-    (record { typed = c.requires.typed; kinded = c.requires.kinded; tables = c.requires.tables; light = subst (λ w. w ≤ most_weight) c.requires.weight c.requires.light })
+    (record { typed = c.requires.typed; kinded = c.requires.kinded; bits = c.requires.bits; tables = c.requires.tables; light = c.requires.light })
 
 pub returns-clause-counted : goal.returns-clause-counted
 returns-clause-counted g c =

@@ -31,3 +31,11 @@ returns-clause-steps g c = λ ty without f h.
 pub returns-clause-once : goal.returns-clause-once
 returns-clause-once g c = λ ty without f h.
     c.walk.ensures.once ty without f (subst (λ p. AreParts ty without f (g.T.PathSetting.setting p) (number_under (g.T.TableSetting.keys p)) c.args.parts.now) (sym c.new-out.ensures) h)
+
+pub returns-clause-listed : goal.returns-clause-listed
+returns-clause-listed g c = λ ty without f h.
+    c.walk.ensures.listed ty without f (subst (λ p. AreParts ty without f (g.T.PathSetting.setting p) (number_under (g.T.TableSetting.keys p)) c.args.parts.now) (sym c.new-out.ensures) h)
+
+pub returns-clause-cost : goal.returns-clause-cost
+returns-clause-cost g c = λ ty without f h.
+    c.walk.ensures.cost ty without f (subst (λ p. AreParts ty without f (g.T.PathSetting.setting p) (number_under (g.T.TableSetting.keys p)) c.args.parts.now) (sym c.new-out.ensures) h)

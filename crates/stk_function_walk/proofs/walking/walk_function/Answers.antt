@@ -48,3 +48,15 @@ returns-clause-once g c =
     let places = c.args.tables.now.places in
     c.walk_by.ensures.once (typing_in places.types) places.without (view_function c.args.f.now) (parts_are c.args.tables.now (view_function c.args.f.now) c.setting-setting.result.now c.types-types.result.now c.keys-keys.result.now c.in_ok-parameters.parameters.items c.in_ok-objects.objects.items _
     c.requires.walkable c.setting-setting.ensures c.types-types.ensures c.keys-keys.ensures refl c.as_slice.ensures.value c.in_ok-parameters.ensures c.kept-kept.ensures.is c.as_slice-2.ensures.value c.in_ok-objects.ensures c.requires.candidates)
+
+pub returns-clause-listed : goal.returns-clause-listed
+returns-clause-listed g c =
+    let places = c.args.tables.now.places in
+    c.walk_by.ensures.listed (typing_in places.types) places.without (view_function c.args.f.now) (parts_are c.args.tables.now (view_function c.args.f.now) c.setting-setting.result.now c.types-types.result.now c.keys-keys.result.now c.in_ok-parameters.parameters.items c.in_ok-objects.objects.items _
+    c.requires.walkable c.setting-setting.ensures c.types-types.ensures c.keys-keys.ensures refl c.as_slice.ensures.value c.in_ok-parameters.ensures c.kept-kept.ensures.is c.as_slice-2.ensures.value c.in_ok-objects.ensures c.requires.candidates)
+
+pub returns-clause-cost : goal.returns-clause-cost
+returns-clause-cost g c =
+    let places = c.args.tables.now.places in
+    c.walk_by.ensures.cost (typing_in places.types) places.without (view_function c.args.f.now) (parts_are c.args.tables.now (view_function c.args.f.now) c.setting-setting.result.now c.types-types.result.now c.keys-keys.result.now c.in_ok-parameters.parameters.items c.in_ok-objects.objects.items _
+    c.requires.walkable c.setting-setting.ensures c.types-types.ensures c.keys-keys.ensures refl c.as_slice.ensures.value c.in_ok-parameters.ensures c.kept-kept.ensures.is c.as_slice-2.ensures.value c.in_ok-objects.ensures c.requires.candidates)

@@ -1,5 +1,6 @@
 use Rattle.std.proofs.Common.{◌≡◌, ◌≤◌, sym, ap, subst, ◌∙◌}
 use Rattle.stk_tree.specs.View.{view_function, view_unit}
+use Rattle.stk_meaning.specs.Weights.{most_weight}
 use Rattle.stk_function_types.specs.Units.{TypedUnit}
 use Rattle.stk_function_types.specs.Nodes.{typing_in}
 use Rattle.stk_unit_lines.specs.Functions.{IsDefinition}
@@ -53,11 +54,10 @@ judged-requires-clause-typed g c =
     let kinds : p.without ≡ c.args.options.without = ap (λ g. g.without) made.setting in
     subst (λ w. IsTypedFunction (typing_in p.types) w f) (sym kinds) (subst (λ (x : TypedUnit). IsTypedFunction (typing_in x) c.args.options.without f) (sym made.types) c.requires.typed)
 
-pub judged-requires-clause-weight : goal.judged-requires-clause-weight
-judged-requires-clause-weight g c = c.in_ok-weight.ensures (view_function c.args.f.now) (subst (λ (x : TypedUnit). IsDefinition (view_unit x.unit) (view_function c.args.f.now)) (sym c.in_ok-setting.ensures.types) c.requires.is)
-
 pub judged-requires-clause-light : goal.judged-requires-clause-light
-judged-requires-clause-light g c = light c.in_ok-weight.weight (sym c.weight_cause.ensures ∙ c.in-None.is)
+judged-requires-clause-light g c =
+    let same = c.in_ok-weight.ensures (view_function c.args.f.now) (subst (λ (x : TypedUnit). IsDefinition (view_unit x.unit) (view_function c.args.f.now)) (sym c.in_ok-setting.ensures.types) c.requires.is) in
+    subst (λ w. w ≤ most_weight) same (light c.in_ok-weight.weight (sym c.weight_cause.ensures ∙ c.in-None.is))
 
 pub returns-clause-lines : goal.returns-clause-lines
 returns-clause-lines g c =

@@ -32,4 +32,11 @@ loop-place-preserved g c =
       (λ m served.
           let whole = cells_more (shows now m) kinds 0 xs (replicate n None) x None (cells_shown (shows was m) (shows now m) (k.shown m) kinds 0 xs (replicate n None) (so_far.3 m served)) (subst (λ (i : IntKind). CellShows (shows now m) i x None) kind (c.in_ok-cell.ensures.value m (so_far.0.served m served))) in
           subst (λ (zs : KeptNumbers). CellsShow (shows now m) kinds 0 c.push.new.self.items zs) (one_longer n None) (subst (λ (ys : List (KeptCell g.row.V-Value.Denot)). CellsShow (shows now m) kinds 0 ys (replicate n None ++ None ∷ [])) (sym pushed) whole)),
+      omega (arith, so_far.4, c.in_ok-cell.ensures.charge),
     )
+
+pub returns-clause-charge : goal.returns-clause-charge
+returns-clause-charge g c = c.loop-place.invariant.4
+
+pub returns-clause-count : goal.returns-clause-count
+returns-clause-count g c = omega (arith, c.loop-place.invariant.1)

@@ -1,4 +1,4 @@
-use Rattle.std.proofs.Common.{◌≡◌, List, ℤ, length, None, replicate}
+use Rattle.std.proofs.Common.{◌≡◌, List, ℤ, length, None, replicate, ◌≤◌}
 use Rattle.stk_values.specs.Keeping.{Keeps}
 use Rattle.stk_kinded.specs.Kinds.{cell_kind}
 use Rattle.stk_walking.specs.Stands.{CellsShow, CellsMade}
@@ -11,3 +11,4 @@ invariant-loop-place g l =
     × (length l.row.items ≡ l.place)
     × CellsMade (g.V.Values.made l.values) (cell_kind G) 0 l.row.items
     × ((m : List ℤ) → g.V.Values.serves l.fn.values m → CellsShow (g.V.Values.shows l.values m) (cell_kind G) 0 l.row.items (replicate l.place None))
+    × (g.V.Values.cost l.values ≤ g.V.Values.cost l.fn.values)

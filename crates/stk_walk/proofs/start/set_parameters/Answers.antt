@@ -1,4 +1,4 @@
-use Rattle.std.proofs.Common.{◌≡◌, ℕ, [], ◌∷◌, ◌∙◌, List, ℤ, sym, ap, subst, rules, set}
+use Rattle.std.proofs.Common.{◌≡◌, ℕ, [], ◌∷◌, ◌∙◌, List, ℤ, sym, ap, subst, rules, set, arith}
 use Rattle.stk_meaning.specs.Keys.{parameter_key}
 use Rattle.stk_meaning.specs.Paths.{with_parameters}
 use Rattle.stk_kinded.specs.Kinds.{register_kind}
@@ -24,6 +24,7 @@ loop-node-preserved g c =
             c.in_ok-set_parameter.ensures.value m r.0 (so_far.0.served m served) r.1,
             ap (λ (ks : List ℕ). with_parameters ks numbers r.0) (sym split) ∙ r.2,
           )),
+      omega (arith, so_far.3, c.in_ok-set_parameter.ensures.charge),
     )
 
 pub returns-clause-value : goal.returns-clause-value
@@ -34,3 +35,6 @@ returns-clause-value g c = λ m xs served h.
     let none : c.loop-node.rest.now ≡ [] = none_left c.loop-node.rest.now c.in_default.ensures.cases in
     let same : r.0 ≡ with_parameters c.args.parameters.now numbers xs = ap (λ (ks : List ℕ). with_parameters ks numbers r.0) (sym none) ∙ r.2 in
     subst (λ (zs : List ℤ). RowShows (g.V.Values.shows c.loop-node.values m) (register_kind G) 0 c.loop-node.row.items zs) same r.1
+
+pub returns-clause-charge : goal.returns-clause-charge
+returns-clause-charge g c = c.loop-node.invariant.3

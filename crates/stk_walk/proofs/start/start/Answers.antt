@@ -1,4 +1,4 @@
-use Rattle.std.proofs.Common.{[], ℕ, List, pos, replicate, length, None, refl, sym, subst}
+use Rattle.std.proofs.Common.{[], ℕ, List, pos, replicate, length, None, refl, sym, subst, ap, ◌∙◌, arith}
 use Rattle.stk_meaning.specs.Keys.{parameter_key}
 use Rattle.stk_meaning.specs.Paths.{with_parameters}
 use Rattle.stk_kinded.specs.Kinds.{register_kind, cell_kind}
@@ -62,3 +62,9 @@ returns-clause-stands g c = λ m served.
       kept = cells_shown (shows c.empty_cells.new.values m) now (k36.shown m) (cell_kind G) 0 c.in_ok-cells.cells.items (replicate (length sizes.kept.now) None) (c.in_ok-cells.ensures.value m s2);
       events = subst (λ (xs : List (GuardedEvent g.row.V-Value.Denot)). Live (now Int) xs []) (sym c.new.ensures.items) refl;
     }
+
+pub returns-clause-cells : goal.returns-clause-cells
+returns-clause-cells g c = c.in_ok-cells.ensures.count ∙ ap length c.requires.kept
+
+pub returns-clause-charge : goal.returns-clause-charge
+returns-clause-charge g c = omega (arith, c.in_ok-registers.ensures.charge, c.in_ok-set_parameters.ensures.charge, c.in_ok-cells.ensures.charge, c.in_ok-guard.ensures.charge, c.in_ok-broken.ensures.charge, c.in_ok-continued.ensures.charge)

@@ -28,4 +28,8 @@ loop-node-preserved g c =
       (λ m served.
           let whole = row_more (shows now m) kinds 0 xs (replicate n (pos 0)) x (pos 0) (row_shown (shows was m) (shows now m) (k.shown m) kinds 0 xs (replicate n (pos 0)) (so_far.3 m served)) (subst (λ (i : IntKind). shows now m i x (pos 0)) kind (c.in_ok-none.ensures.value m (so_far.0.served m served))) in
           subst (λ (zs : List ℤ). RowShows (shows now m) kinds 0 c.push.new.self.items zs) (one_longer n (pos 0)) (subst (λ (ys : List g.row.V-Value.Denot). RowShows (shows now m) kinds 0 ys (replicate n (pos 0) ++ pos 0 ∷ [])) (sym pushed) whole)),
+      omega (arith, so_far.4, c.in_ok-none.ensures.charge),
     )
+
+pub returns-clause-charge : goal.returns-clause-charge
+returns-clause-charge g c = c.loop-node.invariant.4

@@ -1,4 +1,4 @@
-use Rattle.std.proofs.Common.{◌≡◌, List, ℤ, length, pos, replicate}
+use Rattle.std.proofs.Common.{◌≡◌, List, ℤ, length, pos, replicate, ◌≤◌}
 use Rattle.stk_values.specs.Keeping.{Keeps}
 use Rattle.stk_kinded.specs.Kinds.{register_kind}
 use Rattle.stk_walking.specs.Stands.{RowShows, RowMade}
@@ -11,3 +11,4 @@ invariant-loop-node g l =
     × (length l.row.items ≡ l.node)
     × RowMade (g.V.Values.made l.values) (register_kind G) 0 l.row.items
     × ((m : List ℤ) → g.V.Values.serves l.fn.values m → RowShows (g.V.Values.shows l.values m) (register_kind G) 0 l.row.items (replicate l.node (pos 0)))
+    × (g.V.Values.cost l.values ≤ g.V.Values.cost l.fn.values)

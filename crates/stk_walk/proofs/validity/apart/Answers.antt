@@ -1,4 +1,4 @@
-use Rattle.std.proofs.Common.{pos, subst}
+use Rattle.std.proofs.Common.{pos, subst, arith}
 use Rattle.stk_ctype.specs.declared.kind.IntKind.TheVariants.{Int}
 use Rattle.stk_values.specs.Keeping.{truth}
 use Rattle.stk_walk.specs.Located.{wrapped_end}
@@ -19,3 +19,6 @@ returns-clause-value g c = λ m a served hx hy.
     let first = subst (λ b. shows c.compare.new.self m Int c.in_ok-first.first (truth b)) (before (a x.node) (wrapped_end a y)) (c.in_ok-first.ensures.value m (pos (a x.node)) (pos (wrapped_end a y)) served hx.address hy.end) in
     let second = subst (λ b. shows c.compare-2.new.self m Int c.in_ok-second.second (truth b)) (before (a y.node) (wrapped_end a x)) (c.in_ok-second.ensures.value m (pos (a y.node)) (pos (wrapped_end a x)) s1 (k1.shown m _ _ _ hy.address) (k1.shown m _ _ _ hx.end)) in
     c.in_ok-found.ensures.value m _ s3 (c.in_ok-shared.ensures.value m _ _ s2 (k2.shown m _ _ _ first) second)
+
+pub returns-clause-charge : goal.returns-clause-charge
+returns-clause-charge g c = omega (arith, c.in_ok-first.ensures.charge, c.in_ok-second.ensures.charge, c.in_ok-shared.ensures.charge, c.in_ok-found.ensures.charge)

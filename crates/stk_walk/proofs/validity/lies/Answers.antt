@@ -22,3 +22,6 @@ returns-clause-value g c = λ m n served h.
     let last = subst (λ (z : ℤ). shows c.constant.new.self m ULong c.in_ok-last.last z) (stays (2 ^ 64 - 1 - c.args.size) c.from.result (omega arith) c.from.ensures) (c.in_ok-last.ensures.value m s2) in
     let second = subst (λ (b : Bool). shows c.compare-2.new.self m Int c.in_ok-ends.ends (truth b)) (ends n c.args.size few) (c.in_ok-ends.ensures.value m (pos n) (pos (2 ^ 64 - 1 - c.args.size)) s3 at3 last) in
     c.in_ok-both.ensures.value m _ _ s4 (k4.shown m _ _ _ (k3.shown m _ _ _ first)) second
+
+pub returns-clause-charge : goal.returns-clause-charge
+returns-clause-charge g c = omega (arith, c.in_ok-none.ensures.charge, c.in_ok-begins.ensures.charge, c.in_ok-last.ensures.charge, c.in_ok-ends.ensures.charge, c.in_ok-both.ensures.charge)

@@ -1,5 +1,6 @@
 use Rattle.stk_meaning.specs.Keys.{address_key}
 use Rattle.stk_meaning.specs.Operations.{to_address}
+use Rattle.std.proofs.Common.{arith}
 use Rattle.stk_walk.proofs.validity.locate.Goals as goal
 
 pub returns-clause-value : goal.returns-clause-value
@@ -11,3 +12,6 @@ returns-clause-value g c = λ m served.
     let s2 = k2.served m s1 in
     let address = c.in_ok-address.ensures.value m x s1 (c.in_ok-key.ensures.value m served) in
     record { address = c.in_ok-end.ensures.keeps.shown m _ _ _ address; end = c.in_ok-end.ensures.value m (to_address x) s2 address }
+
+pub returns-clause-charge : goal.returns-clause-charge
+returns-clause-charge g c = omega (arith, c.in_ok-key.ensures.charge, c.in_ok-address.ensures.charge, c.in_ok-end.ensures.charge)

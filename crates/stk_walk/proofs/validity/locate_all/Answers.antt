@@ -42,4 +42,8 @@ loop-object-preserved g c =
             subst (λ (ys : List (Located g.row.V-Value.Denot)). AreLocated (shows now m ULong) a ys) (sym pushed) whole,
             subst (λ (b : Bool). shows now m Int c.in_ok-lie-2.lie (bit b)) same lie,
           )),
+      omega (arith, so_far.5, c.in_ok-x.ensures.charge, c.in_ok-lie-2.ensures.charge),
     )
+
+pub returns-clause-charge : goal.returns-clause-charge
+returns-clause-charge g c = omega (arith, c.loop-object.invariant.5)

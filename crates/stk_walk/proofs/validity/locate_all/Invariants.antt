@@ -1,4 +1,4 @@
-use Rattle.std.proofs.Common.{◌≡◌, List, ℤ, take}
+use Rattle.std.proofs.Common.{◌≡◌, List, ℤ, take, ◌≤◌, ◌+◌, ◌*◌}
 use Rattle.stk_ctype.specs.declared.kind.IntKind.TheVariants.{Int, ULong}
 use Rattle.stk_meaning.specs.Operations.{bit}
 use Rattle.stk_values.specs.Keeping.{Keeps}
@@ -14,3 +14,4 @@ invariant-loop-object g l =
     × g.V.Values.made l.values Int l.lie
     × AreLocatedMade (g.V.Values.made l.values ULong) l.list.items
     × ((m : List ℤ) → g.V.Values.serves l.fn.values m → AreLocated (g.V.Values.shows l.values m ULong) (addresses_in (g.O.WalkSetting.under l.out m)) l.list.items × g.V.Values.shows l.values m Int l.lie (bit (all_lie (addresses_in (g.O.WalkSetting.under l.out m)) (objects_of l.list.items))))
+    × (g.V.Values.cost l.values ≤ g.V.Values.cost l.fn.values + 1926 * l.object-index)

@@ -1,4 +1,4 @@
-use Rattle.std.proofs.Common.{◌≡◌, ◌∙◌, ◌++◌, ℕ, List, Bool, map, pos, replicate, length, None, refl, ap, sym, subst}
+use Rattle.std.proofs.Common.{◌≡◌, ◌∙◌, ◌++◌, ℕ, List, Bool, map, pos, replicate, length, None, refl, ap, sym, subst, ◌+◌, ◌*◌, ◌≤◌, arith}
 use Rattle.stk_ctype.specs.declared.kind.IntKind.TheVariants.{Int}
 use Rattle.stk_tree.specs.declared.statement.Stmt.{Stmt, out-Stmt}
 use Rattle.stk_tree.specs.Syntax.{StmtTree}
@@ -31,12 +31,16 @@ use Rattle.stk_event_laws.proofs.EventLaws.{events_listed, events_once}
 use Rattle.stk_event_laws.proofs.Places.{traces_listed}
 use Rattle.stk_event_laws.proofs.Saying.{live_says}
 use Rattle.stk_walk.specs.declared.objects.WalkObject.{WalkObject}
-use Rattle.stk_walk.specs.Validity.{addresses_valid}
+use Rattle.stk_walk.specs.Validity.{addresses_valid, walk_object, pairs_in}
 use Rattle.stk_walk.specs.Starting.{started}
 use Rattle.stk_walk.specs.Steps.{AreHitsIn}
 use Rattle.stk_walk.proofs.ByPairs.{valid_by_pairs}
-use Rattle.stk_walk.proofs.Once.{steps_once}
+use Rattle.stk_walk.proofs.Once.{steps_once, steps_say}
 use Rattle.stk_walk.proofs.Tracing.{trace_is, listed_hits, tests_made}
+use Rattle.std.proofs.lemmas.List.{length-map}
+use Rattle.stk_spending.specs.Statements.{statement_spent}
+use Rattle.stk_walking.proofs.Costing.{plus, free_by, free_last}
+use Rattle.stk_walk.proofs.Paired.{pairs_are, both_equal}
 use Rattle.stk_walk.proofs.walking.walk.Goals as goal
 
 node_is : (x : Stmt) → statement_node (view_statement x) ≡ (out-Stmt x).node.number
@@ -121,3 +125,32 @@ returns-clause-once g c = λ ty without f h.
     let inside = subst (λ (cs : List Candidate). AreHitsIn cs (events_in c.as_slice.result.now)) (sym h.candidates) hits in
     let once = subst (λ (xs : List Event). StandOnce xs) (sym events) (events_once ty without f h.numbered h.scalars) in
     subst (λ (ys : List (Step g.row.V-Value.Denot)). StandOnce (map (λ y. event_of y) ys)) (sym (c.from_vec.ensures ∙ c.in_ok-steps.ensures.are order inside)) (steps_once parts.candidates.now c.as_slice.result.now inside once)
+
+pub returns-clause-listed : goal.returns-clause-listed
+returns-clause-listed g c =
+    λ ty without f h.
+    let G = g.O.PathSetting.setting c.args.out.now in
+    let parts = c.args.parts.now in
+    let body = view_statement parts.body.now in
+    let slice = c.as_slice.ensures.value in
+    let order : AreInOrder CandidateBefore parts.candidates.now = subst (λ (xs : List Candidate). AreInOrder CandidateBefore xs) (sym h.candidates) (candidates_in_order ty f h.numbered) in
+    let events : events_in c.as_slice.result.now ≡ statement_events (setting_of ty without f) (body_of f) =
+    ap (λ (xs : List (GuardedEvent g.row.V-Value.Denot)). events_in xs) slice ∙ c.in_ok-walk_body.ensures.events ∙ ap (λ (xs : List (GuardedEvent g.row.V-Value.Denot)). events_in xs ++ statement_events G body) c.in_ok-state.ensures.steps
+    ∙ ap (λ x. statement_events x body) h.setting ∙ ap (λ x. statement_events (setting_of ty without f) x) h.body in
+    let hits = subst (λ (xs : List Event). AreHitsIn (candidates ty f) xs) (sym events) (listed_hits ty without f (statement_events (setting_of ty without f) (body_of f)) (events_listed ty without f h.scalars)) in
+    let inside = subst (λ (cs : List Candidate). AreHitsIn cs (events_in c.as_slice.result.now)) (sym h.candidates) hits in
+    let are = c.from_vec.ensures ∙ c.in_ok-steps.ensures.are order inside in
+    ap (λ (ys : List (Step g.row.V-Value.Denot)). map (λ y. event_of y) ys) are ∙ steps_say parts.candidates.now c.as_slice.result.now
+    ∙ ap (λ (xs : List Event). map (listed_event parts.candidates.now) xs) events ∙ ap (λ (cs : List Candidate). map (listed_event cs) (statement_events (setting_of ty without f) (body_of f))) h.candidates
+
+pub returns-clause-cost : goal.returns-clause-cost
+returns-clause-cost g c =
+    λ ty without f h.
+    let G = g.O.PathSetting.setting c.args.out.now in
+    let body = view_statement c.args.parts.now.body.now in
+    let few : length c.in_ok-state.state.cells.items ≤ length G.kept = omega (arith, c.in_ok-state.ensures.cells) in
+    let walked = c.in_ok-walk_body.ensures.cost.within few in
+    let at = ap (λ (x : Setting). statement_spent x body) h.setting ∙ ap (λ x. statement_spent (setting_of ty without f) x) h.body in
+    let objects = ap (λ (xs : List WalkObject). 1926 * length xs) h.objects ∙ ap (λ n. 1926 * n) (length-map (objects_of ty without f) (walk_object (kept_of ty without f))) in
+    let pairs = ap (λ (xs : List WalkObject). 1286 * pairs_in xs) h.objects ∙ ap (λ n. 1286 * n) (pairs_are (kept_of ty without f) (objects_of ty without f)) in
+    plus _ _ _ (free_last _ _ (free_by _ (both_equal objects pairs) c.in_ok-valid.ensures.charge) c.in_ok-state.ensures.charge) (free_by _ at walked)

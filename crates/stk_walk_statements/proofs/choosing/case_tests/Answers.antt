@@ -11,6 +11,10 @@ use Rattle.stk_exec_stmt.proofs.StatementViews.{at_section}
 use Rattle.stk_walking.proofs.Carried.{keeps_none, keeps_then}
 use Rattle.stk_walk_statements.specs.Selected.{TestsMade, TestsLead, goes_if, is_none}
 use Rattle.stk_walk_statements.proofs.Sectioning.{tests_made_still, tests_made_more, tests_still, tests_more, first_by, behind_by, none_by, goes_nowhere, and_true}
+use Rattle.stk_numbers.specs.Kinds.{width_of}
+use Rattle.stk_spending.specs.Statements.{case_spent, cases_spent}
+use Rattle.stk_walking.proofs.Costing.{plus, at_most, one_completes, charged_all}
+use Rattle.stk_walk_statements.proofs.Spending.{case_within}
 use Rattle.stk_walk_statements.proofs.choosing.case_tests.Goals as goal
 
 pub loop-x-init : goal.loop-x-init
@@ -18,7 +22,7 @@ loop-x-init g c =
     let V = g.V.Values in
     let none = c.new-tests.ensures.items in
     let tests : TestsMade (V.made c.args.values.now) c.new-tests.result.items = rw none tt in
-    (keeps_none V.serves V.has_key V.made V.shows c.args.values.now, c.requires.guard, tests, ap length none, (λ m x a served hx ha. (a, ha, rw none refl, refl)))
+    (keeps_none V.serves V.has_key V.made V.shows c.args.values.now, c.requires.guard, tests, ap length none, (λ m x a served hx ha. (a, ha, rw none refl, refl)), record { so_far = 0; within = omega arith; completes = omega arith })
 
 pub has_case-requires : goal.has_case-requires
 has_case-requires g c = c.loop-x.invariant.0.made_still _ _ c.requires.number
@@ -41,7 +45,11 @@ loop-x-preserved g c =
     let d = c.x-item.result in
     let step = next_of list i d c.loop-x-test.true c.x-item.is in
     let items = c.loop-x.tests.items in
-    let own : labels (map view_label c.as_slice.result.now) ≡ labels_of (view_section d) = ap (λ ls. labels (map view_label ls)) c.as_slice.ensures ∙ sym (ap labels_of (at_section d)) in (
+    let own : labels (map view_label c.as_slice.result.now) ≡ labels_of (view_section d) = ap (λ ls. labels (map view_label ls)) c.as_slice.ensures ∙ sym (ap labels_of (at_section d)) in
+    let w = width_of c.args.kind in
+    let spent = so_far.5 in
+    let labelled = rw own at c.in_ok-case.ensures.charge in
+    let completes : spent.so_far + cases_spent (sections (map view_section (d ∷ drop (i + 1) list))) w ≡ cases_spent (sections (map view_section list)) w = rw step at spent.completes in (
       keeps_then V.serves V.has_key V.made V.shows c.args.values.now c.loop-x.values c.parted.new.values so_far.0 k23,
       c.in_ok-here.ensures.rest,
       (rw c.in_ok-push.ensures.items (tests_made_more (made c.parted.new.values) items c.in_ok-here.here (tests_made_still (made c.loop-x.values) (made c.parted.new.values) k23.made_still items so_far.2) c.in_ok-here.ensures.here)),
@@ -63,6 +71,7 @@ loop-x-preserved g c =
           let more = tests_more (shows c.parted.new.values m) items c.in_ok-here.here (goes_if a whole) (goes_if b next) (tests_still (shows c.loop-x.values m) (shows c.parted.new.values m) (k23.shown m) items (goes_if a whole) (goes_if b next) lead) first in
           let now : TestsLead (shows c.parted.new.values m) (items ++ c.in_ok-here.here ∷ []) (goes_if a whole) (goes_if (b && not e) o) = subst (λ (p : Option ℕ). TestsLead (shows c.parted.new.values m) (items ++ c.in_ok-here.here ∷ []) (goes_if a whole) p) (behind_by b e o) more in
           (b && not e, two.1, rw c.in_ok-push.ensures.items now, none_by b e o ∙ none)),
+      record { so_far = spent.so_far + case_spent (view_section d) w; within = at_most _ (plus _ _ _ (plus _ _ _ spent.within labelled) c.in_ok-here.ensures.charge) (case_within spent.so_far (view_section d) w); completes = one_completes _ _ _ _ completes },
     )
 
 pub returns-clause-value : goal.returns-clause-value
@@ -78,3 +87,10 @@ returns-clause-value g c = λ m x a served hx ha.
       subst (λ (p : Option ℕ). TestsLead (shows c.loop-x.values m) c.loop-x.tests.items (goes_if a whole) p) (goes_nowhere b) lead,
       subst (λ (z : Bool). shows c.loop-x.values m Int c.loop-x.left (bit z)) (and_true b ∙ none) y.1,
     )
+
+pub returns-clause-charge : goal.returns-clause-charge
+returns-clause-charge g c =
+    let w = width_of c.args.kind in
+    let ended : drop c.loop-x.x-index c.args.list.now ≡ [] = drop_all c.loop-x.x-index c.args.list.now (omega arith) in
+    let rest : cases_spent (sections (map view_section (drop c.loop-x.x-index c.args.list.now))) w ≡ 0 = ap (λ z. cases_spent (sections (map view_section z)) w) ended in
+    charged_all rest c.loop-x.invariant.5

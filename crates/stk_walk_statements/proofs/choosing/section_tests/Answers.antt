@@ -5,6 +5,8 @@ use Rattle.stk_meaning.specs.Operations.{bit}
 use Rattle.stk_meaning.specs.Statements.{has_case, has_default, sections_before, or_default}
 use Rattle.stk_walk_statements.specs.Selected.{TestsShow, goes_if, is_none}
 use Rattle.stk_walk_statements.proofs.Sectioning.{before_within, no_default, none_left}
+use Rattle.stk_walking.proofs.Costing.{at_most, plus}
+use Rattle.stk_walk_statements.proofs.Spending.{some_more}
 use Rattle.stk_walk_statements.proofs.choosing.section_tests.Goals as goal
 
 pub with_default-requires-clause-within : goal.with_default-requires-clause-within
@@ -39,3 +41,9 @@ returns-in_ok-all-in-Some-clause-value g c = λ m x a served hx ha.
       subst (λ (o : Option ℕ). TestsShow (shows c.with_default.new.values m) all.all.0.items (goes_if a o)) same z.0,
       subst (λ (b : Bool). shows c.with_default.new.values m Int all.all.1 (bit b)) (none_left a cases at ∙ ap (λ o. a && is_none o) same) z.1,
     )
+
+pub returns-in-None-clause-charge : goal.returns-in-None-clause-charge
+returns-in-None-clause-charge g c = at_most _ c.in_ok-tests.ensures.charge (some_more _ 3)
+
+pub returns-in_ok-all-in-Some-clause-charge : goal.returns-in_ok-all-in-Some-clause-charge
+returns-in_ok-all-in-Some-clause-charge g c = plus _ _ _ c.in_ok-tests.ensures.charge c.in_ok-all-in-Some.ensures.charge

@@ -1,4 +1,4 @@
-use Rattle.std.proofs.Common.{[], ◌∷◌, Bool, ◌∙◌, subst}
+use Rattle.std.proofs.Common.{[], ◌∷◌, Bool, ◌∙◌, subst, sym, length}
 use Rattle.std.specs.Prelude.{if◌then◌else◌}
 use Rattle.stk_tree.specs.View.{view_expression}
 use Rattle.stk_type_rules.specs.Types.{is_scalar}
@@ -11,10 +11,11 @@ use Rattle.stk_guarded.specs.Statements.{Declares}
 use Rattle.stk_guarded.proofs.Statements.{declares_then, goes_declares}
 use Rattle.stk_walking.proofs.Carried.{keeps_then}
 use Rattle.stk_walk_statements.proofs.Declaring.{kept_declares}
+use Rattle.stk_walking.proofs.Costing.{costs_then}
 use Rattle.stk_walk_statements.proofs.declarations.begun_by.Goals as goal
 
-pub returns-in_ok-begun_with : goal.returns-in_ok-begun_with
-returns-in_ok-begun_with g c =
+pub returns-in_ok-begun_with-clause-walked : goal.returns-in_ok-begun_with-clause-walked
+returns-in_ok-begun_with-clause-walked g c =
     let V = g.V.Values in
     let G = g.O.PathSetting.setting c.args.out.now in
     let e = view_expression c.args.e.now in
@@ -38,8 +39,8 @@ returns-in_ok-begun_with g c =
       keeps = keeps_then V.serves V.has_key V.made V.shows c.args.values.now c.converted_value.new.values c.begun_with.new.values x.keeps y.keeps;
     }
 
-pub returns-in_ok-forget : goal.returns-in_ok-forget
-returns-in_ok-forget g c =
+pub returns-in_ok-forget-clause-walked : goal.returns-in_ok-forget-clause-walked
+returns-in_ok-forget-clause-walked g c =
     let V = g.V.Values in
     let G = g.O.PathSetting.setting c.args.out.now in
     let e = view_expression c.args.e.now in
@@ -62,3 +63,9 @@ returns-in_ok-forget g c =
           };
       keeps = keeps_then V.serves V.has_key V.made V.shows c.args.values.now c.converted_value.new.values c.forget.new.values x.keeps y.keeps;
     }
+
+pub returns-in_ok-begun_with-clause-cost : goal.returns-in_ok-begun_with-clause-cost
+returns-in_ok-begun_with-clause-cost g c = rw (sym c.if-is_scalar_at.ensures) (costs_then c.in_ok-number.ensures.cost c.in_ok-begun_with.ensures.cost)
+
+pub returns-in_ok-forget-clause-cost : goal.returns-in_ok-forget-clause-cost
+returns-in_ok-forget-clause-cost g c = rw (sym c.if-is_scalar_at.ensures) (costs_then c.in_ok-number.ensures.cost (c.in_ok-forget.ensures.cost (length (g.O.PathSetting.setting c.args.out.now).kept)))

@@ -1,7 +1,7 @@
-use Rattle.std.proofs.Common.{◌≡◌, ℤ, List, Some, set, sym, ap, ◌∙◌, subst}
+use Rattle.std.proofs.Common.{◌≡◌, ℤ, List, Some, set, sym, ap, ◌∙◌, subst, length}
 use Rattle.stk_ctype.specs.declared.kind.IntKind.{IntKind}
 use Rattle.stk_meaning.specs.Typings.{number_kind, converted}
-use Rattle.stk_meaning.specs.Places.{Target, in_register, in_kept, target_at}
+use Rattle.stk_meaning.specs.Places.{Target, in_register, in_kept, target_at, in_object, unnamed}
 use Rattle.stk_operators.specs.Targets.{target_shown}
 use Rattle.stk_kinded.specs.Kinds.{Suits, register_kind, cell_kind}
 use Rattle.stk_guarded.specs.Standing.{moved_to}
@@ -9,6 +9,7 @@ use Rattle.stk_walking.specs.Stands.{RowShows}
 use Rattle.stk_walking.proofs.Carried.{is_made_still, stands_still}
 use Rattle.stk_walking.proofs.Rows.{row_set, row_made_set, zero_then}
 use Rattle.stk_walk_statements.proofs.Declaring.{if_same, register_with, kept_with}
+use Rattle.stk_walking.proofs.Costing.{costs_none}
 use Rattle.stk_walk_statements.proofs.declarations.begun_with.Goals as goal
 
 pub returns-in-Register-clause-made : goal.returns-in-Register-clause-made
@@ -104,3 +105,28 @@ returns-in_ok-store_cell-in-Kept-clause-follows g c = λ m s x served hv at0.
       };
       is = kept_with G (g.O.WalkSetting.under c.args.out.now m) c.args.k at x s e;
     }
+
+pub returns-in-Register-clause-cost : goal.returns-in-Register-clause-cost
+returns-in-Register-clause-cost g c =
+    let G = g.O.PathSetting.setting c.args.out.now in
+    let e : target_at G c.args.k ≡ in_register c.in-Register.at = sym c.target_at.ensures ∙ ap target_shown c.in-Register.is in
+    rw e costs_none
+
+pub returns-in_ok-store_cell-in-Kept-clause-cost : goal.returns-in_ok-store_cell-in-Kept-clause-cost
+returns-in_ok-store_cell-in-Kept-clause-cost g c =
+    let G = g.O.PathSetting.setting c.args.out.now in
+    let e : target_at G c.args.k ≡ in_kept c.in-Kept.at = sym c.target_at.ensures ∙ ap target_shown c.in-Kept.is in
+    let stored = rw c.kind_at-kind.ensures at c.in_ok-store_cell-in-Kept.ensures.cost in
+    rw e (stored (length G.kept))
+
+pub returns-in-Object-clause-cost : goal.returns-in-Object-clause-cost
+returns-in-Object-clause-cost g c =
+    let G = g.O.PathSetting.setting c.args.out.now in
+    let e : target_at G c.args.k ≡ in_object c.in-Object.field-0 = sym c.target_at.ensures ∙ ap target_shown c.in-Object.is in
+    rw e costs_none
+
+pub returns-in_ok-forget-in-Unnamed-clause-cost : goal.returns-in_ok-forget-in-Unnamed-clause-cost
+returns-in_ok-forget-in-Unnamed-clause-cost g c =
+    let G = g.O.PathSetting.setting c.args.out.now in
+    let e : target_at G c.args.k ≡ unnamed = sym c.target_at.ensures ∙ ap target_shown c.in-Unnamed.is in
+    rw e (c.in_ok-forget-in-Unnamed.ensures.cost (length G.kept))

@@ -1,8 +1,8 @@
-use Rattle.std.proofs.Common.{◌≡◌, ◌+◌, ℤ, List, None, set, refl, sym, ap, ◌∙◌, subst}
+use Rattle.std.proofs.Common.{◌≡◌, ◌+◌, ℤ, List, None, set, refl, sym, ap, ◌∙◌, subst, length}
 use Rattle.stk_ctype.specs.declared.kind.IntKind.{IntKind}
 use Rattle.stk_meaning.specs.Typings.{number_kind}
 use Rattle.stk_meaning.specs.Keys.{unset_key}
-use Rattle.stk_meaning.specs.Places.{Target, in_register, in_kept, target_at}
+use Rattle.stk_meaning.specs.Places.{Target, in_register, in_kept, target_at, in_object, unnamed}
 use Rattle.stk_operators.specs.Targets.{target_shown}
 use Rattle.stk_kinded.specs.Kinds.{Suits, register_kind, cell_kind}
 use Rattle.stk_guarded.specs.Standing.{moved_to}
@@ -12,10 +12,11 @@ use Rattle.stk_walking.proofs.Carried.{is_made_still, stands_still}
 use Rattle.stk_walking.proofs.Rows.{row_set, row_made_set, zero_then}
 use Rattle.stk_walk_statements.proofs.Walking.{events_none}
 use Rattle.stk_walk_statements.proofs.Declaring.{if_same, register_without, kept_without}
+use Rattle.stk_walking.proofs.Costing.{costs_free, costs_none}
 use Rattle.stk_walk_statements.proofs.declarations.begun_without.Goals as goal
 
-pub returns-in_ok-number-in-Register : goal.returns-in_ok-number-in-Register
-returns-in_ok-number-in-Register g c =
+pub returns-in_ok-number-in-Register-clause-walked : goal.returns-in_ok-number-in-Register-clause-walked
+returns-in_ok-number-in-Register-clause-walked g c =
     let made = g.V.Values.made in
     let shows = g.V.Values.shows in
     let G = g.O.PathSetting.setting c.args.out.now in
@@ -59,8 +60,8 @@ returns-in_ok-number-in-Register g c =
       keeps = k1;
     }
 
-pub returns-in_ok-remove_cell-in-Kept : goal.returns-in_ok-remove_cell-in-Kept
-returns-in_ok-remove_cell-in-Kept g c =
+pub returns-in_ok-remove_cell-in-Kept-clause-walked : goal.returns-in_ok-remove_cell-in-Kept-clause-walked
+returns-in_ok-remove_cell-in-Kept-clause-walked g c =
     let made = g.V.Values.made in
     let shows = g.V.Values.shows in
     let G = g.O.PathSetting.setting c.args.out.now in
@@ -96,3 +97,27 @@ returns-in_ok-remove_cell-in-Kept g c =
           };
       keeps = k1;
     }
+
+pub returns-in_ok-number-in-Register-clause-cost : goal.returns-in_ok-number-in-Register-clause-cost
+returns-in_ok-number-in-Register-clause-cost g c =
+    let G = g.O.PathSetting.setting c.args.out.now in
+    let e : target_at G c.args.k ≡ in_register c.in-Register.at = sym c.target_at.ensures ∙ ap target_shown c.in-Register.is in
+    rw e (costs_free refl c.in_ok-number-in-Register.ensures.charge)
+
+pub returns-in_ok-remove_cell-in-Kept-clause-cost : goal.returns-in_ok-remove_cell-in-Kept-clause-cost
+returns-in_ok-remove_cell-in-Kept-clause-cost g c =
+    let G = g.O.PathSetting.setting c.args.out.now in
+    let e : target_at G c.args.k ≡ in_kept c.in-Kept.at = sym c.target_at.ensures ∙ ap target_shown c.in-Kept.is in
+    rw e (c.in_ok-remove_cell-in-Kept.ensures.cost (length G.kept))
+
+pub returns-in-Object-clause-cost : goal.returns-in-Object-clause-cost
+returns-in-Object-clause-cost g c =
+    let G = g.O.PathSetting.setting c.args.out.now in
+    let e : target_at G c.args.k ≡ in_object c.in-Object.field-0 = sym c.target_at.ensures ∙ ap target_shown c.in-Object.is in
+    rw e costs_none
+
+pub returns-in-Unnamed-clause-cost : goal.returns-in-Unnamed-clause-cost
+returns-in-Unnamed-clause-cost g c =
+    let G = g.O.PathSetting.setting c.args.out.now in
+    let e : target_at G c.args.k ≡ unnamed = sym c.target_at.ensures ∙ ap target_shown c.in-Unnamed.is in
+    rw e costs_none

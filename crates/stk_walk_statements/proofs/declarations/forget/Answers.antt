@@ -23,3 +23,6 @@ returns-clause-stands g c = λ G m s served at.
       kept = c.in_ok-remove_cells.ensures.shown m (cell_kind G) s.alive s.kept served at.guard at.kept;
       events = still.events;
     }
+
+pub returns-clause-cost : goal.returns-clause-cost
+returns-clause-cost g c = c.in_ok-remove_cells.ensures.cost

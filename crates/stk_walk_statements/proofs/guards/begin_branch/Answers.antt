@@ -1,4 +1,4 @@
-use Rattle.std.proofs.Common.{◌&&◌, not}
+use Rattle.std.proofs.Common.{◌&&◌, not, refl, arith}
 use Rattle.stk_walking.proofs.Carried.{is_made_still, is_made_guarded, stands_still}
 use Rattle.stk_walking.proofs.Leading.{stands_guarded}
 use Rattle.stk_walk_statements.proofs.guards.begin_branch.Goals as goal
@@ -23,3 +23,9 @@ returns-clause-stands g c = λ G m s b served ht at.
     let still = stands_still (shows c.args.values.now m) (shows c.both-2.new.self m) (λ k v z h. k3.shown m k v z (k2.shown m k v z (k1.shown m k v z h))) G c.args.state.now s at in
     let guard = c.in_ok-guard.ensures.value m s.alive b (k2.served m (k1.served m served)) (k2.shown m _ _ _ (k1.shown m _ _ _ at.guard)) (k2.shown m _ _ _ (k1.shown m _ _ _ ht)) in
     stands_guarded (shows c.both-2.new.self m) G c.args.state.now s c.in_ok-guard.guard (s.alive && b) still guard
+
+pub returns-clause-charge : goal.returns-clause-charge
+returns-clause-charge g c = omega (arith, c.in_ok-opposite.ensures.charge, c.in_ok-other.ensures.charge, c.in_ok-guard.ensures.charge)
+
+pub returns-clause-cells : goal.returns-clause-cells
+returns-clause-cells g c = refl

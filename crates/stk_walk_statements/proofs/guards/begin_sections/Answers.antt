@@ -1,4 +1,5 @@
 use Rattle.stk_walking.proofs.Carried.{is_made_still, stands_still}
+use Rattle.std.proofs.Common.{refl, arith}
 use Rattle.stk_walk_statements.proofs.guards.begin_sections.Goals as goal
 
 pub returns-clause-made : goal.returns-clause-made
@@ -13,3 +14,9 @@ returns-clause-stands g c = λ G m s served at.
     let still = stands_still (shows c.args.values.now m) (shows c.zero.new.values m) (c.in_ok-none.ensures.keeps.shown m) G c.args.state.now s at in
     let none = c.in_ok-none.ensures.value m served in
     record { guard = none; broken = none; continued = still.continued; numbers = still.numbers; kept = still.kept; events = still.events }
+
+pub returns-clause-charge : goal.returns-clause-charge
+returns-clause-charge g c = omega (arith, c.in_ok-none.ensures.charge)
+
+pub returns-clause-cells : goal.returns-clause-cells
+returns-clause-cells g c = refl

@@ -1,4 +1,4 @@
-use Rattle.std.proofs.Common.{◌||◌}
+use Rattle.std.proofs.Common.{◌||◌, refl, arith}
 use Rattle.stk_walking.proofs.Carried.{is_made_still, is_made_guarded, stands_still}
 use Rattle.stk_walking.proofs.Leading.{stands_guarded}
 use Rattle.stk_walk_statements.proofs.guards.pass_body.Goals as goal
@@ -13,3 +13,9 @@ returns-clause-stands g c = λ G m s served at.
     let shows = g.V.Values.shows in
     let still = stands_still (shows c.args.values.now m) (shows c.either.new.values m) (c.either.ensures.keeps.shown m) G c.args.state.now s at in
     stands_guarded (shows c.either.new.values m) G c.args.state.now s c.in_ok-guard.guard (s.alive || s.continued) still (c.in_ok-guard.ensures.value m s.alive s.continued served at.guard at.continued)
+
+pub returns-clause-charge : goal.returns-clause-charge
+returns-clause-charge g c = omega (arith, c.in_ok-guard.ensures.charge)
+
+pub returns-clause-cells : goal.returns-clause-cells
+returns-clause-cells g c = refl

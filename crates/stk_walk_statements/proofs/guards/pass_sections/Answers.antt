@@ -1,4 +1,4 @@
-use Rattle.std.proofs.Common.{◌||◌}
+use Rattle.std.proofs.Common.{◌||◌, refl, arith}
 use Rattle.stk_walking.proofs.Carried.{is_made_still, is_made_guarded, stands_still}
 use Rattle.stk_walking.proofs.Leading.{stands_guarded}
 use Rattle.stk_walk_statements.proofs.guards.pass_sections.Goals as goal
@@ -17,3 +17,9 @@ returns-clause-stands g c = λ G m s b served ho at.
     let still = stands_still (shows c.args.values.now m) (shows c.either-2.new.values m) (λ k v z h. k2.shown m k v z (k1.shown m k v z h)) G c.args.state.now s at in
     let passed = c.in_ok-passed.ensures.value m s.alive s.broken served at.guard at.broken in
     stands_guarded (shows c.either-2.new.values m) G c.args.state.now s c.in_ok-guard.guard ((s.alive || s.broken) || b) still (c.in_ok-guard.ensures.value m (s.alive || s.broken) b (k1.served m served) passed (k1.shown m _ _ _ ho))
+
+pub returns-clause-charge : goal.returns-clause-charge
+returns-clause-charge g c = omega (arith, c.in_ok-passed.ensures.charge, c.in_ok-guard.ensures.charge)
+
+pub returns-clause-cells : goal.returns-clause-cells
+returns-clause-cells g c = refl

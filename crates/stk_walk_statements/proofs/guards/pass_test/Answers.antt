@@ -1,4 +1,4 @@
-use Rattle.std.proofs.Common.{◌&&◌, ◌||◌, not}
+use Rattle.std.proofs.Common.{◌&&◌, ◌||◌, not, refl, arith}
 use Rattle.stk_walking.proofs.Carried.{is_made_still, is_made_guarded, stands_still}
 use Rattle.stk_walking.proofs.Leading.{stands_guarded}
 use Rattle.stk_walk_statements.proofs.guards.pass_test.Goals as goal
@@ -20,3 +20,9 @@ returns-clause-stands g c = λ G m s b served ht at.
     let ended = c.in_ok-ended.ensures.value m s.alive (not b) s1 (k1.shown m _ _ _ at.guard) (c.in_ok-opposite.ensures.value m b served ht) in
     let guard = c.in_ok-guard.ensures.value m (s.alive && not b) s.broken (k2.served m s1) ended (k2.shown m _ _ _ (k1.shown m _ _ _ at.broken)) in
     stands_guarded (shows c.either.new.values m) G c.args.state.now s c.in_ok-guard.guard ((s.alive && not b) || s.broken) still guard
+
+pub returns-clause-charge : goal.returns-clause-charge
+returns-clause-charge g c = omega (arith, c.in_ok-opposite.ensures.charge, c.in_ok-ended.ensures.charge, c.in_ok-guard.ensures.charge)
+
+pub returns-clause-cells : goal.returns-clause-cells
+returns-clause-cells g c = refl

@@ -20,6 +20,7 @@ loop-d-init g c =
       refl,
       (λ m js xs served at h.
           subst (λ (ks : List ℕ). SavedShow (V.shows c.args.values.now m) row c.args.saved.now.items ks xs) (sym (append-nil js)) h),
+      omega arith,
     )
 
 pub save-requires-clause-registers : goal.save-requires-clause-registers
@@ -52,6 +53,7 @@ loop-d-preserved g c =
           let registers = row_shown (V.shows c.args.values.now m) (V.shows c.loop-d.values m) (so_far.0.shown m) row 0 c.args.registers.now.items xs at in
           let more = c.in_ok-save.ensures.shown m (js ++ is) xs (so_far.0.served m served) registers (so_far.4 m js xs served at h) in
           subst (λ (ks : List ℕ). SavedShow (V.shows c.save.new.values m) row c.save.new.saved.items ks xs) (ap (λ (n : ℕ). (js ++ is) ++ n ∷ []) (sym node) ∙ append_assoc js is (k ∷ [])) more),
+      omega (arith, so_far.5, c.in_ok-save.ensures.charge),
     )
 
 pub returns-clause-shown : goal.returns-clause-shown
@@ -62,3 +64,6 @@ returns-clause-shown g c = λ m js xs served at h.
     let none : drop c.loop-d.d-index c.args.list.now ≡ [] = drop_all c.loop-d.d-index c.args.list.now (omega arith) in
     let whole : so_far.2 ++ [] ≡ declared_by (declarators (map view_declarator c.args.list.now)) = rw none at so_far.3 in
     subst (λ (ks : List ℕ). SavedShow (V.shows c.loop-d.values m) row c.loop-d.saved.items (js ++ ks) xs) (sym (append-nil so_far.2) ∙ whole) (so_far.4 m js xs served at h)
+
+pub returns-clause-charge : goal.returns-clause-charge
+returns-clause-charge g c = c.loop-d.invariant.5

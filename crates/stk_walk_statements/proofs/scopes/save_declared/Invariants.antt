@@ -1,4 +1,4 @@
-use Rattle.std.proofs.Common.{◌≡◌, ◌++◌, ℕ, ℤ, List, drop, map}
+use Rattle.std.proofs.Common.{◌≡◌, ◌++◌, ℕ, ℤ, List, drop, map, ◌≤◌}
 use Rattle.stk_tree.specs.View.{view_declarator, declarators}
 use Rattle.stk_meaning.specs.Visits.{declared_by}
 use Rattle.stk_kinded.specs.Kinds.{register_kind}
@@ -14,3 +14,4 @@ invariant-loop-d g l =
     × SavedMade (g.V.Values.made l.values) (register_kind (g.O.PathSetting.setting l.fn.out)) l.saved.items
     × (is : List ℕ) × (is ++ declared_by (declarators (map view_declarator (drop l.d-index l.list))) ≡ declared_by (declarators (map view_declarator l.list)))
     × ((m : List ℤ) (js : List ℕ) (xs : List ℤ) → g.V.Values.serves l.fn.values m → RowShows (g.V.Values.shows l.fn.values m) (register_kind (g.O.PathSetting.setting l.fn.out)) 0 l.fn.registers.items xs → SavedShow (g.V.Values.shows l.fn.values m) (register_kind (g.O.PathSetting.setting l.fn.out)) l.fn.saved.items js xs → SavedShow (g.V.Values.shows l.values m) (register_kind (g.O.PathSetting.setting l.fn.out)) l.saved.items (js ++ is) xs)
+    × (g.V.Values.cost l.values ≤ g.V.Values.cost l.fn.values)

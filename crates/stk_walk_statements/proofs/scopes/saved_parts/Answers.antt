@@ -13,7 +13,7 @@ loop-part-init g c =
     let V = g.V.Values in
     let row = register_kind (g.O.PathSetting.setting c.args.out.now) in
     let made : SavedMade (V.made c.args.values.now) row c.new-saved.result.items = rw c.new-saved.ensures.items tt in
-    (keeps_none V.serves V.has_key V.made V.shows c.args.values.now, made, [], refl, (λ m xs served at. rw c.new-saved.ensures.items tt))
+    (keeps_none V.serves V.has_key V.made V.shows c.args.values.now, made, [], refl, (λ m xs served at. rw c.new-saved.ensures.items tt), omega arith)
 
 pub save_part-requires-clause-registers : goal.save_part-requires-clause-registers
 save_part-requires-clause-registers g c =
@@ -43,6 +43,7 @@ loop-part-preserved g c =
       (λ m xs served at.
           let registers = row_shown (V.shows c.args.values.now m) (V.shows c.loop-part.values m) (so_far.0.shown m) row 0 c.args.registers.now.items xs at in
           c.in_ok-save_part.ensures.shown m is xs (so_far.0.served m served) registers (so_far.4 m xs served at)),
+      omega (arith, so_far.5, c.in_ok-save_part.ensures.charge),
     )
 
 pub returns-clause-shown : goal.returns-clause-shown
@@ -53,3 +54,6 @@ returns-clause-shown g c = λ m xs served at.
     let none : drop c.loop-part.part-index c.args.list.now ≡ [] = drop_all c.loop-part.part-index c.args.list.now (omega arith) in
     let whole : so_far.2 ++ [] ≡ parts_declare (parts (map view_part c.args.list.now)) = rw none at so_far.3 in
     subst (λ (ks : List ℕ). SavedShow (V.shows c.loop-part.values m) row c.loop-part.saved.items ks xs) (sym (append-nil so_far.2) ∙ whole) (so_far.4 m xs served at)
+
+pub returns-clause-charge : goal.returns-clause-charge
+returns-clause-charge g c = c.loop-part.invariant.5

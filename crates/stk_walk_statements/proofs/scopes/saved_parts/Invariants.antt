@@ -1,4 +1,4 @@
-use Rattle.std.proofs.Common.{◌≡◌, ◌++◌, ℕ, ℤ, List, drop, map}
+use Rattle.std.proofs.Common.{◌≡◌, ◌++◌, ℕ, ℤ, List, drop, map, ◌≤◌}
 use Rattle.stk_tree.specs.View.{view_part, parts}
 use Rattle.stk_meaning.specs.Visits.{parts_declare}
 use Rattle.stk_kinded.specs.Kinds.{register_kind}
@@ -14,3 +14,4 @@ invariant-loop-part g l =
     × SavedMade (g.V.Values.made l.values) (register_kind (g.O.PathSetting.setting l.fn.out)) l.saved.items
     × (is : List ℕ) × (is ++ parts_declare (parts (map view_part (drop l.part-index l.list))) ≡ parts_declare (parts (map view_part l.list)))
     × ((m : List ℤ) (xs : List ℤ) → g.V.Values.serves l.fn.values m → RowShows (g.V.Values.shows l.fn.values m) (register_kind (g.O.PathSetting.setting l.fn.out)) 0 l.fn.registers.items xs → SavedShow (g.V.Values.shows l.values m) (register_kind (g.O.PathSetting.setting l.fn.out)) l.saved.items is xs)
+    × (g.V.Values.cost l.values ≤ g.V.Values.cost l.fn.values)

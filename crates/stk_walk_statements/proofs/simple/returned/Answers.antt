@@ -1,4 +1,4 @@
-use Rattle.std.proofs.Common.{[], ◌∙◌, subst}
+use Rattle.std.proofs.Common.{[], ◌∙◌, subst, ap, length}
 use Rattle.std.specs.Option.{option_copied}
 use Rattle.stk_tree.specs.View.{given_expression}
 use Rattle.stk_meaning.specs.Worlds.{Ran, Flow, Normal, Return, gives}
@@ -8,14 +8,15 @@ use Rattle.stk_guarded.specs.Statements.{Flows}
 use Rattle.stk_guarded.proofs.Statements.{then_flows}
 use Rattle.stk_walking.proofs.Carried.{keeps_then}
 use Rattle.stk_walk_statements.proofs.Returning.{return_is}
+use Rattle.stk_walking.proofs.Costing.{costs_still}
 use Rattle.stk_walk_statements.proofs.simple.returned.Goals as goal
 
-pub returns : goal.returns
-returns g c =
+pub returns-clause-walked : goal.returns-clause-walked
+returns-clause-walked g c =
     let V = g.V.Values in
     let G = g.O.PathSetting.setting c.args.out.now in
     let e = given_expression (option_copied c.args.e) in
-    let x = c.in_ok-discarded.ensures in
+    let x = c.in_ok-discarded.ensures.walked in
     let y = c.in_ok-leave_by_return.ensures in
     record {
       made = y.made G x.made;
@@ -32,3 +33,6 @@ returns g c =
           };
       keeps = keeps_then V.serves V.has_key V.made V.shows c.args.values.now c.discarded.new.values c.leave_by_return.new.values x.keeps y.keeps;
     }
+
+pub returns-clause-cost : goal.returns-clause-cost
+returns-clause-cost g c = costs_still c.in_ok-discarded.ensures.cost (ap length c.in_ok-leave_by_return.ensures.cells) c.in_ok-leave_by_return.ensures.charge

@@ -52,25 +52,28 @@ use Rattle.stk_walk_statements.proofs.Sectioning.{tests_made_still, tests_made_a
 use Rattle.stk_walk_statements.proofs.Turning.{behind_entered, or_swapped, switched, chosen_flows, alone_behind}
 use Rattle.stk_walk_statements.proofs.Views.{at_local, at_statement_node, at_statement_form}
 use Rattle.stk_walk_statements.proofs.Walking.{events_then, events_behind, events_none, there_still, walked_none, walked_as, walked_then, walked_end}
+use Rattle.stk_spending.specs.Statements.{parts_spent, statements_spent, sections_spent}
+use Rattle.stk_walking.proofs.Costing.{costs_none, costs_then, one_completes, spent_all, costs_step, two_complete, costs_within, costs_only, costs_cells, costs_after, costs_still, costs_more, costs_on_ok}
+use Rattle.stk_walk_statements.proofs.Spending.{none_more, none_before, five_regrouped, six_regrouped, tested_regrouped}
 use Rattle.stk_walk_statements.proofs.statements.+statement.Goals as goal
 
 -- ---- a statement, form by form
 
-pub statement-returns-in-Block : goal.statement-returns-in-Block
-statement-returns-in-Block g t c = rw (at_block c.args.s.now c.in-Block.list c.in-Block.is, ← c.as_slice.ensures) c.block.ensures
+pub statement-returns-in-Block-clause-walked : goal.statement-returns-in-Block-clause-walked
+statement-returns-in-Block-clause-walked g t c = rw (at_block c.args.s.now c.in-Block.list c.in-Block.is, ← c.as_slice.ensures) c.block.ensures.walked
 
-pub statement-returns-in_ok-discarded-in-Plain : goal.statement-returns-in_ok-discarded-in-Plain
-statement-returns-in_ok-discarded-in-Plain g t c =
+pub statement-returns-in_ok-discarded-in-Plain-clause-walked : goal.statement-returns-in_ok-discarded-in-Plain-clause-walked
+statement-returns-in_ok-discarded-in-Plain-clause-walked g t c =
     let V = g.V.Values in
     let G = g.O.PathSetting.setting c.args.out.now in
     let e = given_expression c.in-Plain.e in
-    let part = rw c.as_ref.ensures.value at c.in_ok-discarded-in-Plain.ensures in
+    let part = rw c.as_ref.ensures.value at c.in_ok-discarded-in-Plain.ensures.walked in
     rw (at_expression_statement c.args.s.now c.in-Plain.e c.in-Plain.is)
     (walked_as V.serves V.has_key V.made V.shows G (discarded_events G e) _ _ c.args.values.now c.discarded.new.values c.args.state.now c.discarded.new.state
     (λ m s t h. normal_flows [] (discarded_run G (path_world (g.O.WalkSetting.under c.args.out.now m)) e s.numbers s.kept) s t h) part)
 
-pub statement-returns-in_ok-join-in-If : goal.statement-returns-in_ok-join-in-If
-statement-returns-in_ok-join-in-If g t c =
+pub statement-returns-in_ok-join-in-If-clause-walked : goal.statement-returns-in_ok-join-in-If-clause-walked
+statement-returns-in_ok-join-in-If-clause-walked g t c =
     let V = g.V.Values in
     let G = g.O.PathSetting.setting c.args.out.now in
     let e = view_expression c.in-If.e in
@@ -78,8 +81,8 @@ statement-returns-in_ok-join-in-If g t c =
     let y = maybe_statement (option_map view_statement c.in-If.other) in
     let x1 = c.in_ok-test-in-If.ensures in
     let b1 = c.in_ok-second-in-If.ensures in
-    let y1 = c.in_ok-entered-in-If.ensures in
-    let z1 = c.in_ok-otherwise-in-If.ensures in
+    let y1 = c.in_ok-entered-in-If.ensures.walked in
+    let z1 = c.in_ok-otherwise-in-If.ensures.walked in
     let j1 = c.in_ok-join-in-If.ensures in
     let w0 = events_in c.args.state.now.steps.items in
     let w2 = events_in c.begin_branch.new.state.steps.items in
@@ -116,35 +119,35 @@ statement-returns-in_ok-join-in-If g t c =
           (keeps_then V.serves V.has_key V.made V.shows c.args.values.now c.tested.new.values c.begin_branch.new.values x1.keeps b1.keeps) y1.keeps) z1.keeps) j1.keeps;
     })
 
-pub statement-returns-in-Switch : goal.statement-returns-in-Switch
-statement-returns-in-Switch g t c = rw (at_switch_statement c.args.s.now c.in-Switch.e c.in-Switch.list c.in-Switch.is, ← c.as_slice-in-Switch.ensures) c.switch.ensures
+pub statement-returns-in-Switch-clause-walked : goal.statement-returns-in-Switch-clause-walked
+statement-returns-in-Switch-clause-walked g t c = rw (at_switch_statement c.args.s.now c.in-Switch.e c.in-Switch.list c.in-Switch.is, ← c.as_slice-in-Switch.ensures) c.switch.ensures.walked
 
-pub statement-returns-in_ok-while_loop-in-While : goal.statement-returns-in_ok-while_loop-in-While
-statement-returns-in_ok-while_loop-in-While g t c =
+pub statement-returns-in_ok-while_loop-in-While-clause-walked : goal.statement-returns-in_ok-while_loop-in-While-clause-walked
+statement-returns-in_ok-while_loop-in-While-clause-walked g t c =
     let V = g.V.Values in
     let G = g.O.PathSetting.setting c.args.out.now in
     let e = view_expression c.in-While.e in
     let x = view_statement c.in-While.x in
     let is = at_while_statement c.args.s.now c.in-While.e c.in-While.x c.in-While.is in
-    let left = rw (is, c.get-in-While.ensures) at c.in_ok-while_loop-in-While.ensures in
+    let left = rw (is, c.get-in-While.ensures) at c.in_ok-while_loop-in-While.ensures.walked in
     rw is
     (walked_end V.serves V.has_key V.made V.shows G (tested_events G e ++ (branch_events G x ++ [])) (tested_events G e ++ branch_events G x) _ _ c.args.values.now c.while_loop.new.values c.args.state.now c.while_loop.new.state
     (append-nil (tested_events G e ++ (branch_events G x ++ [])) ∙ ap (λ z. tested_events G e ++ z) (append-nil (branch_events G x))) (λ m s t h. h) left)
 
-pub statement-returns-in-Do : goal.statement-returns-in-Do
-statement-returns-in-Do g t c =
+pub statement-returns-in-Do-clause-walked : goal.statement-returns-in-Do-clause-walked
+statement-returns-in-Do-clause-walked g t c =
     let is = at_do_statement c.args.s.now c.in-Do.x c.in-Do.e c.in-Do.is in
-    let left = rw (is, c.get-in-Do.ensures) at c.do_loop.ensures in
+    let left = rw (is, c.get-in-Do.ensures) at c.do_loop.ensures.walked in
     rw is left
 
-pub statement-returns-in-For : goal.statement-returns-in-For
-statement-returns-in-For g t c =
+pub statement-returns-in-For-clause-walked : goal.statement-returns-in-For-clause-walked
+statement-returns-in-For-clause-walked g t c =
     let is = at_for_statement c.args.s.now c.in-For.first c.in-For.test c.in-For.step c.in-For.x c.in-For.is in
-    let left = rw (is, c.get-in-For.ensures, c.as_ref-test.ensures.value, c.as_ref-in-For.ensures.value) at c.for_loop.ensures in
+    let left = rw (is, c.get-in-For.ensures, c.as_ref-test.ensures.value, c.as_ref-in-For.ensures.value) at c.for_loop.ensures.walked in
     rw is left
 
-pub statement-returns-in_ok-leave_by_break-in-Break : goal.statement-returns-in_ok-leave_by_break-in-Break
-statement-returns-in_ok-leave_by_break-in-Break g t c =
+pub statement-returns-in_ok-leave_by_break-in-Break-clause-walked : goal.statement-returns-in_ok-leave_by_break-in-Break-clause-walked
+statement-returns-in_ok-leave_by_break-in-Break-clause-walked g t c =
     let G = g.O.PathSetting.setting c.args.out.now in
     let x1 = c.in_ok-leave_by_break-in-Break.ensures in
     rw (at_break_statement c.args.s.now c.in-Break.is)
@@ -155,8 +158,8 @@ statement-returns-in_ok-leave_by_break-in-Break g t c =
       keeps = x1.keeps;
     })
 
-pub statement-returns-in_ok-leave_by_continue-in-Continue : goal.statement-returns-in_ok-leave_by_continue-in-Continue
-statement-returns-in_ok-leave_by_continue-in-Continue g t c =
+pub statement-returns-in_ok-leave_by_continue-in-Continue-clause-walked : goal.statement-returns-in_ok-leave_by_continue-in-Continue-clause-walked
+statement-returns-in_ok-leave_by_continue-in-Continue-clause-walked g t c =
     let G = g.O.PathSetting.setting c.args.out.now in
     let x1 = c.in_ok-leave_by_continue-in-Continue.ensures in
     rw (at_continue_statement c.args.s.now c.in-Continue.is)
@@ -167,19 +170,19 @@ statement-returns-in_ok-leave_by_continue-in-Continue g t c =
       keeps = x1.keeps;
     })
 
-pub statement-returns-in-Return : goal.statement-returns-in-Return
-statement-returns-in-Return g t c = rw (at_return_statement c.args.s.now c.in-Return.e c.in-Return.is, ← c.as_ref-in-Return.ensures.value) c.returned.ensures
+pub statement-returns-in-Return-clause-walked : goal.statement-returns-in-Return-clause-walked
+statement-returns-in-Return-clause-walked g t c = rw (at_return_statement c.args.s.now c.in-Return.e c.in-Return.is, ← c.as_ref-in-Return.ensures.value) c.returned.ensures.walked
 
 -- ---- branches
 
-pub entered-returns : goal.entered-returns
-entered-returns g t c =
+pub entered-returns-clause-walked : goal.entered-returns-clause-walked
+entered-returns-clause-walked g t c =
     let V = g.V.Values in
     let G = g.O.PathSetting.setting c.args.out.now in
     let k = (out-Stmt c.args.s.now).node.number in
     let x = view_statement c.args.s.now in
     let e1 = c.in_ok-enter.ensures in
-    let y1 = c.in_ok-statement.ensures in
+    let y1 = c.in_ok-statement.ensures.walked in
     rw (at_statement_node c.args.s.now)
     (record {
       made = y1.made;
@@ -191,16 +194,16 @@ entered-returns g t c =
       keeps = y1.keeps;
     })
 
-pub otherwise-returns-in-None : goal.otherwise-returns-in-None
-otherwise-returns-in-None g t c =
+pub otherwise-returns-in-None-clause-walked : goal.otherwise-returns-in-None-clause-walked
+otherwise-returns-in-None-clause-walked g t c =
     let V = g.V.Values in
     let G = g.O.PathSetting.setting c.args.out.now in
     rw c.in-None.is (walked_none V.serves V.has_key V.made V.shows G _ c.args.values.now c.args.state.now c.requires.made (λ m s. empty_flows s))
 
 -- ---- blocks
 
-pub block-returns : goal.block-returns
-block-returns g t c =
+pub block-returns-clause-walked : goal.block-returns-clause-walked
+block-returns-clause-walked g t c =
     let V = g.V.Values in
     let G = g.O.PathSetting.setting c.args.out.now in
     let row = register_kind G in
@@ -208,7 +211,7 @@ block-returns g t c =
     let ks = parts_declare ps in
     let saved = c.in_ok-saved.saved.items in
     let v1 = c.in_ok-saved.ensures in
-    let p1 = c.in_ok-parts.ensures in
+    let p1 = c.in_ok-parts.ensures.walked in
     let now = c.parts.new.values in
     record {
       made = record {
@@ -243,7 +246,7 @@ block-returns g t c =
 pub parts-loop-p-init : goal.parts-loop-p-init
 parts-loop-p-init g t c =
     let V = g.V.Values in
-    ([], refl, walked_none V.serves V.has_key V.made V.shows (g.O.PathSetting.setting c.args.out.now) _ c.args.values.now c.args.state.now c.requires.made (λ m s u h. h))
+    ([], refl, walked_none V.serves V.has_key V.made V.shows (g.O.PathSetting.setting c.args.out.now) _ c.args.values.now c.args.state.now c.requires.made (λ m s u h. h), record { so_far = 0; costs = costs_none; completes = omega arith })
 
 pub parts-loop-p-preserved : goal.parts-loop-p-preserved
 parts-loop-p-preserved g t c =
@@ -256,18 +259,21 @@ parts-loop-p-preserved g t c =
     let p = view_part c.p-item.result in
     let ps = parts (map view_part (drop (i + 1) list)) in
     let es : List Event = so_far.0 in
-    let whole : es ++ parts_events G (parts (map view_part (c.p-item.result ∷ drop (i + 1) list))) ≡ parts_events G (parts (map view_part list)) = rw step at so_far.1 in (
+    let whole : es ++ parts_events G (parts (map view_part (c.p-item.result ∷ drop (i + 1) list))) ≡ parts_events G (parts (map view_part list)) = rw step at so_far.1 in
+    let spent = so_far.3 in
+    let completes : spent.so_far + parts_spent G (parts (map view_part (c.p-item.result ∷ drop (i + 1) list))) ≡ parts_spent G (parts (map view_part list)) = rw step at spent.completes in (
       es ++ part_events G p,
       append_assoc es (part_events G p) (parts_events G ps) ∙ whole,
       walked_then V.serves V.has_key V.made V.shows G es (part_events G p) _ _ _ c.args.values.now c.loop-p.values c.part.new.values c.args.state.now c.loop-p.state c.part.new.state
           (λ m s t u x y. λ v h.
           let W = path_world (g.O.WalkSetting.under c.args.out.now m) in
           x v (rw step (next_flows (part_declares p) (parts_declare ps) (part_run G W p t.numbers t.kept) (λ r k. parts_run G W ps r k) t u v y h)))
-          so_far.2 c.in_ok-part.ensures,
+          so_far.2 c.in_ok-part.ensures.walked,
+      record { so_far = _; costs = costs_then spent.costs c.in_ok-part.ensures.cost; completes = one_completes _ _ _ _ completes },
     )
 
-pub parts-returns : goal.parts-returns
-parts-returns g t c =
+pub parts-returns-clause-walked : goal.parts-returns-clause-walked
+parts-returns-clause-walked g t c =
     let V = g.V.Values in
     let G = g.O.PathSetting.setting c.args.out.now in
     let list = c.args.list.now in
@@ -279,20 +285,20 @@ parts-returns g t c =
     walked_end V.serves V.has_key V.made V.shows G es all _ _ c.args.values.now c.loop-p.values c.args.state.now c.loop-p.state whole
     (λ m s t p. p t (rw none (empty_flows t))) so_far.2
 
-pub part-returns-in_ok-declaration-in-Local : goal.part-returns-in_ok-declaration-in-Local
-part-returns-in_ok-declaration-in-Local g t c =
+pub part-returns-in_ok-declaration-in-Local-clause-walked : goal.part-returns-in_ok-declaration-in-Local-clause-walked
+part-returns-in_ok-declaration-in-Local-clause-walked g t c =
     let V = g.V.Values in
     let G = g.O.PathSetting.setting c.args.out.now in
     rw (at_local c.args.p.now c.in-Local.d c.in-Local.is)
-    (walked_as V.serves V.has_key V.made V.shows G _ _ _ c.args.values.now c.declaration.new.values c.args.state.now c.declaration.new.state (λ m s t h. declares_flows _ _ s t h) c.in_ok-declaration-in-Local.ensures)
+    (walked_as V.serves V.has_key V.made V.shows G _ _ _ c.args.values.now c.declaration.new.values c.args.state.now c.declaration.new.state (λ m s t h. declares_flows _ _ s t h) c.in_ok-declaration-in-Local.ensures.walked)
 
-pub part-returns-in-Run : goal.part-returns-in-Run
-part-returns-in-Run g t c = rw (at_run c.args.p.now c.in-Run.s c.in-Run.is) c.statement.ensures
+pub part-returns-in-Run-clause-walked : goal.part-returns-in-Run-clause-walked
+part-returns-in-Run-clause-walked g t c = rw (at_run c.args.p.now c.in-Run.s c.in-Run.is) c.statement.ensures.walked
 
 -- ---- loops
 
-pub for_loop-returns : goal.for_loop-returns
-for_loop-returns g t c =
+pub for_loop-returns-clause-walked : goal.for_loop-returns-clause-walked
+for_loop-returns-clause-walked g t c =
     let V = g.V.Values in
     let G = g.O.PathSetting.setting c.args.out.now in
     let row = register_kind G in
@@ -304,8 +310,8 @@ for_loop-returns g t c =
     let ks = start_declares first in
     let saved = c.in_ok-saved.saved.items in
     let v1 = c.in_ok-saved.ensures in
-    let p1 = c.in_ok-start.ensures in
-    let l1 = c.in_ok-while_loop.ensures in
+    let p1 = c.in_ok-start.ensures.walked in
+    let l1 = c.in_ok-while_loop.ensures.walked in
     let now = c.while_loop.new.values in
     let k1 = keeps_then V.serves V.has_key V.made V.shows c.saved_start.new.values c.start.new.values now p1.keeps l1.keeps in
     record {
@@ -347,8 +353,8 @@ for_loop-returns g t c =
 pub while_loop-begin_loop-requires-clause-known : goal.while_loop-begin_loop-requires-clause-known
 while_loop-begin_loop-requires-clause-known g t c = rw (view_node c.args.whole.now) at c.requires.whole
 
-pub while_loop-returns : goal.while_loop-returns
-while_loop-returns g t c =
+pub while_loop-returns-clause-walked : goal.while_loop-returns-clause-walked
+while_loop-returns-clause-walked g t c =
     let V = g.V.Values in
     let G = g.O.PathSetting.setting c.args.out.now in
     let test = given_expression (option_copied c.args.test) in
@@ -357,7 +363,7 @@ while_loop-returns g t c =
     let form = view_statement_form (out-Stmt c.args.whole.now).form in
     let body = view_statement c.args.body.now in
     let b1 = c.in_ok-begin_loop.ensures in
-    let t1 = c.in_ok-while_turn.ensures in
+    let t1 = c.in_ok-while_turn.ensures.walked in
     rw (at_statement_node c.args.whole.now, at_statement_form c.args.whole.now)
     (record {
       made = t1.made;
@@ -373,11 +379,11 @@ while_loop-returns g t c =
       keeps = keeps_then V.serves V.has_key V.made V.shows c.args.values.now c.begin_loop.new.values c.while_turn.new.values b1.keeps t1.keeps;
     })
 
-pub while_turn-returns-in-None : goal.while_turn-returns-in-None
-while_turn-returns-in-None g t c = rw c.in-None.is c.turn.ensures
+pub while_turn-returns-in-None-clause-walked : goal.while_turn-returns-in-None-clause-walked
+while_turn-returns-in-None-clause-walked g t c = rw c.in-None.is c.turn.ensures.walked
 
-pub while_turn-returns-in_ok-join-in-Some : goal.while_turn-returns-in_ok-join-in-Some
-while_turn-returns-in_ok-join-in-Some g t c =
+pub while_turn-returns-in_ok-join-in-Some-clause-walked : goal.while_turn-returns-in_ok-join-in-Some-clause-walked
+while_turn-returns-in_ok-join-in-Some-clause-walked g t c =
     let V = g.V.Values in
     let G = g.O.PathSetting.setting c.args.out.now in
     let e = view_expression c.in-Some.e.now in
@@ -385,7 +391,7 @@ while_turn-returns-in_ok-join-in-Some g t c =
     let body = view_statement c.args.body.now in
     let x1 = c.in_ok-test-in-Some.ensures in
     let b1 = c.in_ok-past-in-Some.ensures in
-    let t1 = c.in_ok-turn-in-Some.ensures in
+    let t1 = c.in_ok-turn-in-Some.ensures.walked in
     let j1 = c.in_ok-join-in-Some.ensures in
     rw c.in-Some.is
     (record {
@@ -411,16 +417,16 @@ while_turn-returns-in_ok-join-in-Some g t c =
           (keeps_then V.serves V.has_key V.made V.shows c.args.values.now c.tested.new.values c.begin_branch.new.values x1.keeps b1.keeps) t1.keeps) j1.keeps;
     })
 
-pub turn-returns : goal.turn-returns
-turn-returns g t c =
+pub turn-returns-clause-walked : goal.turn-returns-clause-walked
+turn-returns-clause-walked g t c =
     let V = g.V.Values in
     let G = g.O.PathSetting.setting c.args.out.now in
     let step = given_expression (option_copied c.args.step) in
     let body = view_statement c.args.body.now in
     let o1 = c.in_ok-open_body.ensures in
-    let y1 = c.in_ok-entered.ensures in
+    let y1 = c.in_ok-entered.ensures.walked in
     let p1 = c.in_ok-pass_body.ensures in
-    let d1 = c.in_ok-discarded.ensures in
+    let d1 = c.in_ok-discarded.ensures.walked in
     let k1 = keeps_then V.serves V.has_key V.made V.shows c.args.values.now c.pass_body.new.values c.discarded.new.values
     (keeps_then V.serves V.has_key V.made V.shows c.args.values.now c.entered.new.values c.pass_body.new.values
     (keeps_then V.serves V.has_key V.made V.shows c.args.values.now c.open_body.new.values c.entered.new.values o1.keeps y1.keeps) p1.keeps) d1.keeps in
@@ -463,8 +469,8 @@ turn-returns g t c =
 pub do_loop-begin_loop-requires-clause-known : goal.do_loop-begin_loop-requires-clause-known
 do_loop-begin_loop-requires-clause-known g t c = rw (view_node c.args.whole.now) at c.requires.whole
 
-pub do_loop-returns : goal.do_loop-returns
-do_loop-returns g t c =
+pub do_loop-returns-clause-walked : goal.do_loop-returns-clause-walked
+do_loop-returns-clause-walked g t c =
     let V = g.V.Values in
     let G = g.O.PathSetting.setting c.args.out.now in
     let e = view_expression c.args.test.now in
@@ -472,7 +478,7 @@ do_loop-returns g t c =
     let form = view_statement_form (out-Stmt c.args.whole.now).form in
     let body = view_statement c.args.body.now in
     let b1 = c.in_ok-begin_loop.ensures in
-    let t1 = c.in_ok-do_turn.ensures in
+    let t1 = c.in_ok-do_turn.ensures.walked in
     rw (at_statement_node c.args.whole.now, at_statement_form c.args.whole.now)
     (record {
       made = t1.made;
@@ -488,14 +494,14 @@ do_loop-returns g t c =
       keeps = keeps_then V.serves V.has_key V.made V.shows c.args.values.now c.begin_loop.new.values c.do_turn.new.values b1.keeps t1.keeps;
     })
 
-pub do_turn-returns : goal.do_turn-returns
-do_turn-returns g t c =
+pub do_turn-returns-clause-walked : goal.do_turn-returns-clause-walked
+do_turn-returns-clause-walked g t c =
     let V = g.V.Values in
     let G = g.O.PathSetting.setting c.args.out.now in
     let e = view_expression c.args.test.now in
     let body = view_statement c.args.body.now in
     let o1 = c.in_ok-open_body.ensures in
-    let y1 = c.in_ok-entered.ensures in
+    let y1 = c.in_ok-entered.ensures.walked in
     let p1 = c.in_ok-pass_body.ensures in
     let x1 = c.in_ok-test.ensures in
     let e1 = c.in_ok-pass_test.ensures in
@@ -550,8 +556,8 @@ switch-converted-requires g t c =
     let own : c.kind_at-own.result ≡ number_kind (type_in G.typing e) = c.kind_at-own.ensures ∙ ap (λ k. number_kind (G.typing.type_at k)) c.node_of.ensures in
     subst (λ (j : IntKind). g.V.Values.made c.value.new.values j c.in_ok-number.number) (sym own) c.in_ok-number.ensures.makes
 
-pub switch-returns : goal.switch-returns
-switch-returns g t c =
+pub switch-returns-clause-walked : goal.switch-returns-clause-walked
+switch-returns-clause-walked g t c =
     let V = g.V.Values in
     let G = g.O.PathSetting.setting c.args.out.now in
     let e = view_expression c.args.e.now in
@@ -563,7 +569,7 @@ switch-returns g t c =
     let v1 = c.in_ok-promoted.ensures in
     let t1 = c.in_ok-tests.ensures in
     let b1 = c.in_ok-begin_sections.ensures in
-    let z1 = c.in_ok-sections.ensures in
+    let z1 = c.in_ok-sections.ensures.walked in
     let p1 = c.in_ok-pass_sections.ensures in
     let k3 = keeps_then V.serves V.has_key V.made V.shows c.value.new.values c.section_tests.new.values c.begin_sections.new.values
     (keeps_then V.serves V.has_key V.made V.shows c.value.new.values c.converted.new.values c.section_tests.new.values v1.keeps t1.keeps) b1.keeps in
@@ -611,6 +617,7 @@ sections-loop-at-init g t c =
       sym (append-nil (events_in c.args.state.now.steps.items)),
       keeps_none V.serves V.has_key V.made V.shows c.args.values.now,
       (λ m s goes_to served ht only at. record { standing = s; stands = at; is = record { goes_to = goes_to; tests = ht; alone = only; whole = λ u h. h } }),
+      record { so_far = 0; costs = costs_none; completes = omega arith },
     )
 
 pub sections-join-requires-clause-other : goal.sections-join-requires-clause-other
@@ -636,8 +643,10 @@ sections-loop-at-preserved g t c =
     let xs = sections (map view_section (drop (i + 1) list)) in
     let es : List Event = so_far.0 in
     let whole : es ++ sections_events G (sections (map view_section (d ∷ drop (i + 1) list))) ≡ sections_events G (sections (map view_section list)) = rw step at so_far.1 in
+    let spent = so_far.6 in
+    let completes : spent.so_far + sections_spent G (sections (map view_section (d ∷ drop (i + 1) list))) ≡ sections_spent G (sections (map view_section list)) = rw step at spent.completes in
     let j1 = c.in_ok-join.ensures in
-    let y1 = c.in_ok-section.ensures in (
+    let y1 = c.in_ok-section.ensures.walked in (
       es ++ section_events G x,
       append_assoc es (section_events G x) (sections_events G xs) ∙ whole,
       y1.made,
@@ -665,10 +674,11 @@ sections-loop-at-preserved g t c =
               whole = λ w h. a.is.whole w (rw step (falls_next (λ r k. section_run G W x r k) (λ n r k. sections_run G W xs n r k) (λ n r k. sections_run G W (s.then_section x xs) n r k) o here u.standing w (λ r k. refl) (λ n r k. refl) a.is.alone flow h));
             };
           }),
+      record { so_far = _; costs = costs_then (costs_step _ spent.costs (ap length j1.cells) j1.charge) c.in_ok-section.ensures.cost; completes = two_complete _ _ _ _ _ completes },
     )
 
-pub sections-returns : goal.sections-returns
-sections-returns g t c =
+pub sections-returns-clause-walked : goal.sections-returns-clause-walked
+sections-returns-clause-walked g t c =
     let V = g.V.Values in
     let G = g.O.PathSetting.setting c.args.out.now in
     let list = c.args.list.now in
@@ -691,14 +701,14 @@ sections-returns g t c =
       keeps = so_far.4;
     }
 
-pub section-returns : goal.section-returns
-section-returns g t c =
+pub section-returns-clause-walked : goal.section-returns-clause-walked
+section-returns-clause-walked g t c =
     let V = g.V.Values in
     let G = g.O.PathSetting.setting c.args.out.now in
     let k = (out-Section c.args.x.now).node.number in
     let xs = statements (map view_statement c.as_slice.result.now) in
     let e1 = c.in_ok-enter.ensures in
-    let y1 = c.in_ok-statements.ensures in
+    let y1 = c.in_ok-statements.ensures.walked in
     rw (at_section c.args.x.now, ← c.as_slice.ensures)
     (record {
       made = y1.made;
@@ -713,7 +723,7 @@ section-returns g t c =
 pub statements-loop-s-init : goal.statements-loop-s-init
 statements-loop-s-init g t c =
     let V = g.V.Values in
-    ([], refl, walked_none V.serves V.has_key V.made V.shows (g.O.PathSetting.setting c.args.out.now) _ c.args.values.now c.args.state.now c.requires.made (λ m s u h. h))
+    ([], refl, walked_none V.serves V.has_key V.made V.shows (g.O.PathSetting.setting c.args.out.now) _ c.args.values.now c.args.state.now c.requires.made (λ m s u h. h), record { so_far = 0; costs = costs_none; completes = omega arith })
 
 pub statements-loop-s-preserved : goal.statements-loop-s-preserved
 statements-loop-s-preserved g t c =
@@ -726,18 +736,21 @@ statements-loop-s-preserved g t c =
     let x = view_statement c.s-item.result in
     let xs = statements (map view_statement (drop (i + 1) list)) in
     let es : List Event = so_far.0 in
-    let whole : es ++ statements_events G (statements (map view_statement (c.s-item.result ∷ drop (i + 1) list))) ≡ statements_events G (statements (map view_statement list)) = rw step at so_far.1 in (
+    let whole : es ++ statements_events G (statements (map view_statement (c.s-item.result ∷ drop (i + 1) list))) ≡ statements_events G (statements (map view_statement list)) = rw step at so_far.1 in
+    let spent = so_far.3 in
+    let completes : spent.so_far + statements_spent G (statements (map view_statement (c.s-item.result ∷ drop (i + 1) list))) ≡ statements_spent G (statements (map view_statement list)) = rw step at spent.completes in (
       es ++ statement_events G x,
       append_assoc es (statement_events G x) (statements_events G xs) ∙ whole,
       walked_then V.serves V.has_key V.made V.shows G es (statement_events G x) _ _ _ c.args.values.now c.loop-s.values c.statement.new.values c.args.state.now c.loop-s.state c.statement.new.state
           (λ m s t u p q. λ v h.
           let W = path_world (g.O.WalkSetting.under c.args.out.now m) in
           p v (rw step (next_flows [] [] (statement_run G W x t.numbers t.kept) (λ r k. statements_run G W xs r k) t u v q h)))
-          so_far.2 c.in_ok-statement.ensures,
+          so_far.2 c.in_ok-statement.ensures.walked,
+      record { so_far = _; costs = costs_then spent.costs c.in_ok-statement.ensures.cost; completes = one_completes _ _ _ _ completes },
     )
 
-pub statements-returns : goal.statements-returns
-statements-returns g t c =
+pub statements-returns-clause-walked : goal.statements-returns-clause-walked
+statements-returns-clause-walked g t c =
     let V = g.V.Values in
     let G = g.O.PathSetting.setting c.args.out.now in
     let list = c.args.list.now in
@@ -791,7 +804,7 @@ statement-otherwise-requires g t c κs within =
     let deep = in_other c.args.s.now c.in-If.e c.in-If.x c.in-If.other c.in-If.is in
     let x1 = c.in_ok-test-in-If.ensures in
     let b1 = c.in_ok-second-in-If.ensures in
-    let y1 = c.in_ok-entered-in-If.ensures in
+    let y1 = c.in_ok-entered-in-If.ensures.walked in
     let k3 = keeps_then V.serves V.has_key V.made V.shows c.args.values.now c.begin_branch.new.values c.entered.new.values (keeps_then V.serves V.has_key V.made V.shows c.args.values.now c.tested.new.values c.begin_branch.new.values x1.keeps b1.keeps) y1.keeps in
     let keys = there_still V.serves V.has_key V.made V.shows c.args.values.now c.entered.new.values (g.O.WalkSetting.kinds c.args.out.now) k3 c.requires.keys in
     let made = is_made_guarded (V.made c.entered.new.values) G c.entered.new.state c.in_ok-second-in-If.second y1.made (y1.keeps.made_still _ _ b1.makes) in
@@ -953,3 +966,137 @@ switch-sections-requires g t c κs within =
     let length = ap length c.as_slice.ensures.value ∙ t1.length in
     let tests : TestsMade (V.made c.begin_sections.new.values) c.as_slice.result.now = rw c.as_slice.ensures.value (tests_made_still (V.made c.section_tests.new.values) (V.made c.begin_sections.new.values) b1.keeps.made_still c.in_ok-tests.tests.items t1.tests) in
     (omega (arith, c.decreases), (search rules, (search rules, (search rules, (c.requires.loops, (c.requires.kinded, (keys, (made, (length, tests)))))))))
+
+pub statement-returns-in-Block-clause-cost : goal.statement-returns-in-Block-clause-cost
+statement-returns-in-Block-clause-cost g t c = rw (at_block c.args.s.now c.in-Block.list c.in-Block.is, ← c.as_slice.ensures) c.block.ensures.cost
+
+pub statement-returns-in_ok-discarded-in-Plain-clause-cost : goal.statement-returns-in_ok-discarded-in-Plain-clause-cost
+statement-returns-in_ok-discarded-in-Plain-clause-cost g t c =
+    let part = rw c.as_ref.ensures.value at c.in_ok-discarded-in-Plain.ensures.cost in
+    rw (at_expression_statement c.args.s.now c.in-Plain.e c.in-Plain.is) part
+
+pub statement-returns-in_ok-join-in-If-clause-cost : goal.statement-returns-in_ok-join-in-If-clause-cost
+statement-returns-in_ok-join-in-If-clause-cost g t c =
+    let b1 = c.in_ok-second-in-If.ensures in
+    let j1 = c.in_ok-join-in-If.ensures in
+    rw (at_if_statement c.args.s.now c.in-If.e c.in-If.x c.in-If.other c.in-If.is, ← c.get.ensures)
+    (costs_step _ (costs_then (costs_then (costs_step _ c.in_ok-test-in-If.ensures.cost (ap length b1.cells) b1.charge) c.in_ok-entered-in-If.ensures.cost) c.in_ok-otherwise-in-If.ensures.cost) (ap length j1.cells) j1.charge)
+
+pub statement-returns-in-Switch-clause-cost : goal.statement-returns-in-Switch-clause-cost
+statement-returns-in-Switch-clause-cost g t c = rw (at_switch_statement c.args.s.now c.in-Switch.e c.in-Switch.list c.in-Switch.is, ← c.as_slice-in-Switch.ensures) c.switch.ensures.cost
+
+pub statement-returns-in_ok-while_loop-in-While-clause-cost : goal.statement-returns-in_ok-while_loop-in-While-clause-cost
+statement-returns-in_ok-while_loop-in-While-clause-cost g t c =
+    let is = at_while_statement c.args.s.now c.in-While.e c.in-While.x c.in-While.is in
+    let left = rw (is, c.get-in-While.ensures) at c.in_ok-while_loop-in-While.ensures.cost in
+    rw is (costs_within _ (none_more _) left)
+
+pub statement-returns-in-Do-clause-cost : goal.statement-returns-in-Do-clause-cost
+statement-returns-in-Do-clause-cost g t c =
+    let is = at_do_statement c.args.s.now c.in-Do.x c.in-Do.e c.in-Do.is in
+    let left = rw (is, c.get-in-Do.ensures) at c.do_loop.ensures.cost in
+    rw is left
+
+pub statement-returns-in-For-clause-cost : goal.statement-returns-in-For-clause-cost
+statement-returns-in-For-clause-cost g t c =
+    let is = at_for_statement c.args.s.now c.in-For.first c.in-For.test c.in-For.step c.in-For.x c.in-For.is in
+    let left = rw (is, c.get-in-For.ensures, c.as_ref-test.ensures.value, c.as_ref-in-For.ensures.value) at c.for_loop.ensures.cost in
+    rw is left
+
+pub statement-returns-in_ok-leave_by_break-in-Break-clause-cost : goal.statement-returns-in_ok-leave_by_break-in-Break-clause-cost
+statement-returns-in_ok-leave_by_break-in-Break-clause-cost g t c =
+    let x1 = c.in_ok-leave_by_break-in-Break.ensures in
+    rw (at_break_statement c.args.s.now c.in-Break.is) (costs_only (ap length x1.cells) x1.charge)
+
+pub statement-returns-in_ok-leave_by_continue-in-Continue-clause-cost : goal.statement-returns-in_ok-leave_by_continue-in-Continue-clause-cost
+statement-returns-in_ok-leave_by_continue-in-Continue-clause-cost g t c =
+    let x1 = c.in_ok-leave_by_continue-in-Continue.ensures in
+    rw (at_continue_statement c.args.s.now c.in-Continue.is) (costs_only (ap length x1.cells) x1.charge)
+
+pub statement-returns-in-Return-clause-cost : goal.statement-returns-in-Return-clause-cost
+statement-returns-in-Return-clause-cost g t c = rw (at_return_statement c.args.s.now c.in-Return.e c.in-Return.is, ← c.as_ref-in-Return.ensures.value) c.returned.ensures.cost
+
+pub entered-returns-clause-cost : goal.entered-returns-clause-cost
+entered-returns-clause-cost g t c = costs_cells (ap length c.in_ok-enter.ensures.cells) c.in_ok-statement.ensures.cost
+
+pub otherwise-returns-in-None-clause-cost : goal.otherwise-returns-in-None-clause-cost
+otherwise-returns-in-None-clause-cost g t c = rw c.in-None.is costs_none
+
+pub block-returns-clause-cost : goal.block-returns-clause-cost
+block-returns-clause-cost g t c = costs_after c.in_ok-saved.ensures.charge c.in_ok-parts.ensures.cost
+
+pub parts-returns-clause-cost : goal.parts-returns-clause-cost
+parts-returns-clause-cost g t c =
+    let G = g.O.PathSetting.setting c.args.out.now in
+    let list = c.args.list.now in
+    let none : drop c.loop-p.p-index list ≡ [] = drop_all c.loop-p.p-index list (omega arith) in
+    let rest : parts_spent G (parts (map view_part (drop c.loop-p.p-index list))) ≡ 0 = ap (λ z. parts_spent G (parts (map view_part z))) none in
+    spent_all rest c.loop-p.invariant.3
+
+pub part-returns-in_ok-declaration-in-Local-clause-cost : goal.part-returns-in_ok-declaration-in-Local-clause-cost
+part-returns-in_ok-declaration-in-Local-clause-cost g t c = rw (at_local c.args.p.now c.in-Local.d c.in-Local.is) c.in_ok-declaration-in-Local.ensures.cost
+
+pub part-returns-in-Run-clause-cost : goal.part-returns-in-Run-clause-cost
+part-returns-in-Run-clause-cost g t c = rw (at_run c.args.p.now c.in-Run.s c.in-Run.is) c.statement.ensures.cost
+
+pub for_loop-returns-clause-cost : goal.for_loop-returns-clause-cost
+for_loop-returns-clause-cost g t c = costs_within _ (six_regrouped _ _ _ _ _ _) (costs_after c.in_ok-saved.ensures.charge (costs_then c.in_ok-start.ensures.cost c.in_ok-while_loop.ensures.cost))
+
+pub while_loop-returns-clause-cost : goal.while_loop-returns-clause-cost
+while_loop-returns-clause-cost g t c = rw (at_statement_form c.args.whole.now) (costs_within _ (five_regrouped _ _ _ _ _) (costs_then c.in_ok-begin_loop.ensures.cost c.in_ok-while_turn.ensures.cost))
+
+pub while_turn-returns-in-None-clause-cost : goal.while_turn-returns-in-None-clause-cost
+while_turn-returns-in-None-clause-cost g t c = rw c.in-None.is (costs_on_ok _ _ _ _ _ _ _ c.turn.result _ (none_before _ _ _) c.turn.ensures.cost)
+
+pub while_turn-returns-in_ok-join-in-Some-clause-cost : goal.while_turn-returns-in_ok-join-in-Some-clause-cost
+while_turn-returns-in_ok-join-in-Some-clause-cost g t c =
+    let b1 = c.in_ok-past-in-Some.ensures in
+    let j1 = c.in_ok-join-in-Some.ensures in
+    rw c.in-Some.is (costs_within _ (tested_regrouped _ _ _) (costs_step _ (costs_then (costs_step _ c.in_ok-test-in-Some.ensures.cost (ap length b1.cells) b1.charge) c.in_ok-turn-in-Some.ensures.cost) (ap length j1.cells) j1.charge))
+
+pub turn-returns-clause-cost : goal.turn-returns-clause-cost
+turn-returns-clause-cost g t c =
+    let o1 = c.in_ok-open_body.ensures in
+    let p1 = c.in_ok-pass_body.ensures in
+    costs_then (costs_step _ (costs_cells (ap length o1.cells) (costs_after o1.charge c.in_ok-entered.ensures.cost)) (ap length p1.cells) p1.charge) c.in_ok-discarded.ensures.cost
+
+pub do_loop-returns-clause-cost : goal.do_loop-returns-clause-cost
+do_loop-returns-clause-cost g t c = rw (at_statement_form c.args.whole.now) (costs_within _ (five_regrouped _ _ _ _ _) (costs_then c.in_ok-begin_loop.ensures.cost c.in_ok-do_turn.ensures.cost))
+
+pub do_turn-returns-clause-cost : goal.do_turn-returns-clause-cost
+do_turn-returns-clause-cost g t c =
+    let o1 = c.in_ok-open_body.ensures in
+    let p1 = c.in_ok-pass_body.ensures in
+    let e1 = c.in_ok-pass_test.ensures in
+    costs_step _ (costs_then (costs_step _ (costs_cells (ap length o1.cells) (costs_after o1.charge c.in_ok-entered.ensures.cost)) (ap length p1.cells) p1.charge) c.in_ok-test.ensures.cost) (ap length e1.cells) e1.charge
+
+pub switch-returns-clause-cost : goal.switch-returns-clause-cost
+switch-returns-clause-cost g t c =
+    let G = g.O.PathSetting.setting c.args.out.now in
+    let e = view_expression c.args.e.now in
+    let own : c.kind_at-own.result ≡ number_kind (type_in G.typing e) = c.kind_at-own.ensures ∙ ap (λ k. number_kind (G.typing.type_at k)) c.node_of.ensures in
+    let kind : c.promote-kind.result ≡ promote (number_kind (type_in G.typing e)) = c.promote-kind.ensures ∙ ap promote own in
+    let converted = rw (kind, own) at c.in_ok-promoted.ensures.charge in
+    let tests = rw kind at c.in_ok-tests.ensures.charge in
+    let b1 = c.in_ok-begin_sections.ensures in
+    let p1 = c.in_ok-pass_sections.ensures in
+    costs_step _ (costs_then (costs_still (costs_more _ (costs_more _ c.in_ok-number.ensures.cost converted) tests) (ap length b1.cells) b1.charge) c.in_ok-sections.ensures.cost) (ap length p1.cells) p1.charge
+
+pub sections-returns-clause-cost : goal.sections-returns-clause-cost
+sections-returns-clause-cost g t c =
+    let G = g.O.PathSetting.setting c.args.out.now in
+    let list = c.args.list.now in
+    let none : drop c.loop-at.at list ≡ [] = drop_all c.loop-at.at list (omega arith) in
+    let rest : sections_spent G (sections (map view_section (drop c.loop-at.at list))) ≡ 0 = ap (λ z. sections_spent G (sections (map view_section z))) none in
+    spent_all rest c.loop-at.invariant.6
+
+pub section-returns-clause-cost : goal.section-returns-clause-cost
+section-returns-clause-cost g t c = rw (at_section c.args.x.now, ← c.as_slice.ensures) (costs_cells (ap length c.in_ok-enter.ensures.cells) c.in_ok-statements.ensures.cost)
+
+pub statements-returns-clause-cost : goal.statements-returns-clause-cost
+statements-returns-clause-cost g t c =
+    let G = g.O.PathSetting.setting c.args.out.now in
+    let list = c.args.list.now in
+    let none : drop c.loop-s.s-index list ≡ [] = drop_all c.loop-s.s-index list (omega arith) in
+    let rest : statements_spent G (statements (map view_statement (drop c.loop-s.s-index list))) ≡ 0 = ap (λ z. statements_spent G (statements (map view_statement z))) none in
+    spent_all rest c.loop-s.invariant.3

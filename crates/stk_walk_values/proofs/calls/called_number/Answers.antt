@@ -1,4 +1,4 @@
-use Rattle.std.proofs.Common.{pos, true, false, get_or, sym, ap, ◌∙◌}
+use Rattle.std.proofs.Common.{pos, true, false, get_or, sym, ap, ◌∙◌, length}
 use Rattle.std.specs.Option.{option_map}
 use Rattle.stk_tree.specs.Syntax as s
 use Rattle.stk_tree.specs.View.{view_expression}
@@ -9,6 +9,9 @@ use Rattle.stk_operators.specs.Shown.{library_shown}
 use Rattle.stk_guarded.specs.Standing.{added}
 use Rattle.stk_walk_values.proofs.Lasting.{arguments_shown}
 use Rattle.stk_walk_values.proofs.Calling.{called_leads}
+use Rattle.std.specs.Prelude.{option_map}
+use Rattle.stk_walking.proofs.Costing.{costs_within, costs_then, costs_only}
+use Rattle.stk_walk_values.proofs.Spending.{checked_within, called_within}
 use Rattle.stk_walk_values.proofs.calls.called_number.Goals as goal
 
 pub returns-in_ok-any-clause-events : goal.returns-in_ok-any-clause-events
@@ -45,3 +48,9 @@ returns-in_ok-number-clause-follows g c = λ es xs m s0 served at.
     let now = shows c.returned_number.new.values m in
     called_leads (shows c.check_arguments.new.values m) now G (g.O.WalkSetting.under c.args.out.now m) c.args.node e es library xs false s0 c.returned_number.new.state (λ x. now (number_kind (G.typing.type_at c.args.node)) c.in_ok-number.number x)
     c.if-never_returns.ensures c.requires.library y
+
+pub returns-in_ok-any-clause-cost : goal.returns-in_ok-any-clause-cost
+returns-in_ok-any-clause-cost g c = rw (← c.requires.library) (costs_within _ (checked_within (length (g.O.PathSetting.setting c.args.out.now).kept) (option_map library_shown c.args.library)) (costs_then (costs_only (ap length c.in_ok-check_arguments.ensures.cells) c.in_ok-check_arguments.ensures.charge) c.in_ok-any.ensures.cost))
+
+pub returns-in_ok-number-clause-cost : goal.returns-in_ok-number-clause-cost
+returns-in_ok-number-clause-cost g c = rw (← c.requires.library) (costs_within _ (called_within (length (g.O.PathSetting.setting c.args.out.now).kept) (option_map library_shown c.args.library)) (costs_then (costs_only (ap length c.in_ok-check_arguments.ensures.cells) c.in_ok-check_arguments.ensures.charge) c.in_ok-number.ensures.cost))

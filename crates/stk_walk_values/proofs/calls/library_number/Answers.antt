@@ -1,4 +1,4 @@
-use Rattle.std.proofs.Common.{pos, get_or, refl, subst}
+use Rattle.std.proofs.Common.{pos, get_or, refl, subst, length}
 use Rattle.stk_ctype.specs.declared.kind.IntKind.{IntKind}
 use Rattle.stk_numbers.specs.Values.{absolute}
 use Rattle.stk_meaning.specs.Typings.{number_kind}
@@ -8,6 +8,7 @@ use Rattle.stk_guarded.specs.Standing.{moved_to}
 use Rattle.stk_guarded.proofs.Evaluations.{gives_goes, moves_goes}
 use Rattle.stk_walk_values.proofs.Lasting.{still_made, still_stands}
 use Rattle.stk_walk_values.proofs.Calling.{first_is}
+use Rattle.stk_walking.proofs.Costing.{costs_only}
 use Rattle.stk_walk_values.proofs.calls.library_number.Goals as goal
 
 pub returns-in_ok-number-in-AbsoluteIn-clause-makes : goal.returns-in_ok-number-in-AbsoluteIn-clause-makes
@@ -66,3 +67,9 @@ returns-in_ok-forget-in-CopyBytes-clause-follows g c =
       stands = n.ensures.stands m s served.0 at;
       goes = moves_goes x s.numbers (all_forgotten s.kept) s;
     })
+
+pub returns-in_ok-number-in-AbsoluteIn-clause-cost : goal.returns-in_ok-number-in-AbsoluteIn-clause-cost
+returns-in_ok-number-in-AbsoluteIn-clause-cost g c = rw c.in-AbsoluteIn.is (costs_only refl c.in_ok-number-in-AbsoluteIn.ensures.charge)
+
+pub returns-in_ok-forget-in-CopyBytes-clause-cost : goal.returns-in_ok-forget-in-CopyBytes-clause-cost
+returns-in_ok-forget-in-CopyBytes-clause-cost g c = rw c.in-CopyBytes.is (c.in_ok-forget-in-CopyBytes.ensures.cost (length (g.O.PathSetting.setting c.args.out.now).kept))

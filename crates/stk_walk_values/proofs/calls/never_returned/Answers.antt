@@ -1,10 +1,11 @@
-use Rattle.std.proofs.Common.{false, pos, subst}
+use Rattle.std.proofs.Common.{false, pos, subst, refl, arith}
 use Rattle.stk_ctype.specs.declared.kind.IntKind.{IntKind}
 use Rattle.stk_guarded.specs.Standing.{live}
 use Rattle.stk_guarded.proofs.Evaluations.{cut_goes}
 use Rattle.stk_walking.proofs.Carried.{is_made_guarded}
 use Rattle.stk_walking.proofs.Leading.{stands_guarded}
 use Rattle.stk_walk_values.proofs.Lasting.{both_keep, still_made, still_stands}
+use Rattle.stk_walking.proofs.Costing.{costs_free}
 use Rattle.stk_walk_values.proofs.calls.never_returned.Goals as goal
 
 pub returns-clause-made : goal.returns-clause-made
@@ -27,3 +28,6 @@ returns-clause-follows g c = λ m s served at.
       stands = stands_guarded now (g.O.PathSetting.setting c.args.out.now) c.args.state.now s c.in_ok-none.none false (still_stands (both_keep k1 k2) m at) (k2.shown m _ _ _ (c.in_ok-none.ensures.value m served));
       goes = cut_goes (pos 0) s;
     }
+
+pub returns-clause-cost : goal.returns-clause-cost
+returns-clause-cost g c = costs_free refl (omega (arith, c.in_ok-none.ensures.charge, c.in_ok-number.ensures.charge))

@@ -1,4 +1,4 @@
-use Rattle.std.proofs.Common.{true, false, pos, subst}
+use Rattle.std.proofs.Common.{true, false, pos, subst, length}
 use Rattle.stk_ctype.specs.declared.kind.IntKind.{IntKind}
 use Rattle.stk_tree.specs.View.{view_expression}
 use Rattle.stk_meaning.specs.Typings.{number_kind}
@@ -6,6 +6,7 @@ use Rattle.stk_meaning.specs.Libraries.{called_signature, result_in}
 use Rattle.stk_meaning.specs.Keys.{call_key}
 use Rattle.stk_walk_values.proofs.Lasting.{still_made, still_stands}
 use Rattle.stk_walk_values.proofs.Calling.{outside_leads}
+use Rattle.stk_walking.proofs.Costing.{costs_before}
 use Rattle.stk_walk_values.proofs.calls.outside_number.Goals as goal
 
 pub returns-in_ok-nothing-clause-made : goal.returns-in_ok-nothing-clause-made
@@ -36,3 +37,9 @@ returns-in_ok-number-clause-follows g c = λ xs m s served at.
     let shown = subst (λ (j : IntKind). now j v (inputs (call_key c.args.node))) c.kind_at-kind.ensures (c.in_ok-number.ensures.value m (c.in_ok-forget.ensures.keeps.served m served)) in
     outside_leads now G inputs c.args.node t xs false s c.forget.new.state (λ x. now (number_kind (G.typing.type_at c.args.node)) v x) c.if-gives_nothing.ensures shown
     (still_stands k m (c.in_ok-forget.ensures.stands m s served at))
+
+pub returns-in_ok-nothing-clause-cost : goal.returns-in_ok-nothing-clause-cost
+returns-in_ok-nothing-clause-cost g c = costs_before (c.in_ok-forget.ensures.cost (length (g.O.PathSetting.setting c.args.out.now).kept)) c.in_ok-nothing.ensures.charge
+
+pub returns-in_ok-number-clause-cost : goal.returns-in_ok-number-clause-cost
+returns-in_ok-number-clause-cost g c = costs_before (c.in_ok-forget.ensures.cost (length (g.O.PathSetting.setting c.args.out.now).kept)) c.in_ok-number.ensures.charge

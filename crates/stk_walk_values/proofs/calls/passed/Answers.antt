@@ -16,3 +16,6 @@ returns-in_ok-operand-in-Some-clause-makes g c =
       operands = set_made now xs.count xs.operands x (operands_made old now c.in_parameter.ensures.keeps.made_still xs.operands c.requires.arguments.operands) c.in_ok-operand-in-Some.ensures.makes;
       first = set_first l xs.count xs.operands x first c.in_ok-operand-in-Some.ensures.kind;
     }))
+
+pub returns-in_ok-operand-in-Some-clause-charge : goal.returns-in_ok-operand-in-Some-clause-charge
+returns-in_ok-operand-in-Some-clause-charge g c = rw c.in-Some.is c.in_ok-operand-in-Some.ensures.charge

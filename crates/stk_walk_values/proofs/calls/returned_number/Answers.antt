@@ -20,3 +20,9 @@ pub returns-in-Some-clause-follows : goal.returns-in-Some-clause-follows
 returns-in-Some-clause-follows g c =
     let t = result_in (called_signature (g.O.PathSetting.setting c.args.out.now).typing (view_expression c.args.callee.now)) in
     rw c.in-Some.is (IfOk-weaker c.library_number.result _ _ (λ v h. h t) c.library_number.ensures.follows)
+
+pub returns-in-None-clause-cost : goal.returns-in-None-clause-cost
+returns-in-None-clause-cost g c = rw c.in-None.is c.outside_number.ensures.cost
+
+pub returns-in-Some-clause-cost : goal.returns-in-Some-clause-cost
+returns-in-Some-clause-cost g c = rw c.in-Some.is c.library_number.ensures.cost

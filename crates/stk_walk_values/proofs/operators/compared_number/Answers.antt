@@ -1,4 +1,4 @@
-use Rattle.std.proofs.Common.{◌≡◌, List, ℤ, [], ◌∷◌, sym, ap, ◌∙◌, subst}
+use Rattle.std.proofs.Common.{◌≡◌, List, ℤ, [], ◌∷◌, sym, ap, ◌∙◌, subst, length}
 use Rattle.stk_ctype.specs.declared.kind.IntKind.{IntKind}
 use Rattle.stk_ctype.specs.declared.kind.IntKind.TheVariants.{Int}
 use Rattle.stk_tree.specs.View.{view_expression}
@@ -16,6 +16,8 @@ use Rattle.stk_walking.proofs.Walking.{walks_marked}
 use Rattle.stk_walk_values.specs.Sided.{SidesShow}
 use Rattle.stk_walk_values.proofs.Checking.{walks_checked}
 use Rattle.stk_walk_values.proofs.Replacing.{seen_replaced, compared_truth}
+use Rattle.stk_walking.proofs.Costing.{costs_only, plus, free_by}
+use Rattle.stk_walk_values.proofs.Spending.{replaced_found, seen_found}
 use Rattle.stk_walk_values.proofs.operators.compared_number.Goals as goal
 
 pub operated-requires-clause-left : goal.operated-requires-clause-left
@@ -58,8 +60,8 @@ see-requires-clause-steps g c =
     let k2 = c.in_ok-replaced.ensures.keeps in
     steps_made (g.V.Values.made c.args.values.now) (g.V.Values.made c.replaced.new.values) (λ k v h. k2.made_still k v (k1.made_still k v h)) c.args.state.now.steps.items c.requires.ready.values_made.steps
 
-pub returns : goal.returns
-returns g c = λ p q.
+pub returns-clause-walks : goal.returns-clause-walks
+returns-clause-walks g c = λ p q.
     let V = g.V.Values in
     let G = g.O.PathSetting.setting c.args.out.now in
     let a = view_expression c.args.left.now in
@@ -93,3 +95,21 @@ returns g c = λ p q.
     e3.stands G m s (truth z) (replaced_by G.typing op r p q) served shown (c.in_ok-replaced.ensures.value m G.typing r (number_kind ta) (number_kind tb) p q (k1.served m before) c.in_ok-found.ensures first second) at)
     (λ m served h. e3.keeps.shown m _ _ _ (k2.shown m _ _ _ (number m served h))))
     (c.in_ok-replaced.ensures.events c.args.node ∙ ap (seen_events c.args.node) c.in_ok-found.ensures ∙ seen_replaced G.typing c.args.node r)
+
+pub returns-clause-cost : goal.returns-clause-cost
+returns-clause-cost g c =
+    let G = g.O.PathSetting.setting c.args.out.now in
+    let a = view_expression c.args.left.now in
+    let b = view_expression c.args.right.now in
+    let op = c.args.op in
+    let ta = type_in G.typing a in
+    let tb = type_in G.typing b in
+    let r = replacement G.typing a b in
+    let o = operation_of G.typing (comparing op) ta tb in
+    let one : c.kind_at.result ≡ number_kind (type_in G.typing a) = c.kind_at.ensures ∙ ap (λ i. number_kind (G.typing.type_at i)) c.node_of-first.ensures in
+    let other : c.kind_at-2.result ≡ number_kind (type_in G.typing b) = c.kind_at-2.ensures ∙ ap (λ i. number_kind (G.typing.type_at i)) c.node_of-second.ensures in
+    let same : operation_shown c.operation-operation.result ≡ o = c.operation-operation.ensures ∙ ap (λ i. operation_of G.typing (comparing op) (G.typing.type_at i) (G.typing.type_at c.node_of-second.result)) c.node_of-first.ensures ∙ ap (λ i. operation_of G.typing (comparing op) ta (G.typing.type_at i)) c.node_of-second.ensures in
+    let number = rw (same, one, other) at c.in_ok-number.ensures.charge in
+    let replaced = free_by _ (replaced_found _ _ r c.in_ok-found.ensures) c.in_ok-replaced.ensures.charge in
+    let seen = free_by _ (c.in_ok-replaced.ensures.seen ∙ seen_found _ _ r c.in_ok-found.ensures) c.in_ok-see.ensures.charge in
+    costs_only (ap length c.in_ok-see.ensures.cells) (plus _ _ _ (plus _ _ _ number replaced) seen)

@@ -1,4 +1,4 @@
-use Rattle.std.proofs.Common.{◌≡◌, true, pos, sym, ap, ◌∙◌, subst}
+use Rattle.std.proofs.Common.{◌≡◌, true, pos, sym, ap, ◌∙◌, subst, length}
 use Rattle.stk_ctype.specs.declared.kind.IntKind.{IntKind}
 use Rattle.stk_tree.specs.Syntax as s
 use Rattle.stk_tree.specs.View.{view_expression}
@@ -11,6 +11,8 @@ use Rattle.stk_meaning.specs.Conditions.{unary_tests}
 use Rattle.stk_meaning.specs.Expressions.{breaks}
 use Rattle.stk_walking.proofs.Carried.{is_made_still}
 use Rattle.stk_walk_values.proofs.Checking.{walks_checked}
+use Rattle.stk_walking.proofs.Costing.{costs_only, costs_within, plus}
+use Rattle.stk_walk_values.proofs.Spending.{negated_within}
 use Rattle.stk_walk_values.proofs.operators.negated_number.Goals as goal
 
 pub negated-requires : goal.negated-requires
@@ -28,8 +30,8 @@ check_one-requires-clause-first g c =
 pub check_one-requires-clause-made : goal.check_one-requires-clause-made
 check_one-requires-clause-made g c = is_made_still (g.V.Values.made c.args.values.now) (g.V.Values.made c.negated.new.values) c.in_ok-number.ensures.keeps.made_still (g.O.PathSetting.setting c.args.out.now) c.args.state.now c.requires.ready.values_made
 
-pub returns : goal.returns
-returns g c = λ x.
+pub returns-clause-walks : goal.returns-clause-walks
+returns-clause-walks g c = λ x.
     let V = g.V.Values in
     let G = g.O.PathSetting.setting c.args.out.now in
     let e = view_expression c.args.e.now in
@@ -47,3 +49,13 @@ returns g c = λ x.
     (λ m served hx.
     let found = c.in_ok-number.ensures.value m x served (subst (λ (k : IntKind). V.shows c.args.values.now m k c.args.value x) (sym from) hx) in
     e2.keeps.shown m _ _ _ (subst (λ (k : IntKind). V.shows c.negated.new.values m k v (operated (in_kind Sub k) (pos 0) x)) kind found))
+
+pub returns-clause-cost : goal.returns-clause-cost
+returns-clause-cost g c =
+    let G = g.O.PathSetting.setting c.args.out.now in
+    let e = view_expression c.args.e.now in
+    let from : c.kind_at-from.result ≡ number_kind (type_in G.typing e) = c.kind_at-from.ensures ∙ ap (λ i. number_kind (G.typing.type_at i)) c.node_of.ensures in
+    let kind : c.promote-kind.result ≡ promote (number_kind (type_in G.typing e)) = c.promote-kind.ensures ∙ ap promote from in
+    let number = rw (kind, from) at c.in_ok-number.ensures.charge in
+    let tests = rw (kind, from) at c.in_ok-check_one.ensures.charge in
+    costs_within _ (negated_within _ _) (costs_only (ap length c.in_ok-check_one.ensures.cells) (plus _ _ _ number tests))

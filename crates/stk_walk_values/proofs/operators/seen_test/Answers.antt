@@ -1,4 +1,4 @@
-use Rattle.std.proofs.Common.{◌≡◌, true, false, [], ◌∷◌, None, ℕ, sym, ap, ◌∙◌, subst}
+use Rattle.std.proofs.Common.{◌≡◌, true, false, [], ◌∷◌, None, ℕ, sym, ap, ◌∙◌, subst, length, refl}
 use Rattle.std.specs.Prelude.{if◌then◌else◌, Bool}
 use Rattle.stk_ctype.specs.declared.kind.IntKind.{IntKind}
 use Rattle.stk_ctype.specs.declared.kind.IntKind.TheVariants.{Int}
@@ -12,6 +12,8 @@ use Rattle.stk_walking.specs.Events.{truth_events}
 use Rattle.stk_walking.proofs.Carried.{is_made_still, steps_made}
 use Rattle.stk_walking.proofs.Walking.{walks_alone, walks_as, walks_marked}
 use Rattle.stk_walk_values.proofs.Checking.{walks_checked}
+use Rattle.stk_walking.proofs.Costing.{costs_only, plus, at_most}
+use Rattle.stk_walk_values.proofs.Spending.{some_more}
 use Rattle.stk_walk_values.proofs.operators.seen_test.Goals as goal
 
 pub is_true-requires : goal.is_true-requires
@@ -26,8 +28,8 @@ see-requires-clause-guard g c = c.in_ok-test.ensures.keeps.made_still _ _ c.requ
 pub see-requires-clause-steps : goal.see-requires-clause-steps
 see-requires-clause-steps g c = steps_made (g.V.Values.made c.args.values.now) (g.V.Values.made c.is_true.new.values) c.in_ok-test.ensures.keeps.made_still c.args.state.now.steps.items c.requires.ready.values_made.steps
 
-pub returns-then-is_comparison : goal.returns-then-is_comparison
-returns-then-is_comparison g c = λ x.
+pub returns-then-is_comparison-clause-walks : goal.returns-then-is_comparison-clause-walks
+returns-then-is_comparison-clause-walks g c = λ x.
     let V = g.V.Values in
     let G = g.O.PathSetting.setting c.args.out.now in
     let p = view_expression c.args.e.now in
@@ -39,8 +41,8 @@ returns-then-is_comparison g c = λ x.
     (ap (λ (z : Bool). if z then [] else truth_events (node_of b)) (sym compares)))
     (λ m r i. ap (λ (z : Bool). Went x r i (if z then [] else Seen (node_of b) (truth x) None ∷ [])) (sym compares))
 
-pub returns : goal.returns
-returns g c = λ x.
+pub returns-clause-walks : goal.returns-clause-walks
+returns-clause-walks g c = λ x.
     let V = g.V.Values in
     let G = g.O.PathSetting.setting c.args.out.now in
     let p = view_expression c.args.e.now in
@@ -56,3 +58,19 @@ returns g c = λ x.
     (λ m served hx. e2.keeps.shown m _ _ _ (c.in_ok-test.ensures.value m x served (subst (λ (k : IntKind). V.shows c.args.values.now m k c.args.value x) (sym kind) hx))))
     (ap truth_events at ∙ ap (λ (z : Bool). if z then [] else truth_events (node_of b)) (sym other)))
     (λ m r i. ap (λ (n : ℕ). Went x r i (Seen n (truth x) None ∷ [])) at ∙ ap (λ (z : Bool). Went x r i (if z then [] else Seen (node_of b) (truth x) None ∷ [])) (sym other))
+
+pub returns-then-is_comparison-clause-cost : goal.returns-then-is_comparison-clause-cost
+returns-then-is_comparison-clause-cost g c =
+    let G = g.O.PathSetting.setting c.args.out.now in
+    let e = view_expression c.args.e.now in
+    let kind : c.kind_at.result ≡ number_kind (type_in G.typing e) = c.kind_at.ensures ∙ ap (λ i. number_kind (G.typing.type_at i)) c.node_of.ensures in
+    let test = rw kind at c.in_ok-test.ensures.charge in
+    costs_only refl (at_most _ test (some_more _ 6))
+
+pub returns-clause-cost : goal.returns-clause-cost
+returns-clause-cost g c =
+    let G = g.O.PathSetting.setting c.args.out.now in
+    let e = view_expression c.args.e.now in
+    let kind : c.kind_at.result ≡ number_kind (type_in G.typing e) = c.kind_at.ensures ∙ ap (λ i. number_kind (G.typing.type_at i)) c.node_of.ensures in
+    let test = rw kind at c.in_ok-test.ensures.charge in
+    costs_only (ap length c.in_ok-see.ensures.cells) (plus _ _ _ test c.in_ok-see.ensures.charge)

@@ -1,5 +1,6 @@
 use Rattle.std.proofs.Common.{pos}
 use Rattle.stk_walking.proofs.Carried.{is_made_still, stands_still}
+use Rattle.stk_walking.proofs.Costing.{free_first}
 use Rattle.stk_walk_values.proofs.steps.check_two.Goals as goal
 
 pub violate-requires-clause-operands : goal.violate-requires-clause-operands
@@ -14,3 +15,9 @@ returns-clause-stands g c = λ m s x y accessed f served hx hy same at.
     let k1 = c.in_ok-value.ensures.keeps in
     let still = stands_still (shows c.args.values.now m) (shows c.zero.new.values m) (k1.shown m) (g.O.PathSetting.setting c.args.out.now) c.args.state.now s at in
     c.in_ok-violate.ensures.stands m s x y (pos 0) accessed f (k1.served m served) (record { first = k1.shown m _ _ _ hx; second = k1.shown m _ _ _ hy; third = c.in_ok-value.ensures.value m served }) same still
+
+pub returns-clause-charge : goal.returns-clause-charge
+returns-clause-charge g c = free_first _ c.in_ok-value.ensures.charge c.in_ok-violate.ensures.charge
+
+pub returns-clause-cells : goal.returns-clause-cells
+returns-clause-cells g c = c.in_ok-violate.ensures.cells

@@ -1,4 +1,4 @@
-use Rattle.std.proofs.Common.{◌≡◌, true, false, sym, ap, ◌∙◌, subst, pos}
+use Rattle.std.proofs.Common.{◌≡◌, true, false, sym, ap, ◌∙◌, subst, pos, length}
 use Rattle.std.specs.Prelude.{if◌then◌else◌}
 use Rattle.stk_ctype.specs.declared.kind.IntKind.{IntKind}
 use Rattle.stk_meaning.specs.Paths.{path_world}
@@ -10,10 +10,12 @@ use Rattle.stk_eval_expr.specs.Parts.{place_end}
 use Rattle.stk_walking.proofs.Carried.{keeps_none}
 use Rattle.stk_walking.proofs.Walking.{walks_alone, walks_follows, walks_as}
 use Rattle.stk_walk_values.proofs.Naming.{array_kind}
+use Rattle.stk_walking.proofs.Costing.{costs_within, costs_none}
+use Rattle.stk_walk_values.proofs.Spending.{zero_least}
 use Rattle.stk_walk_values.proofs.steps.place_number.Goals as goal
 
-pub returns-then-is_array_at : goal.returns-then-is_array_at
-returns-then-is_array_at g c = λ a.
+pub returns-then-is_array_at-clause-walks : goal.returns-then-is_array_at-clause-walks
+returns-then-is_array_at-clause-walks g c = λ a.
     let V = g.V.Values in
     let G = g.O.PathSetting.setting c.args.out.now in
     let t = G.typing.type_at c.args.node in
@@ -25,8 +27,8 @@ returns-then-is_array_at g c = λ a.
     (λ m served h. subst (λ (k : IntKind). V.shows c.args.values.now m k c.args.address (pos a)) kind h))
     (λ m r k. ap (λ b. if b then gives (pos a) r k else number_in (path_world (I m)) (target_shown c.args.target) c.args.node (number_kind t) a r k) (sym array))
 
-pub returns : goal.returns
-returns g c = λ a.
+pub returns-clause-walks : goal.returns-clause-walks
+returns-clause-walks g c = λ a.
     let G = g.O.PathSetting.setting c.args.out.now in
     let t = G.typing.type_at c.args.node in
     let array : is_array t ≡ false = sym c.is_array_at.ensures ∙ c.if-is_array_at.false in
@@ -35,3 +37,9 @@ returns g c = λ a.
     (walks_follows (λ m. number_in (path_world (I m)) (target_shown c.args.target) c.args.node (number_kind t) a) c.in_ok-found.ensures.makes c.in_ok-found.ensures.made c.in_ok-found.ensures.events
     (λ m s served h at. c.in_ok-found.ensures.follows a m s served at) c.in_ok-found.ensures.keeps)
     (λ m r k. ap (λ b. if b then gives (pos a) r k else number_in (path_world (I m)) (target_shown c.args.target) c.args.node (number_kind t) a r k) (sym array))
+
+pub returns-then-is_array_at-clause-cost : goal.returns-then-is_array_at-clause-cost
+returns-then-is_array_at-clause-cost g c = costs_within _ (zero_least _) costs_none
+
+pub returns-clause-cost : goal.returns-clause-cost
+returns-clause-cost g c = c.in_ok-found.ensures.cost (length (g.O.PathSetting.setting c.args.out.now).kept)

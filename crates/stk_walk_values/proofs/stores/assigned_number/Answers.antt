@@ -8,6 +8,7 @@ use Rattle.stk_meaning.specs.Paths.{path_world}
 use Rattle.stk_meaning.specs.Expressions.{stored_at}
 use Rattle.stk_walk_values.proofs.Lasting.{both_keep, still_made, still_stands}
 use Rattle.stk_walk_values.proofs.Storing.{leads_as}
+use Rattle.stk_walking.proofs.Costing.{costs_then, costs_store}
 use Rattle.stk_walk_values.proofs.stores.assigned_number.Goals as goal
 
 pub store_number-requires-clause-number : goal.store_number-requires-clause-number
@@ -41,3 +42,6 @@ returns-clause-follows g c = λ x place m s served at.
 
 pub returns-clause-keeps : goal.returns-clause-keeps
 returns-clause-keeps g c = both_keep c.in_ok-found.ensures.keeps c.in_ok-store_number.ensures.keeps
+
+pub returns-clause-cost : goal.returns-clause-cost
+returns-clause-cost g c = costs_then (costs_store (rw c.kind_at-kind.ensures at c.in_ok-found.ensures.charge)) c.in_ok-store_number.ensures.cost

@@ -1,5 +1,6 @@
 use Rattle.std.proofs.Common.{pos, true}
 use Rattle.stk_walk_values.proofs.Lasting.{both_keep, still_made, still_stands}
+use Rattle.stk_walking.proofs.Costing.{free_first}
 use Rattle.stk_walk_values.proofs.stores.check_operation.Goals as goal
 
 pub violate-requires-clause-operands : goal.violate-requires-clause-operands
@@ -21,3 +22,9 @@ returns-clause-stands g c = λ m s f x y served hx hy same at.
 
 pub returns-clause-keeps : goal.returns-clause-keeps
 returns-clause-keeps g c = both_keep c.in_ok-none.ensures.keeps c.in_ok-violate.ensures.keeps
+
+pub returns-clause-charge : goal.returns-clause-charge
+returns-clause-charge g c = free_first _ c.in_ok-none.ensures.charge c.in_ok-violate.ensures.charge
+
+pub returns-clause-cells : goal.returns-clause-cells
+returns-clause-cells g c = c.in_ok-violate.ensures.cells

@@ -1,4 +1,4 @@
-use Rattle.std.proofs.Common.{◌≡◌, pos, true, subst, ◌∙◌}
+use Rattle.std.proofs.Common.{◌≡◌, pos, true, subst, ◌∙◌, length, ap}
 use Rattle.stk_ctype.specs.declared.kind.IntKind.{IntKind}
 use Rattle.stk_tree.specs.View.{view_expression}
 use Rattle.stk_numbers.specs.Kinds.{wrap}
@@ -11,6 +11,7 @@ use Rattle.stk_operators.specs.Shown.{operation_shown}
 use Rattle.stk_guarded.specs.Standing.{added}
 use Rattle.stk_walking.proofs.Leading.{leads_after}
 use Rattle.stk_walk_values.proofs.Lasting.{both_keep, still_made, still_stands}
+use Rattle.stk_walking.proofs.Costing.{costs_then, costs_only, plus}
 use Rattle.stk_walk_values.proofs.stores.checked_store.Goals as goal
 
 pub check_operation-requires-clause-made : goal.check_operation-requires-clause-made
@@ -57,3 +58,8 @@ returns-clause-stored g c = λ m s inputs f a x y z served hx hy same at.
 
 pub returns-clause-keeps : goal.returns-clause-keeps
 returns-clause-keeps g c = both_keep c.operated_in.ensures.keeps (both_keep c.in_ok-check_operation.ensures.keeps c.in_ok-store_number.ensures.keeps)
+
+pub returns-clause-cost : goal.returns-clause-cost
+returns-clause-cost g c =
+    let number = rw c.kind_in-kind.ensures at c.in_ok-number.ensures.charge in
+    costs_then (costs_only (ap length c.in_ok-check_operation.ensures.cells) (plus _ _ _ number c.in_ok-check_operation.ensures.charge)) c.in_ok-store_number.ensures.cost

@@ -8,6 +8,8 @@ use Rattle.stk_walking.specs.Operands.{IsShiftOf}
 use Rattle.stk_walking.specs.ExpressionEvents.{condition_events}
 use Rattle.stk_walk_values.proofs.Lasting.{both_keep}
 use Rattle.stk_walk_values.proofs.Storing.{compound_leads}
+use Rattle.stk_walking.proofs.Costing.{costs_within, costs_then}
+use Rattle.stk_walk_values.proofs.Spending.{five_regrouped}
 use Rattle.stk_walk_values.proofs.stores.compound_number.Goals as goal
 
 pub checked_store-requires-clause-left : goal.checked_store-requires-clause-left
@@ -46,3 +48,6 @@ returns-clause-follows g c = λ f y place same m s served at.
 
 pub returns-clause-keeps : goal.returns-clause-keeps
 returns-clause-keeps g c = both_keep c.in_ok-old.ensures.keeps c.in_ok-new.ensures.keeps
+
+pub returns-clause-cost : goal.returns-clause-cost
+returns-clause-cost g c = costs_within _ (five_regrouped _ _ _ _ _) (costs_then c.in_ok-old.ensures.cost (rw c.kind_in-kind.ensures at c.in_ok-new.ensures.cost))

@@ -10,6 +10,8 @@ use Rattle.stk_walking.specs.ExpressionEvents.{condition_events}
 use Rattle.stk_walking.specs.Operands.{IsShiftOf}
 use Rattle.stk_walk_values.proofs.Lasting.{both_keep, still_made, still_stands}
 use Rattle.stk_walk_values.proofs.Storing.{step_shifts, given_made, given_shown, stepped_leads}
+use Rattle.stk_walking.proofs.Costing.{costs_within, costs_then, costs_after}
+use Rattle.stk_walk_values.proofs.Spending.{five_regrouped}
 use Rattle.stk_walk_values.proofs.stores.stepped_number.Goals as goal
 
 pub checked_store-requires-clause-left : goal.checked_store-requires-clause-left
@@ -69,3 +71,8 @@ returns-clause-follows g c = λ place m s0 served at.
 
 pub returns-clause-keeps : goal.returns-clause-keeps
 returns-clause-keeps g c = both_keep c.in_ok-old.ensures.keeps (both_keep c.in_ok-one.ensures.keeps c.in_ok-new.ensures.keeps)
+
+pub returns-clause-cost : goal.returns-clause-cost
+returns-clause-cost g c =
+    let new = rw (c.step_operation-operation.ensures, c.kind_in-kind.ensures) at c.in_ok-new.ensures.cost in
+    costs_within _ (five_regrouped _ _ _ _ _) (costs_then c.in_ok-old.ensures.cost (costs_after c.in_ok-one.ensures.charge new))

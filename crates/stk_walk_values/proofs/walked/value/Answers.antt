@@ -4,4 +4,7 @@ pub value-requires-clause-ready : goal.value-requires-clause-ready
 value-requires-clause-ready g c = record { keys = c.requires.keys; values_made = c.requires.made }
 
 pub returns-clause-follows : goal.returns-clause-follows
-returns-clause-follows g c = λ m s served at. c.in_ok-found.ensures.leads m s served tt at
+returns-clause-follows g c = λ m s served at. c.in_ok-found.ensures.walks.leads m s served tt at
+
+pub returns-clause-cost : goal.returns-clause-cost
+returns-clause-cost g c = c.in_ok-found.ensures.cost

@@ -44,3 +44,6 @@ returns-clause-shown g c = λ m row b kept served hg h.
     let at = subst (λ (n : ℕ). old (row n) c.index-cell.result.now.number before.number) (zero_then c.args.place) before.number_is in
     let known = c.in_ok-known.ensures.value m before.known (not b) served before.known_is hg in
     cells_removed old now (k1.shown m) row items kept c.args.place c.in_ok-known.known c.index-cell.result.now.number b before.known before.number h before.is known (k1.shown m _ _ _ at)
+
+pub returns-clause-charge : goal.returns-clause-charge
+returns-clause-charge g c = c.in_ok-known.ensures.charge

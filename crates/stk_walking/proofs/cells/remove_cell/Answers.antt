@@ -1,4 +1,6 @@
 use Rattle.stk_walking.proofs.Carried.{cells_made, cells_shown}
+use Rattle.std.proofs.Common.{arith}
+use Rattle.stk_walking.proofs.Costing.{costs_only}
 use Rattle.stk_walking.proofs.cells.remove_cell.Goals as goal
 
 pub keep_only-requires-clause-row : goal.keep_only-requires-clause-row
@@ -17,3 +19,6 @@ returns-clause-shown g c = λ m row b kept served hg h.
     let k1 = c.opposite.ensures.keeps in
     c.in_ok-keep_only.ensures.shown m row b kept (k1.served m served) (c.in_ok-stays.ensures.value m b served hg)
     (cells_shown (shows c.args.values.now m) (shows c.opposite.new.self m) (k1.shown m) row 0 c.args.cells.now.items kept h)
+
+pub returns-clause-cost : goal.returns-clause-cost
+returns-clause-cost g c = λ kept. costs_only c.in_ok-keep_only.ensures.length (omega (arith, c.in_ok-stays.ensures.charge, c.in_ok-keep_only.ensures.charge))

@@ -1,9 +1,10 @@
-use Rattle.std.proofs.Common.{◌≡◌, true, length, refl, ap, ◌∙◌, subst, arith}
+use Rattle.std.proofs.Common.{◌≡◌, true, length, refl, ap, ◌∙◌, subst, arith, ◌≤◌}
 use Rattle.stk_meaning.specs.Paths.{KeptNumbers}
 use Rattle.stk_walking.specs.Stands.{CellsShow}
 use Rattle.stk_walking.proofs.Carried.{cells_made, cells_shown, keeps_then}
 use Rattle.stk_walking.proofs.KeptCells.{cells_length}
 use Rattle.stk_walking.proofs.Removing.{first_removed, next_removed, each_removed}
+use Rattle.stk_walking.proofs.Costing.{costs_counted}
 use Rattle.stk_walking.proofs.cells.remove_cells.Goals as goal
 
 pub loop-place-init : goal.loop-place-init
@@ -17,6 +18,7 @@ loop-place-init g c =
       (λ m b served hg. c.in_ok-stays.ensures.value m b served hg),
       (λ row h. cells_made (made c.args.values.now) (made c.opposite.new.self) k1.made_still row 0 c.args.cells.now.items h),
       (λ m row b kept served hg h. cells_shown (shows c.args.values.now m) (shows c.opposite.new.self m) (k1.shown m) row 0 c.args.cells.now.items kept h),
+      omega (arith, c.in_ok-stays.ensures.charge),
     )
 
 pub loop-place-preserved : goal.loop-place-preserved
@@ -33,6 +35,7 @@ loop-place-preserved g c =
       (λ m row b kept served hg h.
           subst (λ (z : KeptNumbers). CellsShow (shows c.keep_only.new.values m) row 0 c.keep_only.new.cells.items z) (next_removed c.loop-place.place b (λ q. true) kept)
           (c.in_ok-keep_only.ensures.shown m row b (first_removed c.loop-place.place 0 b (λ q. true) kept) (so_far.1.served m served) (so_far.3 m b served hg) (so_far.5 m row b kept served hg h))),
+      omega (arith, so_far.6, c.in_ok-keep_only.ensures.charge),
     )
 
 pub returns-clause-shown : goal.returns-clause-shown
@@ -42,3 +45,9 @@ returns-clause-shown g c = λ m row b kept served hg h.
     let n : c.loop-place.place ≡ length kept = omega (arith, c.loop-place.auto.place-end, size, c.args.cells.now.ok.0) in
     subst (λ (z : KeptNumbers). CellsShow (shows c.loop-place.values m) row 0 c.loop-place.cells.items z) (ap (λ k. first_removed k 0 b (λ q. true) kept) n ∙ each_removed b (λ q. true) kept)
     (c.loop-place.invariant.5 m row b kept served hg h)
+
+pub returns-clause-cost : goal.returns-clause-cost
+returns-clause-cost g c =
+    λ kept.
+    let n : c.loop-place.place ≤ length c.args.cells.now.items = omega (arith, c.loop-place.auto.place-end, c.args.cells.now.ok.0) in
+    costs_counted c.loop-place.place c.loop-place.invariant.0 n c.loop-place.invariant.6

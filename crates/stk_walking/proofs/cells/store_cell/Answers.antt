@@ -1,4 +1,4 @@
-use Rattle.std.proofs.Common.{◌<◌, ◌≤◌, length, Some, sym, ap, ◌∙◌, subst, arith}
+use Rattle.std.proofs.Common.{◌<◌, ◌≤◌, length, Some, sym, ap, ◌∙◌, subst, arith, refl, length-set}
 use Rattle.std.specs.Prelude.{if◌then◌else◌}
 use Rattle.stk_ctype.specs.declared.kind.IntKind.{IntKind}
 use Rattle.stk_meaning.specs.Paths.{KeptNumbers}
@@ -6,6 +6,7 @@ use Rattle.stk_walking.specs.Stands.{CellsShow}
 use Rattle.stk_walking.proofs.Carried.{cells_made}
 use Rattle.stk_walking.proofs.Rows.{zero_then}
 use Rattle.stk_walking.proofs.KeptCells.{cell_in, cells_length, cell_made_in, cells_made_set, set_past, cells_stored}
+use Rattle.stk_walking.proofs.Costing.{costs_only}
 use Rattle.stk_walking.proofs.cells.store_cell.Goals as goal
 
 pub choose-requires-clause-second : goal.choose-requires-clause-second
@@ -53,3 +54,9 @@ returns-clause-shown g c = λ m row b x kept served is hg hv h.
     let known = c.in_ok-known.ensures.value m before.known b (k1.served m served) (k1.shown m _ _ _ before.known_is) (k1.shown m _ _ _ hg) in
     cells_stored old now (λ k v z p. k2.shown m k v z (k1.shown m k v z p)) row items kept c.args.at c.in_ok-known.known c.in_ok-number.number b before.known before.number x h before.is known
     (subst (λ (k : IntKind). now k c.in_ok-number.number (if b then x else before.number)) (sym is) (k2.shown m _ _ _ number))
+
+pub returns-then-place-len-clause-cost : goal.returns-then-place-len-clause-cost
+returns-then-place-len-clause-cost g c = λ kept. costs_only refl (omega arith)
+
+pub returns-clause-cost : goal.returns-clause-cost
+returns-clause-cost g c = λ kept. costs_only (length-set c.args.cells.now.items c.args.at (record { known = c.in_ok-known.known; number = c.in_ok-number.number })) (omega (arith, c.in_ok-number.ensures.charge, c.in_ok-known.ensures.charge))

@@ -1,4 +1,4 @@
-use Rattle.std.proofs.Common.{◌&&◌, List, [], ◌++◌, sym, ap, ◌∙◌, subst, if◌then◌else◌}
+use Rattle.std.proofs.Common.{◌&&◌, List, [], ◌++◌, sym, ap, ◌∙◌, subst, if◌then◌else◌, arith}
 use Rattle.stk_ctype.specs.declared.kind.IntKind.TheVariants.{Int}
 use Rattle.stk_numbers.specs.declared.conditions.UbKind.{UbKind}
 use Rattle.stk_numbers.specs.Taken.{is_taken}
@@ -30,3 +30,6 @@ returns-clause-live g c = λ m b x y z t served hg h live.
     let called = subst (λ (k : UbKind). Live now items (t ++ one_if (b && test.broken x y z) (Broken (record { node = n; kind = k })))) c.kind_of-kind.ensures step in
     let whole = subst (λ (e : List Event). Live now items (t ++ e)) (one_event n test x y z b) called in
     subst (λ (l : List Test). Live now items (t ++ (if b then events_of (violated n l x y z) else []))) (sym (kept_is w test free)) whole
+
+pub returns-clause-charge : goal.returns-clause-charge
+returns-clause-charge g c = omega (arith, c.in_ok-broken.ensures.charge, c.in_ok-push_step.ensures.charge)

@@ -6,6 +6,7 @@ use Rattle.stk_walking.specs.Events.{Live, events_of}
 use Rattle.stk_walking.specs.NodeTests.{kept_of, maybe_tests}
 use Rattle.stk_walking.proofs.Listed.{operands_shown}
 use Rattle.stk_walking.proofs.Violated.{both_violated}
+use Rattle.stk_walking.proofs.Costing.{sum_most}
 use Rattle.stk_walking.proofs.conditions.push_tests.Goals as goal
 
 pub push_maybe-requires-clause-asked : goal.push_maybe-requires-clause-asked
@@ -30,3 +31,6 @@ returns-clause-live g c = λ m b x y z t served hg h live.
     let second = c.in_ok-push_maybe-2.ensures.live m b x y z middle (k1.served m served) (k1.shown m _ _ _ hg) kept first in
     subst (λ (l : List Test). Live now items (t ++ (if b then events_of (violated n (kept_of w l) x y z) else []))) c.listed.ensures.is
     (subst (Live now items) (both_violated w n ts us x y z b t) second)
+
+pub returns-clause-charge : goal.returns-clause-charge
+returns-clause-charge g c = sum_most _ _ _ _ _ _ c.in_ok-push_maybe.ensures.charge c.in_ok-push_maybe-2.ensures.charge (c.listed.ensures.charge c.args.operands.first.kind c.args.operands.second.kind)

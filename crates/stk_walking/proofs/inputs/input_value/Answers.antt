@@ -11,3 +11,6 @@ keyed-requires g c =
 pub returns-clause-value : goal.returns-clause-value
 returns-clause-value g c = λ m served.
     subst (λ (z : ℤ). g.V.Values.shows c.keyed.new.values m c.args.kind c.in_ok-number.number z) (sym (c.place_of-place.ensures.number m)) (c.in_ok-number.ensures.value m served)
+
+pub returns-clause-charge : goal.returns-clause-charge
+returns-clause-charge g c = c.in_ok-number.ensures.charge

@@ -1,6 +1,7 @@
 use Rattle.stk_guarded.specs.Statements.{breaking}
 use Rattle.stk_guarded.proofs.Statements.{break_flows}
 use Rattle.stk_walking.proofs.Carried.{is_made_still, stands_still}
+use Rattle.std.proofs.Common.{refl, arith}
 use Rattle.stk_walking.proofs.jumps.leave_by_break.Goals as goal
 
 pub returns-clause-made : goal.returns-clause-made
@@ -22,3 +23,9 @@ returns-clause-follows g c = λ G m s served at.
       stands = record { guard = c.in_ok-none.ensures.value m (k1.served m served); broken = k2.shown m _ _ _ (c.in_ok-broken.ensures.value m s.broken s.alive served at.broken at.guard); continued = still.continued; numbers = still.numbers; kept = still.kept; events = still.events };
       flows = break_flows s;
     }
+
+pub returns-clause-charge : goal.returns-clause-charge
+returns-clause-charge g c = omega (arith, c.in_ok-broken.ensures.charge, c.in_ok-none.ensures.charge)
+
+pub returns-clause-cells : goal.returns-clause-cells
+returns-clause-cells g c = refl

@@ -1,4 +1,4 @@
-use Rattle.std.proofs.Common.{false}
+use Rattle.std.proofs.Common.{false, refl}
 use Rattle.stk_guarded.specs.Standing.{live}
 use Rattle.stk_guarded.proofs.Statements.{return_flows}
 use Rattle.stk_walking.proofs.Carried.{is_made_still, stands_still}
@@ -21,3 +21,9 @@ returns-clause-follows g c = λ G m s served at.
       stands = record { guard = c.in_ok-none.ensures.value m served; broken = still.broken; continued = still.continued; numbers = still.numbers; kept = still.kept; events = still.events };
       flows = return_flows s;
     }
+
+pub returns-clause-charge : goal.returns-clause-charge
+returns-clause-charge g c = c.in_ok-none.ensures.charge
+
+pub returns-clause-cells : goal.returns-clause-cells
+returns-clause-cells g c = refl

@@ -1,4 +1,5 @@
 use Rattle.stk_walking.proofs.Carried.{is_made_still, stands_still}
+use Rattle.std.proofs.Common.{refl}
 use Rattle.stk_walking.proofs.jumps.open_body.Goals as goal
 
 pub returns-clause-made : goal.returns-clause-made
@@ -15,3 +16,9 @@ returns-clause-stands g c = λ G m s served at.
     let still = stands_still (shows c.args.values.now m) (shows c.zero.new.values m) (k1.shown m) G c.args.state.now s at in
     let none = c.in_ok-none.ensures.value m served in
     record { guard = still.guard; broken = none; continued = none; numbers = still.numbers; kept = still.kept; events = still.events }
+
+pub returns-clause-charge : goal.returns-clause-charge
+returns-clause-charge g c = c.in_ok-none.ensures.charge
+
+pub returns-clause-cells : goal.returns-clause-cells
+returns-clause-cells g c = refl

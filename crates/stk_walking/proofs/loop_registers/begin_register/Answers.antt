@@ -1,10 +1,11 @@
-use Rattle.std.proofs.Common.{ℕ, set, sym, ◌∙◌, subst}
+use Rattle.std.proofs.Common.{ℕ, set, sym, ◌∙◌, subst, arith}
 use Rattle.std.specs.Prelude.{if◌then◌else◌}
 use Rattle.stk_meaning.specs.Keys.{loop_key}
 use Rattle.stk_kinded.specs.Kinds.{register_kind}
 use Rattle.stk_walking.specs.Stands.{RowShows}
 use Rattle.stk_walking.proofs.Carried.{row_made, row_shown}
 use Rattle.stk_walking.proofs.Resetting.{some_one}
+use Rattle.stk_walking.proofs.Costing.{width_most}
 use Rattle.stk_walking.proofs.loop_registers.begin_register.Goals as goal
 
 pub set_register-requires-clause-row : goal.set_register-requires-clause-row
@@ -28,3 +29,6 @@ returns-clause-shown g c = λ m j b xs is served hg h.
     let before = row_shown (shows c.args.values.now m) (shows c.input_value.new.values m) (k1.shown m) row 0 c.args.registers.now.items xs h in
     let done = c.in_ok-set_register.ensures.shown m row b (I (loop_key c.args.node c.slot-register.result)) xs (k1.served m served) (sym c.kind_at-kind.ensures) (k1.shown m _ _ _ hg) (c.in_ok-number.ensures.value m served) before in
     subst (λ (i : ℕ). RowShows (shows c.set_register.new.values m) row 0 c.set_register.new.registers.items (if b then set xs i (I (loop_key c.args.node i)) else xs)) (some_one (sym c.slot-register.ensures ∙ is)) done
+
+pub returns-clause-charge : goal.returns-clause-charge
+returns-clause-charge g c = omega (arith, c.in_ok-number.ensures.charge, c.in_ok-set_register.ensures.charge, width_most c.kind_at-kind.result)

@@ -4,6 +4,8 @@ use Rattle.stk_meaning.specs.Changes.{assigned_in}
 use Rattle.stk_meaning.specs.Paths.{reset_all}
 use Rattle.stk_kinded.specs.Kinds.{register_kind, cell_kind}
 use Rattle.stk_walking.proofs.Carried.{is_made_still, stands_still, row_made, row_shown}
+use Rattle.std.proofs.Common.{length}
+use Rattle.stk_walking.proofs.Costing.{costs_then, costs_store}
 use Rattle.stk_walking.proofs.loops.begin_loop.Goals as goal
 
 pub begin_cells-requires-clause-row : goal.begin_cells-requires-clause-row
@@ -48,3 +50,6 @@ returns-clause-stands g c = λ m s served at.
       kept = c.in_ok-begin_cells.ensures.shown m (cell_kind G) s.alive s.kept (k1.served m served) first.guard first.kept;
       events = second.events;
     }
+
+pub returns-clause-cost : goal.returns-clause-cost
+returns-clause-cost g c = costs_then (costs_store c.in_ok-begin_registers.ensures.charge) (c.in_ok-begin_cells.ensures.cost (length (g.O.PathSetting.setting c.args.out.now).kept))

@@ -1,4 +1,4 @@
-use Rattle.std.proofs.Common.{ℤ, pos, ◌-ℤ◌, subst}
+use Rattle.std.proofs.Common.{ℤ, pos, ◌-ℤ◌, subst, arith}
 use Rattle.std.specs.Prelude.{int_lt}
 use Rattle.stk_ctype.specs.declared.kind.IntKind.TheVariants.{ULong}
 use Rattle.stk_numbers.specs.Kinds.{wrap}
@@ -24,3 +24,6 @@ returns-clause-value g c = λ m x y served hx hy.
     let down = c.in_ok-down.ensures.value m (pos a) (pos b) s2 (k2.shown m _ _ _ x1) (k2.shown m _ _ _ y1) in
     let found = c.in_ok-found.ensures.value m (int_lt (pos a) (pos b)) (wrap ULong (pos b -ℤ pos a)) (wrap ULong (pos a -ℤ pos b)) s3 (k3.shown m _ _ _ (k2.shown m _ _ _ below)) (k3.shown m _ _ _ up) down in
     subst (λ (z : ℤ). g.V.Values.shows c.choose.new.self m ULong c.in_ok-found.found z) (apart_is a b (residue_below 64 x) (residue_below 64 y)) found
+
+pub returns-clause-charge : goal.returns-clause-charge
+returns-clause-charge g c = omega (arith, c.in_ok-below.ensures.charge, c.in_ok-up.ensures.charge, c.in_ok-down.ensures.charge, c.in_ok-found.ensures.charge)

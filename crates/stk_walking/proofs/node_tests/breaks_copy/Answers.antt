@@ -1,4 +1,4 @@
-use Rattle.std.proofs.Common.{pos}
+use Rattle.std.proofs.Common.{pos, arith}
 use Rattle.stk_numbers.specs.Conditions.{apart}
 use Rattle.stk_meaning.specs.Operations.{to_address}
 use Rattle.stk_walking.proofs.node_tests.breaks_copy.Goals as goal
@@ -18,3 +18,6 @@ returns-clause-value g c = λ m x y z served h.
     let n = c.in_ok-count.ensures.value m z s2 (k2.shown m _ _ _ (k1.shown m _ _ _ h.third)) in
     let far = c.in_ok-distance.ensures.value m x y s3 (k3.shown m _ _ _ (k2.shown m _ _ _ a)) (k3.shown m _ _ _ b) in
     c.in_ok-found.ensures.value m (pos (apart (to_address x) (to_address y))) (pos (to_address z)) s4 far (k4.shown m _ _ _ n)
+
+pub returns-clause-charge : goal.returns-clause-charge
+returns-clause-charge g c = omega (arith, c.in_ok-to.ensures.charge, c.in_ok-from.ensures.charge, c.in_ok-count.ensures.charge, c.in_ok-distance.ensures.charge, c.in_ok-found.ensures.charge)

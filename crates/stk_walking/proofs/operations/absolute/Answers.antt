@@ -1,4 +1,4 @@
-use Rattle.std.proofs.Common.{pos}
+use Rattle.std.proofs.Common.{pos, arith}
 use Rattle.std.specs.Prelude.{int_lt, ◌-ℤ◌}
 use Rattle.stk_numbers.specs.Kinds.{wrap}
 use Rattle.stk_walking.proofs.operations.absolute.Goals as goal
@@ -17,3 +17,6 @@ returns-clause-value g c = λ m x served hx.
     let below = c.in_ok-below.ensures.value m x (pos 0) s1 x1 none in
     let less = c.in_ok-less.ensures.value m (pos 0) x s2 (k2.shown m _ _ _ none) x2 in
     c.in_ok-found.ensures.value m (int_lt x (pos 0)) (wrap c.args.kind (pos 0 -ℤ x)) x s3 (k3.shown m _ _ _ below) less (k3.shown m _ _ _ x2)
+
+pub returns-clause-charge : goal.returns-clause-charge
+returns-clause-charge g c = omega (arith, c.in_ok-none.ensures.charge, c.in_ok-below.ensures.charge, c.in_ok-less.ensures.charge, c.in_ok-found.ensures.charge)

@@ -1,4 +1,4 @@
-use Rattle.std.proofs.Common.{ℤ, negsuc, ap, ◌∙◌, subst}
+use Rattle.std.proofs.Common.{ℤ, negsuc, ap, ◌∙◌, subst, arith}
 use Rattle.stk_numbers.specs.Kinds.{wrap, is_bool}
 use Rattle.stk_numbers.proofs.Machine.{shown}
 use Rattle.stk_walking.proofs.Numbers.{difference_wraps, promoted_is_plain}
@@ -17,3 +17,6 @@ returns-clause-value g c = λ m x served hx.
     let plain = ap is_bool c.requires.promoted ∙ promoted_is_plain c.args.operand.kind in
     let found = c.in_ok-found.ensures.value m (wrap k (negsuc 0)) (wrap k x) s2 (k2.shown m _ _ _ ones) a in
     subst (λ (z : ℤ). V.shows c.arith.new.self m k c.in_ok-found.found z) (difference_wraps k (negsuc 0) x plain) found
+
+pub returns-clause-charge : goal.returns-clause-charge
+returns-clause-charge g c = omega (arith, c.in_ok-ones.ensures.charge, c.in_ok-x.ensures.charge, c.in_ok-found.ensures.charge)

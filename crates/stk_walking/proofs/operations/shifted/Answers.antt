@@ -1,4 +1,4 @@
-use Rattle.std.proofs.Common.{ℤ, sym, ap, ◌∙◌, subst}
+use Rattle.std.proofs.Common.{ℤ, sym, ap, ◌∙◌, subst, arith}
 use Rattle.stk_numbers.specs.Kinds.{wrap, promote}
 use Rattle.stk_numbers.specs.Values.{shifted}
 use Rattle.stk_walking.proofs.Numbers.{promoted_stays}
@@ -15,3 +15,6 @@ returns-clause-value g c = λ m x y served hx hy.
     let stays = ap (λ k. wrap k x) c.requires.promoted ∙ ap (wrap (promote c.args.left.kind)) same ∙ promoted_stays c.args.left.kind whole.0 whole.2 ∙ sym same in
     let found = c.in_ok-found.ensures.value m (wrap c.args.kind x) y s1 a (k1.shown m _ _ _ hy) in
     subst (λ (z : ℤ). V.shows c.shift.new.self m c.args.kind c.in_ok-found.found (shifted c.args.op c.args.kind z y)) stays found
+
+pub returns-clause-charge : goal.returns-clause-charge
+returns-clause-charge g c = omega (arith, c.in_ok-x.ensures.charge, c.in_ok-found.ensures.charge)

@@ -19,3 +19,6 @@ returns-clause-stands g c = λ m s served at.
     let shows = g.V.Values.shows in
     stands_with_cells (shows c.args.values.now m) (shows c.remove_cells.new.values m) (c.in_ok-remove_cells.ensures.keeps.shown m) G c.args.state.now c.remove_cells.new.cells s (all_forgotten s.kept) at
     (c.in_ok-remove_cells.ensures.shown m (cell_kind G) s.alive s.kept served at.guard at.kept)
+
+pub returns-clause-cost : goal.returns-clause-cost
+returns-clause-cost g c = c.in_ok-remove_cells.ensures.cost

@@ -13,3 +13,15 @@ returns-in-Object-clause-follows g c = rw c.in-Object.is (IfOk-weaker c.read_loa
 
 pub returns-in-Unnamed-clause-follows : goal.returns-in-Unnamed-clause-follows
 returns-in-Unnamed-clause-follows g c = rw c.in-Unnamed.is (IfOk-weaker c.read_loaded-in-Unnamed.result _ _ (λ v h. λ (a : ℕ). h) c.read_loaded-in-Unnamed.ensures.follows)
+
+pub returns-in-Register-clause-cost : goal.returns-in-Register-clause-cost
+returns-in-Register-clause-cost g c = rw c.in-Register.is c.read_named_register.ensures.cost
+
+pub returns-in-Kept-clause-cost : goal.returns-in-Kept-clause-cost
+returns-in-Kept-clause-cost g c = rw c.in-Kept.is c.read_named_cell.ensures.cost
+
+pub returns-in-Object-clause-cost : goal.returns-in-Object-clause-cost
+returns-in-Object-clause-cost g c = rw c.in-Object.is c.read_loaded.ensures.cost
+
+pub returns-in-Unnamed-clause-cost : goal.returns-in-Unnamed-clause-cost
+returns-in-Unnamed-clause-cost g c = rw c.in-Unnamed.is c.read_loaded-in-Unnamed.ensures.cost

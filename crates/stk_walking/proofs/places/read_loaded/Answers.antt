@@ -1,6 +1,8 @@
 use Rattle.stk_meaning.specs.Keys.{load_key}
 use Rattle.stk_guarded.proofs.Evaluations.{gives_goes}
 use Rattle.stk_walking.proofs.Carried.{is_made_still, stands_still}
+use Rattle.std.proofs.Common.{refl}
+use Rattle.stk_walking.proofs.Costing.{costs_free}
 use Rattle.stk_walking.proofs.places.read_loaded.Goals as goal
 
 pub returns-clause-made : goal.returns-clause-made
@@ -18,3 +20,6 @@ returns-clause-follows g c = λ m s served at.
       stands = stands_still (shows c.args.values.now m) (shows c.input_value.new.values m) (c.in_ok-found.ensures.keeps.shown m) G c.args.state.now s at;
       goes = gives_goes x s;
     }
+
+pub returns-clause-cost : goal.returns-clause-cost
+returns-clause-cost g c = λ kept. costs_free refl c.in_ok-found.ensures.charge

@@ -6,6 +6,7 @@ use Rattle.stk_guarded.specs.Cells.{read_of}
 use Rattle.stk_guarded.proofs.Cells.{read_goes}
 use Rattle.stk_walking.proofs.Carried.{is_made_still, stands_still, cells_made}
 use Rattle.stk_walking.proofs.Placed.{made_with_cells, stands_with_cells}
+use Rattle.stk_walking.proofs.Costing.{costs_after}
 use Rattle.stk_walking.proofs.places.read_named_cell.Goals as goal
 
 pub read_cell-requires-clause-guard : goal.read_cell-requires-clause-guard
@@ -45,3 +46,6 @@ returns-clause-follows g c = λ a m s served at.
           (c.in_ok-found.ensures.shown m (cell_kind G) s.alive y s.kept (k1.served m served) c.requires.suits mid.guard loaded mid.kept);
       goes = read_goes c.args.at y s;
     }
+
+pub returns-clause-cost : goal.returns-clause-cost
+returns-clause-cost g c = λ kept. costs_after c.in_ok-loaded.ensures.charge (c.in_ok-found.ensures.cost kept)

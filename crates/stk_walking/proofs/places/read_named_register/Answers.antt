@@ -1,7 +1,8 @@
-use Rattle.std.proofs.Common.{get_or, pos}
+use Rattle.std.proofs.Common.{get_or, pos, refl}
 use Rattle.stk_kinded.specs.Kinds.{register_kind}
 use Rattle.stk_guarded.proofs.Evaluations.{gives_goes}
 use Rattle.stk_walking.proofs.Carried.{is_made_still, stands_still}
+use Rattle.stk_walking.proofs.Costing.{costs_free}
 use Rattle.stk_walking.proofs.places.read_named_register.Goals as goal
 
 pub read_register-requires : goal.read_register-requires
@@ -21,3 +22,6 @@ returns-clause-follows g c = λ a m s served at.
 
 pub returns-clause-made : goal.returns-clause-made
 returns-clause-made g c = is_made_still (g.V.Values.made c.args.values.now) (g.V.Values.made c.read_register.new.values) c.in_ok-found.ensures.keeps.made_still (g.O.PathSetting.setting c.args.out.now) c.args.state.now c.requires.made
+
+pub returns-clause-cost : goal.returns-clause-cost
+returns-clause-cost g c = λ kept. costs_free refl c.in_ok-found.ensures.charge

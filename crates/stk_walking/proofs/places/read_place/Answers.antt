@@ -22,3 +22,6 @@ returns-clause-follows g c =
     let now = c.read_in_kind.new.values in
     subst (λ (k : IntKind). (a : ℕ) → Evaluates (V before) (shows before) (shows now) G (λ m x. shows now m k c.in_ok-found.found x) (λ m r kept. number_in (path_world (g.O.WalkSetting.under c.args.out.now m)) (target_shown c.args.target) c.args.node k a r kept) c.args.state.now c.read_in_kind.new.state)
     c.kind_at-kind.ensures c.in_ok-found.ensures.follows
+
+pub returns-clause-cost : goal.returns-clause-cost
+returns-clause-cost g c = rw c.kind_at-kind.ensures at c.in_ok-found.ensures.cost

@@ -19,3 +19,6 @@ returns-clause-stands g c = λ m s x served hx at.
     let shows = g.V.Values.shows in
     stands_with_cells (shows c.args.values.now m) (shows c.store_cell.new.values m) (c.in_ok-store_cell.ensures.keeps.shown m) G c.args.state.now c.store_cell.new.cells s (set s.kept c.args.at (Some x)) at
     (c.in_ok-store_cell.ensures.shown m (cell_kind G) s.alive x s.kept served c.requires.suits at.guard hx at.kept)
+
+pub returns-clause-cost : goal.returns-clause-cost
+returns-clause-cost g c = c.in_ok-store_cell.ensures.cost

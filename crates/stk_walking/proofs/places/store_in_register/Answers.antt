@@ -1,4 +1,4 @@
-use Rattle.std.proofs.Common.{set}
+use Rattle.std.proofs.Common.{set, refl}
 use Rattle.stk_kinded.specs.Kinds.{register_kind}
 use Rattle.stk_walking.proofs.Placed.{made_with_registers, stands_with_registers}
 use Rattle.stk_walking.proofs.places.store_in_register.Goals as goal
@@ -19,3 +19,9 @@ returns-clause-stands g c = λ m s x served hx at.
     let shows = g.V.Values.shows in
     stands_with_registers (shows c.args.values.now m) (shows c.set_register.new.values m) (c.in_ok-set_register.ensures.keeps.shown m) G c.args.state.now c.set_register.new.registers s (set s.numbers c.args.at x) at
     (c.in_ok-set_register.ensures.shown m (register_kind G) s.alive x s.numbers served c.requires.suits at.guard hx at.numbers)
+
+pub returns-clause-charge : goal.returns-clause-charge
+returns-clause-charge g c = c.in_ok-set_register.ensures.charge
+
+pub returns-clause-cells : goal.returns-clause-cells
+returns-clause-cells g c = refl

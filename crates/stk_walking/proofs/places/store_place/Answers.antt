@@ -24,3 +24,6 @@ returns-clause-stored g c =
     subst (λ (k : IntKind). (m : List ℤ) (s : Standing) (inputs : InputMap) (a : ℕ) (x y : ℤ) → g.V.Values.serves before m → shows before m k c.args.value x → Stands (shows before m) G c.args.state.now s →
     Leads (shows now m) G (λ z. z ≡ y) (stored_at (path_world inputs) (target_shown c.args.target) k a x y s.numbers s.kept) s c.store_in_kind.new.state)
     c.kind_at-kind.ensures c.in_ok-store_in_kind.ensures.stored
+
+pub returns-clause-cost : goal.returns-clause-cost
+returns-clause-cost g c = rw c.kind_at-kind.ensures at c.in_ok-store_in_kind.ensures.cost

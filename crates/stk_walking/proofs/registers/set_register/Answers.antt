@@ -38,3 +38,6 @@ returns-then-place-len-clause-shown g c = λ m row b x xs served is hg hv h.
     let size = row_length old row 0 items xs h in
     let past : length xs ≤ c.args.at = omega (arith, size) in
     subst (λ (z : List ℤ). RowShows old row 0 items z) (past_if b xs c.args.at x past) h
+
+pub returns-clause-charge : goal.returns-clause-charge
+returns-clause-charge g c = c.in_ok-chosen.ensures.charge

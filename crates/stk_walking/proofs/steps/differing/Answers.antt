@@ -1,4 +1,4 @@
-use Rattle.std.proofs.Common.{◌≡◌, Bool, true, false, ◌&&◌, ◌||◌, not, refl, subst}
+use Rattle.std.proofs.Common.{◌≡◌, Bool, true, false, ◌&&◌, ◌||◌, not, refl, subst, arith}
 use Rattle.stk_ctype.specs.declared.kind.IntKind.TheVariants.{Int}
 use Rattle.stk_meaning.specs.Operations.{bit}
 use Rattle.stk_walking.specs.Events.{differs}
@@ -28,3 +28,6 @@ returns-clause-value g c = λ m a b served l r.
     let first4 = k4.shown m _ _ _ (k3.shown m _ _ _ first) in
     let found = c.in_ok-found.ensures.value m (a && not b) (not a && b) s4 first4 second in
     subst (λ (t : Bool). g.V.Values.shows c.either.new.values m Int c.in_ok-found.found (bit t)) (differs_is a b) found
+
+pub returns-clause-charge : goal.returns-clause-charge
+returns-clause-charge g c = omega (arith, c.in_ok-not_right.ensures.charge, c.in_ok-first.ensures.charge, c.in_ok-not_left.ensures.charge, c.in_ok-second.ensures.charge, c.in_ok-found.ensures.charge)

@@ -1,4 +1,4 @@
-use Rattle.std.proofs.Common.{[], ◌∷◌, ◌++◌, subst}
+use Rattle.std.proofs.Common.{[], ◌∷◌, ◌++◌, subst, refl}
 use Rattle.stk_ctype.specs.declared.kind.IntKind.TheVariants.{Int}
 use Rattle.stk_numbers.specs.declared.conditions.CandKind.TheVariants.{Arm}
 use Rattle.stk_walking.specs.Events.{Live, hit, events_of}
@@ -29,3 +29,6 @@ returns-clause-stands g c = λ G m s a.
 
 pub returns-clause-events : goal.returns-clause-events
 returns-clause-events g c = rw c.in_ok-push.ensures.items (events_more c.args.state.now.steps.items (record { event = hit c.args.node Arm; test = c.args.state.now.guard }))
+
+pub returns-clause-cells : goal.returns-clause-cells
+returns-clause-cells g c = refl

@@ -1,4 +1,4 @@
-use Rattle.std.proofs.Common.{◌++◌, ◌∷◌, [], ap, ◌∙◌, append_assoc}
+use Rattle.std.proofs.Common.{◌++◌, ◌∷◌, [], ap, ◌∙◌, append_assoc, arith}
 use Rattle.stk_numbers.specs.declared.conditions.CandKind.TheVariants.{Algebra}
 use Rattle.stk_walking.specs.Events.{hit, events_in, truth_events}
 use Rattle.stk_walking.proofs.steps.push_replaced.Goals as goal
@@ -15,3 +15,6 @@ returns-clause-events g c =
     c.in_ok-push_difference.ensures.events
     ∙ ap (λ z. z ++ hit c.args.node Algebra ∷ []) c.in_ok-push_truth.ensures.events
     ∙ append_assoc (events_in c.args.steps.now.items) (truth_events c.args.node) (hit c.args.node Algebra ∷ [])
+
+pub returns-clause-charge : goal.returns-clause-charge
+returns-clause-charge g c = omega (arith, c.in_ok-push_truth.ensures.charge, c.in_ok-push_difference.ensures.charge)

@@ -1,4 +1,4 @@
-use Rattle.std.proofs.Common.{◌&&◌}
+use Rattle.std.proofs.Common.{◌&&◌, arith}
 use Rattle.stk_ctype.specs.declared.kind.IntKind.TheVariants.{Int}
 use Rattle.stk_walking.proofs.Carried.{live_shown, live_more, steps_made, steps_more, events_more}
 use Rattle.stk_walking.proofs.steps.push_step.Goals as goal
@@ -19,3 +19,6 @@ returns-clause-made g c =
 
 pub returns-clause-events : goal.returns-clause-events
 returns-clause-events g c = rw c.in_ok-push.ensures.items (events_more c.args.steps.now.items (record { event = c.args.event; test = c.in_ok-test.test }))
+
+pub returns-clause-charge : goal.returns-clause-charge
+returns-clause-charge g c = omega (arith, c.in_ok-test.ensures.charge)

@@ -1,4 +1,4 @@
-use Rattle.std.proofs.Common.{not, ◌++◌, ◌∷◌, [], ap, ◌∙◌, append_assoc}
+use Rattle.std.proofs.Common.{not, ◌++◌, ◌∷◌, [], ap, ◌∙◌, append_assoc, arith}
 use Rattle.stk_ctype.specs.declared.kind.IntKind.TheVariants.{Int}
 use Rattle.stk_numbers.specs.declared.conditions.CandKind.TheVariants.{AlwaysTrue, AlwaysFalse}
 use Rattle.stk_walking.specs.Events.{hit, events_in}
@@ -28,3 +28,6 @@ returns-clause-events g c =
     c.in_ok-push_step-2.ensures.events
     ∙ ap (λ z. z ++ hit c.args.node AlwaysFalse ∷ []) c.in_ok-push_step.ensures.events
     ∙ append_assoc (events_in c.args.steps.now.items) (hit c.args.node AlwaysTrue ∷ []) (hit c.args.node AlwaysFalse ∷ [])
+
+pub returns-clause-charge : goal.returns-clause-charge
+returns-clause-charge g c = omega (arith, c.in_ok-opposite.ensures.charge, c.in_ok-push_step.ensures.charge, c.in_ok-push_step-2.ensures.charge)

@@ -1,4 +1,4 @@
-use Rattle.std.proofs.Common.{Bool, [], ◌∷◌, ◌++◌, Option, sym, subst}
+use Rattle.std.proofs.Common.{Bool, [], ◌∷◌, ◌++◌, Option, sym, subst, refl}
 use Rattle.std.specs.Prelude.{if◌then◌else◌}
 use Rattle.stk_ctype.specs.declared.kind.IntKind.TheVariants.{Int}
 use Rattle.stk_meaning.specs.declared.entry.Entry.TheVariants.{Seen}
@@ -68,3 +68,15 @@ returns-in_ok-push_replaced-in-Some-clause-stands g c = λ G m s b other served 
       events = subst (λ (z : Option Bool). Live (now Int) items (events_of (s.entries ++ (if s.alive then Seen c.args.node b z ∷ [] else [])))) (sym found.2)
           (subst (Live (now Int) items) (events_replaced s.alive b found.0 s.entries c.args.node) live);
     }
+
+pub returns-in_ok-push_truth-in-None-clause-charge : goal.returns-in_ok-push_truth-in-None-clause-charge
+returns-in_ok-push_truth-in-None-clause-charge g c = rw c.in-None.is c.in_ok-push_truth-in-None.ensures.charge
+
+pub returns-in_ok-push_replaced-in-Some-clause-charge : goal.returns-in_ok-push_replaced-in-Some-clause-charge
+returns-in_ok-push_replaced-in-Some-clause-charge g c = rw c.in-Some.is c.in_ok-push_replaced-in-Some.ensures.charge
+
+pub returns-in_ok-push_truth-in-None-clause-cells : goal.returns-in_ok-push_truth-in-None-clause-cells
+returns-in_ok-push_truth-in-None-clause-cells g c = refl
+
+pub returns-in_ok-push_replaced-in-Some-clause-cells : goal.returns-in_ok-push_replaced-in-Some-clause-cells
+returns-in_ok-push_replaced-in-Some-clause-cells g c = refl

@@ -1,4 +1,4 @@
-use Rattle.std.proofs.Common.{Bool, true, false, ◌&&◌, ◌||◌, not, ◌≡◌, refl, subst}
+use Rattle.std.proofs.Common.{Bool, true, false, ◌&&◌, ◌||◌, not, ◌≡◌, refl, subst, arith}
 use Rattle.stk_ctype.specs.declared.kind.IntKind.TheVariants.{Int}
 use Rattle.stk_meaning.specs.Operations.{bit}
 use Rattle.stk_walking.proofs.tests.either.Goals as goal
@@ -22,3 +22,6 @@ returns-clause-value g c = λ m a b served l r.
     let n = c.in_ok-neither.ensures.value m (not a) (not b) s2 (k2.shown m _ _ _ x) y in
     let z = c.in_ok-found.ensures.value m (not a && not b) s3 n in
     subst (λ (t : Bool). shows c.opposite-3.new.self m Int c.in_ok-found.found (bit t)) (either_is a b) z
+
+pub returns-clause-charge : goal.returns-clause-charge
+returns-clause-charge g c = omega (arith, c.in_ok-not_left.ensures.charge, c.in_ok-not_right.ensures.charge, c.in_ok-neither.ensures.charge, c.in_ok-found.ensures.charge)

@@ -1,4 +1,4 @@
-use Rattle.std.proofs.Common.{List, ◌++◌, sym, ap, ◌∙◌, subst}
+use Rattle.std.proofs.Common.{List, ◌++◌, sym, ap, ◌∙◌, subst, refl}
 use Rattle.stk_ctype.specs.declared.kind.IntKind.TheVariants.{Int}
 use Rattle.stk_meaning.specs.Operations.{Test}
 use Rattle.stk_operators.specs.Checked.{tests_of}
@@ -49,3 +49,9 @@ returns-clause-stands g c = λ m s x y z accessed f served hx same a.
       kept = cells_shown old now keep (cell_kind G) 0 c.args.state.now.cells.items s.kept a.kept;
       events = subst (Live (now Int) c.push_tests.new.steps.items) (events_broken G c.without-without.result c.args.node (tests_of c.args.tests) accessed f x y z s.alive s.entries c.without-without.ensures same) live;
     }
+
+pub returns-clause-charge : goal.returns-clause-charge
+returns-clause-charge g c = c.in_ok-push_tests.ensures.charge
+
+pub returns-clause-cells : goal.returns-clause-cells
+returns-clause-cells g c = refl

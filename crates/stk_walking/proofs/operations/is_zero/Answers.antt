@@ -1,0 +1,5 @@
+use Rattle.std.proofs.Common.{arith}
+use Rattle.stk_walking.proofs.operations.is_zero.Goals as goal
+
+pub returns-clause-charge : goal.returns-clause-charge
+returns-clause-charge g c = omega (arith, c.in_ok-test.ensures.charge, c.in_ok-found.ensures.charge)
