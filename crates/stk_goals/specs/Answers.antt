@@ -16,6 +16,12 @@ is_given_up (Start start) = false
 is_given_up Never = false
 is_given_up GivenUp = true
 
+-- whether an answer says that no map answers the query
+abbrev pub is_never : QueryAnswer → Bool
+is_never (Start start) = false
+is_never Never = true
+is_never GivenUp = false
+
 -- an answer is right: the start answers the query; no map does; or the query is spent at the budget
 abbrev pub IsRightAnswer : Typing → Kinds → FunctionTree → Candidate → List Condition → ℕ → QueryAnswer → Type 0
 IsRightAnswer ty without f c set budget (Start start) = AnswersQuery ty without f c set start.numbers

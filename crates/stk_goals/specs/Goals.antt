@@ -1,5 +1,6 @@
 -- What the goals of a function are made of: a store of terms, and the walk of the function over it.
-use Rattle.std.specs.Prelude.{◌≡◌, ℕ, ◌+◌, ◌*◌, ◌≤◌, List, [], ◌∷◌, ℤ, map}
+use Rattle.std.specs.Prelude.{◌≡◌, ℕ, ◌+◌, ◌*◌, ◌≤◌, ◌<◌, List, [], ◌∷◌, ℤ, length, map}
+use Rattle.std.specs.List.{All}
 use Rattle.stk_ctype.specs.declared.kind.IntKind.{IntKind}
 use Rattle.stk_ctype.specs.declared.kind.IntKind.TheVariants.{Int}
 use Rattle.stk_tree.specs.declared.unit.Function.{Function}
@@ -14,6 +15,7 @@ use Rattle.stk_meaning.specs.Weights.{weight, most_weight}
 use Rattle.stk_function_types.specs.Nodes.{typing_in}
 use Rattle.stk_path_runs.specs.Rows.{Tables}
 use Rattle.stk_terms.specs.declared.term.TermId.{TermId}
+use Rattle.stk_terms.specs.Terms.{Stored}
 use Rattle.stk_terms.specs.Growth.{Keeps}
 use Rattle.stk_terms.specs.Cost.{total_cost}
 use Rattle.stk_values.specs.declared.walked.Step.{Step}
@@ -24,6 +26,7 @@ use Rattle.stk_values.specs.Walks.{EachTest, Says, event_of}
 use Rattle.stk_event_laws.specs.Listed.{StandOnce}
 use Rattle.stk_event_laws.specs.Positions.{listed_events}
 use Rattle.stk_symbols.specs.Symbolic.{Symbolic, Serves, IsMade, Shows}
+use Rattle.stk_query.specs.Laws.{IsNever}
 use Rattle.stk_goals.specs.Queries.{key_kinds, has_addresses}
 
 -- how many steps tell of a violation
@@ -78,7 +81,13 @@ without_asked a = a.tables.places.without
 abbrev pub tree_asked : AskedFunction → FunctionTree
 tree_asked a = view_function a.function
 
--- a store and a walk are those of its goals, and these are the kinds of its keys
-pub record AreGoalsIn (a : AskedFunction) (kinds : List IntKind) (s : Symbolic) (w : Walked TermId) : Type 0 where
+-- no inputs make the terms at these places 1
+abbrev pub AreNever : Stored → List ℕ → Type 0
+AreNever s = All (λ i. (i < length s.terms) × IsNever s i)
+
+-- A store and a walk are those of its goals, these are the kinds of its keys, and these are places of goals that no
+-- inputs make 1.
+pub record AreGoalsIn (a : AskedFunction) (kinds : List IntKind) (s : Symbolic) (w : Walked TermId) (nevers : List ℕ) : Type 0 where
   pub kinds_are : kinds ≡ key_kinds (typing_asked a) (without_asked a) (tree_asked a)
   pub goals : AreGoalsOf (typing_asked a) (without_asked a) (tree_asked a) s w
+  pub never : AreNever s.terms nevers

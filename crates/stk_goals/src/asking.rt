@@ -1,6 +1,8 @@
 //! What is asked of the goals of a function, and what is answered.
 
 ghost use Rattle.std.specs.Prelude.{◌≡◌, ◌+◌, ◌<◌, ◌≤◌, ◌^◌, true, List, length, map, sum, IfOk};
+ghost use Rattle.std.specs.Bool.{OnTrue};
+ghost use Rattle.std.specs.List.{Contains};
 ghost use Rattle.stk_base.specs.Causes.{Rose};
 ghost use Rattle.stk_tree.specs.Syntax.{FunctionTree};
 ghost use Rattle.stk_numbers.specs.Kinds.{width_of};
@@ -11,8 +13,10 @@ ghost use Rattle.stk_meaning.specs.Typings.{Typing};
 ghost use Rattle.stk_terms.specs.Values.{width_at};
 ghost use Rattle.stk_terms.specs.Cost.{cost};
 ghost use Rattle.stk_rewrite.specs.Normal.{IsNormal};
+ghost use Rattle.stk_query.specs.Laws.{IsNever};
 ghost use Rattle.stk_goals.specs.Queries.{key_kinds, IsGoalOf};
-ghost use Rattle.stk_goals.specs.Answers.{is_given_up, IsRightAnswer};
+ghost use Rattle.stk_goals.specs.Goals.{AreNever};
+ghost use Rattle.stk_goals.specs.Answers.{is_given_up, is_never, IsRightAnswer};
 
 use crate::numbers::inputs_of;
 use std::alloc::Global;
@@ -50,8 +54,8 @@ pub(crate) struct Goal<'a> {
     pub(crate) kinds: &'a [IntKind],
 }
 
-/// The answer to a query whose goal this is, by a decider.
-pub(crate) fn decided<D: Decider>(
+// The answer to a query whose goal this is, by a decider.
+fn decided<D: Decider>(
     alloc: Global,
     goal: &Goal,
     decider: &mut D,
@@ -65,6 +69,7 @@ pub(crate) fn decided<D: Decider>(
     requires normal { IsNormal goal.now.terms.now goal.now.term.0 }
     requires inputs { goal.now.terms.now.inputs ≡ map width_of goal.now.kinds.now }
     ensures right { (ty : Typing) (without : Kinds) (f : FunctionTree) (c : Candidate) (set : List Condition) → goal.now.kinds.now ≡ key_kinds ty without f → IsGoalOf ty without f c set goal.now.terms.now goal.now.term.0 → IfOk result (IsRightAnswer ty without f c set budget) }
+    ensures never { IfOk result (λ a. is_never a ≡ true → IsNever goal.now.terms.now goal.now.term.0) }
     ensures rose { IfOk result (λ a. is_given_up a ≡ true → Rose (D.given_up decider.old) (D.given_up decider.new)) }
     ensures later { D.given_up decider.old ≤ D.given_up decider.new }
 {
@@ -77,4 +82,51 @@ pub(crate) fn decided<D: Decider>(
         Verdict::Tried | Verdict::Refuted(_, _) => Ok(QueryAnswer::Never),
         Verdict::Undecided(_, _) => Ok(QueryAnswer::GivenUp),
     }
+}
+
+// Whether an answer says that no map answers the query.
+fn is_never(answer: &QueryAnswer) -> bool
+    ensures { result ≡ is_never answer.now }
+{
+    matches!(answer, QueryAnswer::Never)
+}
+
+// Whether a place is among these.
+fn is_among(places: &[usize], place: usize) -> bool
+    ensures { OnTrue result (Contains places.now place) }
+{
+    places.contains(&place)
+}
+
+/// The answer to a query whose goal this is. Goals that no inputs make 1 are remembered by their places, and a query
+/// whose goal is one of them isn't asked again.
+pub(crate) fn answered<D: Decider>(
+    alloc: Global,
+    goal: &Goal,
+    nevers: &mut Vec<usize>,
+    decider: &mut D,
+    budget: u32,
+) -> Result<QueryAnswer, NoMemory>
+    requires exists { goal.now.term.0 < length goal.now.terms.now.terms }
+    requires one { width_at goal.now.terms.now goal.now.term.0 ≡ 1 }
+    requires least { 1 ≤ budget }
+    requires most { budget ≤ MOST_BUDGET }
+    requires room { sum goal.now.terms.now.inputs + cost goal.now.terms.now goal.now.term.0 < 2 ^ 29 }
+    requires normal { IsNormal goal.now.terms.now goal.now.term.0 }
+    requires inputs { goal.now.terms.now.inputs ≡ map width_of goal.now.kinds.now }
+    requires never { AreNever goal.now.terms.now nevers.old.items }
+    ensures right { (ty : Typing) (without : Kinds) (f : FunctionTree) (c : Candidate) (set : List Condition) → goal.now.kinds.now ≡ key_kinds ty without f → IsGoalOf ty without f c set goal.now.terms.now goal.now.term.0 → IfOk result (IsRightAnswer ty without f c set budget) }
+    ensures rose { IfOk result (λ a. is_given_up a ≡ true → Rose (D.given_up decider.old) (D.given_up decider.new)) }
+    ensures later { D.given_up decider.old ≤ D.given_up decider.new }
+    ensures never { AreNever goal.now.terms.now nevers.new.items }
+{
+    let place = goal.term.0;
+    if is_among(nevers.as_slice(), place) {
+        return Ok(QueryAnswer::Never);
+    }
+    let answer = decided(alloc, goal, decider, budget)?;
+    if is_never(&answer) {
+        nevers.push(place)?;
+    }
+    Ok(answer)
 }

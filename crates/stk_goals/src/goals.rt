@@ -6,6 +6,7 @@ ghost use Rattle.stk_tree.specs.View.{view_function};
 ghost use Rattle.stk_meaning.specs.Lists as lists;
 ghost use Rattle.stk_function_types.specs.Nodes.{typing_in};
 ghost use Rattle.stk_terms.specs.Values.{width_at};
+ghost use Rattle.stk_terms.specs.Growth.{Keeps};
 ghost use Rattle.stk_rewrite.specs.Normal.{IsNormal};
 ghost use Rattle.stk_walkable.specs.Searched.{IsSearched};
 ghost use Rattle.stk_goals.specs.Queries.{IsGoalOf};
@@ -13,7 +14,7 @@ ghost use Rattle.stk_goals.specs.Goals.{AreGoalsOf, typing_asked, without_asked,
 ghost use Rattle.stk_goals.specs.Answers.{is_given_up, IsRightAnswer};
 ghost use Rattle.stk_function_env.specs.declared.infos.KeyInfo.{KeyInfo};
 
-use crate::asking::{Goal, Query, QueryAnswer, decided};
+use crate::asking::{Goal, Query, QueryAnswer, answered};
 use std::alloc::Global;
 use std::marker::Model;
 use stk_base::NoMemory;
@@ -39,6 +40,8 @@ pub struct FunctionGoals<'a> {
     kinds: Vec<IntKind>,
     symbols: Symbols,
     walked: Walked<TermId>,
+    // the places of goals that no inputs make 1
+    nevers: Vec<usize>,
 }
 
 impl<'a> Model for FunctionGoals<'a> {
@@ -72,7 +75,7 @@ impl<'a> Model for FunctionGoals<'a> {
 
     ghost view = { λ g. record { tables = g.tables.now; function = g.function.now } };
 
-    ghost invariant = { λ g. AreGoalsIn (record { tables = g.tables.now; function = g.function.now }) g.kinds.items g.symbols g.walked };
+    ghost invariant = { λ g. AreGoalsIn (record { tables = g.tables.now; function = g.function.now }) g.kinds.items g.symbols g.walked g.nevers.items };
 }
 
 // The kinds of keys.
@@ -100,6 +103,7 @@ fn goal_of(
     ensures normal { IfOk result (λ v. IsNormal symbols.new.terms v.0) }
     ensures one { IfOk result (λ v. width_at symbols.new.terms v.0 ≡ 1) }
     ensures goals { AreGoalsOf (typing_in tables.now.places.types) tables.now.places.without (view_function function.now) symbols.new walked.now }
+    ensures stays { Keeps symbols.old.terms symbols.new.terms }
 {
     // The contract alone reads the function.
     let _ = tables;
@@ -133,6 +137,7 @@ impl<'a> FunctionGoals<'a> {
             kinds,
             symbols,
             walked,
+            nevers: Vec::new(alloc),
         })
     }
 
@@ -143,7 +148,8 @@ impl<'a> FunctionGoals<'a> {
     /// `Start` has such a map, `Never` comes only where there is none. `GivenUp` comes only where the function has more
     /// than 16 input bits and the decider counted a goal as given up, with a spent log of this budget over clauses that
     /// stand for the query, with no more variables than the function has input bits and weight. What the decider gave
-    /// up doesn't become less. After `NoMemory` other queries may be asked as before.
+    /// up doesn't become less. A goal that was refuted isn't asked for again. After `NoMemory` other queries may be asked
+    /// as before.
     pub fn ask<D: Decider>(
         &mut self,
         decider: &mut D,
@@ -170,6 +176,6 @@ impl<'a> FunctionGoals<'a> {
             terms: self.symbols.terms(),
             kinds: self.kinds.as_slice(),
         };
-        decided(self.alloc, &goal, decider, budget)
+        answered(self.alloc, &goal, &mut self.nevers, decider, budget)
     }
 }

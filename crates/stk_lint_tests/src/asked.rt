@@ -60,12 +60,12 @@ static ROWS: [Row; 5] = [
         asked: 0,
         given_up: 0,
     },
-    // A known start shows each of two sets, which one question confirms.
+    // A known start shows the set of a test and that of its branch, which one question confirms.
     Row {
         words: &[],
         input: "int f(int x) { int y = 10 / x; if (x == 0) return 1; return y; }",
         status: Status::Found,
-        asked: 2,
+        asked: 1,
         given_up: 0,
     },
     // Of a function of 16 input bits all maps are known, and nothing is asked.
@@ -84,12 +84,12 @@ static ROWS: [Row; 5] = [
         asked: 4,
         given_up: 4,
     },
-    // A test that is never true, and its branch: one question each finds that no run hits them.
+    // A test that is never true, and its branch: one question finds that no run hits either.
     Row {
         words: &[],
         input: "int f(int x) { if (x != x) return 1; return 0; }",
         status: Status::Stable,
-        asked: 2,
+        asked: 1,
         given_up: 0,
     },
 ];

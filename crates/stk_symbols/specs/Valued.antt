@@ -29,6 +29,10 @@ pub record IsBitOf (s : Stored) (v t : ℕ) : Type 0 where
   pub same : (residues : List ℕ) → number_at s residues v ≡ number_at s residues t
   pub reached : (chosen : ℕ → Bool) → IsClosed s chosen → chosen v ≡ true → chosen t ≡ true
 
+-- the term at a place is 0, whatever the inputs are
+abbrev pub IsZero : Stored → ℕ → Type 0
+IsZero s i = (residues : List ℕ) → number_at s residues i ≡ 0
+
 -- whether two truths differ
 abbrev pub differ : Bool → Bool → Bool
 differ true b = not b

@@ -1,18 +1,20 @@
 // Comparisons, and choices by them.
-ghost use Rattle.std.specs.Prelude.{◌≡◌, ◌*◌, ℕ, Bool, int_lt, if◌then◌else◌, IfOk};
+ghost use Rattle.std.specs.Prelude.{◌≡◌, ◌*◌, ◌<◌, ℕ, Bool, int_lt, if◌then◌else◌, length, IfOk, MatchOption};
 ghost use Rattle.std.specs.Ordering.{int_eq};
 ghost use Rattle.stk_numbers.specs.Kinds.{width_of};
 ghost use Rattle.stk_numbers.specs.Values.{compared};
+ghost use Rattle.std.specs.Bool.{OnTrue};
+ghost use Rattle.stk_terms.specs.Fitting.{IsSound};
 ghost use Rattle.stk_terms.specs.Values.{bit};
 ghost use Rattle.stk_values.specs.Standing.{stands};
-ghost use Rattle.stk_symbols.specs.Valued.{IsTerm, Obeys, Grown};
+ghost use Rattle.stk_symbols.specs.Valued.{IsTerm, IsBitOf, IsZero, Obeys, Grown};
 
 use crate::making::{chosen, two};
-use crate::tests::{fails, number, test};
+use crate::tests::{bit_of, fails, number, test};
 use stk_base::NoMemory;
 use stk_numbers::{CompareOp, IntKind, signed, width};
 use stk_rewrite::NormalTerms;
-use stk_terms::{TermId, TermOp};
+use stk_terms::{TermId, TermOp, Terms};
 
 /// Whether the first is below the second, as a bit.
 pub(crate) fn less(
@@ -37,8 +39,34 @@ pub(crate) fn less(
     }
 }
 
-/// Whether both are equal, as a bit.
-pub(crate) fn equal(
+// Whether a term is the constant 0.
+fn is_zero(terms: &Terms, id: TermId) -> bool
+    requires sound { IsSound terms.now }
+    requires exists { id.0 < length terms.now.terms }
+    ensures { OnTrue result (IsZero terms.now id.0) }
+{
+    match terms.op(id) {
+        TermOp::Constant(_, number) => number == 0,
+        _ => false,
+    }
+}
+
+// The bit that is compared with 0, where the left one is a bit with zeros in front, and the right one is 0.
+fn bit_against_zero(terms: &Terms, left: TermId, right: TermId) -> Option<TermId>
+    requires sound { IsSound terms.now }
+    requires first { left.0 < length terms.now.terms }
+    requires second { right.0 < length terms.now.terms }
+    ensures { MatchOption result Unit (λ t. IsBitOf terms.now left.0 t.0 × IsZero terms.now right.0) }
+{
+    if !is_zero(terms, right) {
+        return None;
+    }
+    let bit = bit_of(terms, left)?;
+    Some(bit)
+}
+
+// Whether both are equal, as a bit, by a term of their width.
+fn equal_terms(
     terms: &mut NormalTerms,
     kind: IntKind,
     left: TermId,
@@ -53,6 +81,32 @@ pub(crate) fn equal(
     let w = width(kind);
     let v = two(terms, TermOp::Eq, (w, w), left, right)?;
     Ok(v)
+}
+
+/// Whether both are equal, as a bit. A bit that has zeros in front is compared with 0 as a bit.
+#[tactic(auto, using(crate::proofs::Made::kept))]
+pub(crate) fn equal(
+    terms: &mut NormalTerms,
+    kind: IntKind,
+    left: TermId,
+    right: TermId,
+) -> Result<TermId, NoMemory>
+    requires first { IsTerm terms.old (width_of kind) left.0 }
+    requires second { IsTerm terms.old (width_of kind) right.0 }
+    ensures made { IfOk result (λ v. IsTerm terms.new 1 v.0) }
+    ensures value { IfOk result (λ v. (numbers : ℕ → ℕ) → Obeys terms.new numbers → numbers v.0 ≡ bit (int_eq (stands kind (numbers left.0)) (stands kind (numbers right.0)))) }
+    ensures grown { Grown terms.old terms.new (4 * width_of kind) }
+{
+    match bit_against_zero(terms.terms(), left, right) {
+        Some(bit) => {
+            let v = fails(terms, bit)?;
+            Ok(v)
+        }
+        None => {
+            let v = equal_terms(terms, kind, left, right)?;
+            Ok(v)
+        }
+    }
 }
 
 // A comparison as a bit.

@@ -11,7 +11,7 @@ use stk_rewrite::NormalTerms;
 use stk_terms::{TermId, TermOp, Terms};
 
 /// The bit in front of which an Int has zeros, where its term is made so.
-fn bit_of(terms: &Terms, value: TermId) -> Option<TermId>
+pub(crate) fn bit_of(terms: &Terms, value: TermId) -> Option<TermId>
     requires sound { IsSound terms.now }
     requires exists { value.0 < length terms.now.terms }
     ensures { MatchOption result Unit (λ t. IsBitOf terms.now value.0 t.0) }
