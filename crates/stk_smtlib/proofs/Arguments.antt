@@ -1,5 +1,5 @@
 -- The arguments of a term stand in the store.
-use Rattle.std.proofs.Common.{◌≡◌, ℕ, zero, suc, ◌<◌, List, [], ◌∷◌, length, subst, arith}
+use Rattle.std.proofs.Common.{ℕ, zero, suc, ◌<◌, List, [], ◌∷◌, length, subst, arith}
 use Rattle.stk_terms.specs.declared.term.TermId.{TermId}
 use Rattle.stk_terms.specs.Terms.{Stored, term_at, nth}
 use Rattle.stk_terms.specs.Fitting.{IsSound, AreBelow}

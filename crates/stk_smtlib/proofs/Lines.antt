@@ -1,5 +1,5 @@
 -- The lines of declarations and definitions, one after the other.
-use Rattle.std.proofs.Common.{◌≡◌, ℕ, ◌+◌, ◌<◌, ◌≤◌, Bool, true, false, List, [], ◌∷◌, ◌++◌, take, drop, length, get_or, refl, ap, sym, ◌∙◌, append_assoc, arith, codes, if◌then◌else◌}
+use Rattle.std.proofs.Common.{◌≡◌, ℕ, ◌+◌, ◌<◌, Bool, true, false, List, [], ◌∷◌, ◌++◌, take, drop, length, get_or, refl, ap, sym, ◌∙◌, append_assoc, arith, codes, if◌then◌else◌}
 use Rattle.std.proofs.lemmas.List.{get_or-take, length-take-le, drop_more}
 use Rattle.stk_terms.specs.declared.term.TermOp.TheVariants.{Constant}
 use Rattle.stk_terms.specs.Terms.{Stored, Term, term_of, term_at}
@@ -26,7 +26,7 @@ abbrev pub part_lines : Stored → ℕ → ℕ → List ℕ
 part_lines s goal j = lines (defined_commands (definitions_from s goal j (drop j (take (goal + 1) s.terms))))
 
 module _ (s : Stored) (goal j : ℕ) (there : goal < length s.terms) (within : j < goal + 1) where
-  abbrev rest : List Term
+  abbrev pub rest : List Term
   rest = drop (j + 1) (take (goal + 1) s.terms)
 
   below_count : j < length (take (goal + 1) s.terms)
@@ -34,7 +34,7 @@ module _ (s : Stored) (goal j : ℕ) (there : goal < length s.terms) (within : j
       let e = length-take-le (goal + 1) s.terms (omega (arith, there)) in
       omega (arith, e, within)
 
-  stands : drop j (take (goal + 1) s.terms) ≡ term_at s j ∷ rest
+  pub stands : drop j (take (goal + 1) s.terms) ≡ term_at s j ∷ rest
   stands =
       drop_more (take (goal + 1) s.terms) j (term_of (Constant 0 0) []) (below_count)
       ∙ ap (λ t. t ∷ rest) (get_or-take (goal + 1) s.terms j (term_of (Constant 0 0) []) within)

@@ -80,12 +80,7 @@ fn add_defined(text: &mut Vec<u8>, terms: &Terms, id: TermId) -> Result<(), NoMe
 }
 
 // Adds the definition of a term, if it is wanted.
-fn add_wanted(
-    text: &mut Vec<u8>,
-    terms: &Terms,
-    id: TermId,
-    wanted: bool,
-) -> Result<(), NoMemory>
+fn add_wanted(text: &mut Vec<u8>, terms: &Terms, id: TermId, wanted: bool) -> Result<(), NoMemory>
     requires { id.0 < length terms.now.terms }
     ensures { IfOk result (λ _. text.new.items ≡ text.old.items ++ wanted_line terms.now id.0 wanted) }
 {

@@ -7,3 +7,6 @@ mod pieces;
 mod writing;
 
 pub use writing::script;
+
+#[cfg(test)]
+mod tests;

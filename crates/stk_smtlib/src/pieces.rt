@@ -109,7 +109,12 @@ pub(crate) fn add_one(text: &mut Vec<u8>, op: UnaryOp, a: TermId) -> Result<(), 
 }
 
 /// Adds an operator on two terms.
-pub(crate) fn add_two(text: &mut Vec<u8>, op: BinaryOp, a: TermId, b: TermId) -> Result<(), NoMemory>
+pub(crate) fn add_two(
+    text: &mut Vec<u8>,
+    op: BinaryOp,
+    a: TermId,
+    b: TermId,
+) -> Result<(), NoMemory>
     ensures { IfOk result (λ _. text.new.items ≡ text.old.items ++ laid (expr_tokens (two_of op (at a.0) (at b.0)))) }
 {
     add_pair(text, binary_name(op), a, b)
@@ -134,7 +139,12 @@ fn add_one_or_zero(text: &mut Vec<u8>) -> Result<(), NoMemory>
 }
 
 /// Adds a comparison as a term of width 1.
-pub(crate) fn add_truth(text: &mut Vec<u8>, op: TestOp, a: TermId, b: TermId) -> Result<(), NoMemory>
+pub(crate) fn add_truth(
+    text: &mut Vec<u8>,
+    op: TestOp,
+    a: TermId,
+    b: TermId,
+) -> Result<(), NoMemory>
     ensures { IfOk result (λ _. text.new.items ≡ text.old.items ++ laid (expr_tokens (truth_of op (at a.0) (at b.0)))) }
 {
     add(text, b"(ite ")?;
@@ -154,7 +164,12 @@ pub(crate) fn add_is(text: &mut Vec<u8>, a: TermId, width: u8, number: u128) -> 
 }
 
 /// Adds the choice of one of two terms, by a term of one bit.
-pub(crate) fn add_choice(text: &mut Vec<u8>, a: TermId, b: TermId, c: TermId) -> Result<(), NoMemory>
+pub(crate) fn add_choice(
+    text: &mut Vec<u8>,
+    a: TermId,
+    b: TermId,
+    c: TermId,
+) -> Result<(), NoMemory>
     ensures { IfOk result (λ _. text.new.items ≡ text.old.items ++ laid (expr_tokens (chosen tests.Equal (at a.0) (literal 1 1) (at b.0) (at c.0)))) }
 {
     add(text, b"(ite ")?;
@@ -172,12 +187,7 @@ fn add_last_quotient(text: &mut Vec<u8>, a: TermId, b: TermId) -> Result<(), NoM
 }
 
 // Adds 0 of a width, a quotient, and the end of what they stand in.
-fn add_zero_or_quotient(
-    text: &mut Vec<u8>,
-    width: u8,
-    a: TermId,
-    b: TermId,
-) -> Result<(), NoMemory>
+fn add_zero_or_quotient(text: &mut Vec<u8>, width: u8, a: TermId, b: TermId) -> Result<(), NoMemory>
     ensures { IfOk result (λ _. text.new.items ≡ text.old.items ++ (32 ∷ laid (literal_tokens width 0 ++ (expr_tokens (two_of binary.UDiv (at a.0) (at b.0)) ++ closing ∷ [])))) }
 {
     add(text, b" ")?;

@@ -1,4 +1,4 @@
-use Rattle.std.proofs.Common.{◌≡◌, ℕ, ◌<◌, ◌≤◌, Bool, true, false, nat_lt, sym, ap, ◌∙◌, arith}
+use Rattle.std.proofs.Common.{◌≡◌, ℕ, ◌<◌, ◌≤◌, true, false, nat_lt, sym, ap, ◌∙◌, arith}
 use Rattle.stk_terms.proofs.Reading.{nth_get, nth_none}
 use Rattle.stk_smtlib.proofs.bodies.argument.Goals as goal
 

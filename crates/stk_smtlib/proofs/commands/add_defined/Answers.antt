@@ -1,6 +1,6 @@
-use Rattle.std.proofs.Common.{◌≡◌, ℕ, ◌+◌, ◌<◌, ◌++◌, ◌∷◌, [], List, ap, subst, sym, ◌∙◌, codes, length, arith}
+use Rattle.std.proofs.Common.{◌≡◌, ℕ, ◌<◌, ◌++◌, ◌∷◌, [], List, ap, subst, sym, ◌∙◌, codes, length}
 use Rattle.stk_terms.specs.declared.term.TermId.{TermId}
-use Rattle.stk_terms.specs.Terms.{Stored, Term, term_at, nth}
+use Rattle.stk_terms.specs.Terms.{term_at, nth}
 use Rattle.stk_terms.specs.Values.{width_at}
 use Rattle.stk_scripts.specs.Tokens.{expr_tokens}
 use Rattle.stk_scripts.specs.Texts.{laid}
@@ -28,9 +28,9 @@ returns c =
     let body = laid (expr_tokens (body_of s t)) in
     let wide : c.width-width.result ≡ width_at s (nth t.args 0) = c.width-width.ensures.is ∙ ap (width_at s) first in
     let same : body_text c.op.result c.width-width.result (nth c.args-args.result.now 0) (nth c.args-args.result.now 1) (nth c.args-args.result.now 2) ≡ body =
-        ap (λ op. body_text op c.width-width.result (nth c.args-args.result.now 0) (nth c.args-args.result.now 1) (nth c.args-args.result.now 2)) (c.op.ensures t stands)
-        ∙ ap (λ w. body_text t.op w (nth c.args-args.result.now 0) (nth c.args-args.result.now 1) (nth c.args-args.result.now 2)) wide
-        ∙ ap (λ (l : List TermId). body_text t.op (width_at s (nth t.args 0)) (nth l 0) (nth l 1) (nth l 2)) args in
+    ap (λ op. body_text op c.width-width.result (nth c.args-args.result.now 0) (nth c.args-args.result.now 1) (nth c.args-args.result.now 2)) (c.op.ensures t stands)
+    ∙ ap (λ w. body_text t.op w (nth c.args-args.result.now 0) (nth c.args-args.result.now 1) (nth c.args-args.result.now 2)) wide
+    ∙ ap (λ (l : List TermId). body_text t.op (width_at s (nth t.args 0)) (nth l 0) (nth l 1) (nth l 2)) args in
     let begun : c.add_head.new.text.items ≡ c.args.text.now.items ++ head = c.in_ok-add_head.ensures ∙ ap (λ w. c.args.text.now.items ++ (laid (head_tokens j w) ++ 32 ∷ [])) c.width.ensures.is in
     c.in_ok-add.ensures
     ∙ ap (λ u. u ++ codes ")\n") (c.in_ok-add_body.ensures ∙ ap (λ u. c.add_head.new.text.items ++ u) same ∙ ap (λ u. u ++ body) begun)

@@ -1,4 +1,4 @@
-use Rattle.std.proofs.Common.{◌≡◌, ◌+◌, ◌<◌, ◌≤◌, ◌++◌, Bool, false, List, length, get_or, subst, ap, sym, ◌∙◌, append_assoc, arith}
+use Rattle.std.proofs.Common.{◌+◌, ◌<◌, ◌++◌, Bool, false, List, length, get_or, ap, sym, ◌∙◌, append_assoc, arith}
 use Rattle.stk_smtlib.specs.Written.{wanted_line}
 use Rattle.stk_smtlib.proofs.Lines.{part_lines, part_next}
 use Rattle.stk_smtlib.proofs.commands.add_definitions.Goals as goal
