@@ -1,0 +1,9 @@
+pub mod Arguments
+pub mod Laid
+pub mod Lines
+pub mod Meanings
+pub mod Names
+pub mod Printed
+pub mod Widths
+pub mod Whole
+pub mod Wording
