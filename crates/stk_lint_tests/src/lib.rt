@@ -8,4 +8,6 @@ mod given_up;
 #[cfg(test)]
 mod running;
 #[cfg(test)]
+mod sets;
+#[cfg(test)]
 mod wide_rows;
