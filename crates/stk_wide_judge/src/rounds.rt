@@ -47,6 +47,42 @@ fn settled(
     }
 }
 
+/// The question whether some start hits the candidate with nothing violated before. Where there is one it is kept, and
+/// shows in the next round that the candidate is clear.
+pub(crate) fn free_round<Q: Questions, D: Decider>(
+    function: &JudgedFunction,
+    questions: &mut Q,
+    decider: &mut D,
+    known: &mut Known,
+    asked: AskedCandidate,
+) -> Result<Round, NoMemory>
+    requires tables { AreTablesOf (view_function function.now.f.now) function.now.tables.now }
+    requires about { Q.about questions.old ≡ asked_in function.now.tables.now (view_function function.now.f.now) }
+    requires placed { IsPlaced (asked_in function.now.tables.now (view_function function.now.f.now)) asked.position asked.candidate }
+    requires known { AreKnown (asked_in function.now.tables.now (view_function function.now.f.now)) known.old.starts.items known.old.table }
+    ensures found { IfOk result (IsRound (asked_in function.now.tables.now (view_function function.now.f.now)) asked.candidate) }
+    ensures known { OnOk result (AreKnown (asked_in function.now.tables.now (view_function function.now.f.now)) known.new.starts.items known.new.table) }
+    ensures later { IsLater (Q.about questions.old) (Q.about questions.new) (Q.spent questions.old) (Q.spent questions.new) (D.given_up decider.old) (D.given_up decider.new) }
+{
+    let answer = questions.ask(
+        decider,
+        asked.position,
+        asked.candidate,
+        function.conditions,
+    )?;
+    match answer {
+        QueryAnswer::Start(start) => {
+            if known.is_full() {
+                return Ok(Round::Stopped);
+            }
+            known.add(function, &start)?;
+            Ok(Round::Refuted)
+        }
+        QueryAnswer::Never => Ok(Round::Refuted),
+        QueryAnswer::GivenUp => Ok(Round::Stopped),
+    }
+}
+
 /// One guess, and the question whether it is right.
 pub(crate) fn one_round<Q: Questions, D: Decider>(
     function: &JudgedFunction,
