@@ -1,4 +1,3 @@
 pub mod Units
 mod Going
 mod Complete
-mod Budget

@@ -18,16 +18,16 @@ and_both true b e = (refl, e)
 and_both false b e = absurd cc
 
 -- one digit more
-pub goes_on : (text : List ℕ) (i number next : ℕ) → i < length text → number ≤ 200001 → min (decimal_behind number (drop i text)) 200001 ≡ min (decimal text) 200001 → list_all is_digit (drop i text) ≡ true
-    → next ≡ min (number * 10 + (get_or text i 0 - 48)) 200001 → (min (decimal_behind next (drop (i + 1) text)) 200001 ≡ min (decimal text) 200001) × (next ≤ 200001) × (list_all is_digit (drop (i + 1) text) ≡ true)
-goes_on text i number next h few same digits is =
+pub goes_on : (C : ℕ) (text : List ℕ) (i number next : ℕ) → 1 ≤ C → i < length text → number ≤ C → min (decimal_behind number (drop i text)) C ≡ min (decimal text) C → list_all is_digit (drop i text) ≡ true
+    → next ≡ min (number * 10 + (get_or text i 0 - 48)) C → (min (decimal_behind next (drop (i + 1) text)) C ≡ min (decimal text) C) × (next ≤ C) × (list_all is_digit (drop (i + 1) text) ≡ true)
+goes_on C text i number next some h few same digits is =
     let at : drop i text ≡ get_or text i 0 ∷ drop (i + 1) text = drop-cons text i 0 h ∙ ap (λ n. get_or text i 0 ∷ drop n text) (sym (add-one i)) in
-    let long : min next 200001 ≡ min (number * 10 + (get_or text i 0 - 48)) 200001 = omega arith in
+    let long : min next C ≡ min (number * 10 + (get_or text i 0 - 48)) C = omega arith in
     let all : is_digit (get_or text i 0) && list_all is_digit (drop (i + 1) text) ≡ true = sym (ap (list_all is_digit) at) ∙ digits in
-    (up_to 200001 (omega arith) next (number * 10 + (get_or text i 0 - 48)) (drop (i + 1) text) long ∙ (ap (λ bs. min (decimal_behind number bs) 200001) (sym at) ∙ same), omega arith, (and_both _ _ all).1)
+    (up_to C some next (number * 10 + (get_or text i 0 - 48)) (drop (i + 1) text) long ∙ (ap (λ bs. min (decimal_behind number bs) C) (sym at) ∙ same), omega arith, (and_both _ _ all).1)
 
-pub ended : (text : List ℕ) (i number : ℕ) → length text ≤ i → number ≤ 200001 → min (decimal_behind number (drop i text)) 200001 ≡ min (decimal text) 200001 → number ≡ min (decimal text) 200001
-ended text i number h few same =
+pub ended : (C : ℕ) (text : List ℕ) (i number : ℕ) → length text ≤ i → number ≤ C → min (decimal_behind number (drop i text)) C ≡ min (decimal text) C → number ≡ min (decimal text) C
+ended C text i number h few same =
     let none : drop i text ≡ [] = drop_of_length-le text h in
-    let own : min number 200001 ≡ min (decimal text) 200001 = ap (λ bs. min (decimal_behind number bs) 200001) (sym none) ∙ same in
+    let own : min number C ≡ min (decimal text) C = ap (λ bs. min (decimal_behind number bs) C) (sym none) ∙ same in
     omega arith

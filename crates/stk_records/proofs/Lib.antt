@@ -4,3 +4,4 @@ pub mod Forms
 pub mod Wholes
 pub mod Joined
 pub mod Floats
+pub mod Budgets

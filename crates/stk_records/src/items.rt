@@ -3,14 +3,17 @@
 ghost use Rattle.std.specs.Prelude.{◌≡◌, ◌++◌, ◌∷◌, ℕ, List, map, MatchOption};
 ghost use Rattle.std.specs.String.{string_bytes};
 ghost use Rattle.stk_records.specs.declared.options.Item.{Item as Meant};
-ghost use Rattle.stk_numbers.specs.declared.conditions.Kinds.{Kinds as Named};
-ghost use Rattle.stk_records.specs.Kinds.{no_kinds, AreNames, AreOnly};
 ghost use Rattle.stk_records.specs.declared.items.Form.{Form as Begun};
-ghost use Rattle.stk_records.specs.Words.{form_word, IsBudget, IsItem, IsItemAlone, json_word, budget_word, without_word};
+ghost use Rattle.stk_records.specs.Words.{form_word, IsNumber, IsText, IsOnlyText, IsItem, IsItemAlone};
 
 use crate::kinds::kinds_in;
-use crate::numbers::budget_in;
+use crate::numbers::number_in;
 use crate::options::Item;
+
+// The greatest budget, and the most functions that are generated.
+const MOST_BUDGET: u32 = 200_000;
+
+const MOST_FUNCTIONS: u32 = 1_000;
 
 // The words that are items, or begin them.
 #[derive(Clone, Copy, Debug, PartialEq, Eq)]
@@ -18,6 +21,8 @@ enum Form {
     Json,
     Budget,
     Without,
+    Generate,
+    Functions,
 }
 
 // Which of these a word is.
@@ -28,6 +33,8 @@ fn form_of(word: &[u8]) -> Option<Form>
         b"--json" => Some(Form::Json),
         b"--budget" => Some(Form::Budget),
         b"--without" => Some(Form::Without),
+        b"--generate" => Some(Form::Generate),
+        b"--functions" => Some(Form::Functions),
         _ => None,
     }
 }
@@ -49,32 +56,76 @@ fn joined<'a>(word: &'a [u8], start: &[u8]) -> Option<&'a [u8]>
     }
 }
 
-// The items of one form each: nothing where there is none.
-fn budget_item<'a>(text: &[u8], left: &'a [String]) -> Option<(Item, &'a [String])>
-    ensures { MatchOption result ((n : ℕ) → IsBudget text.now n → ⊥) (λ p. (n : ℕ) × (p.0 ≡ Meant.Budget n) × IsBudget text.now n × (p.1.now ≡ left.now)) }
+// Which of these a word begins with that has `=` behind it, and what stands behind that.
+fn joined_form<'a>(word: &'a [u8]) -> Option<(Form, &'a [u8])>
+    ensures { MatchOption result ((f : Begun) (text : List ℕ) → word.now ≡ form_word f ++ 61 ∷ text → ⊥) (λ p. word.now ≡ form_word p.0 ++ 61 ∷ p.1.now) }
 {
-    let budget = budget_in(text)?;
-    Some((Item::Budget(budget), left))
+    if let Some(text) = joined(word, b"--json") {
+        return Some((Form::Json, text));
+    }
+    if let Some(text) = joined(word, b"--budget") {
+        return Some((Form::Budget, text));
+    }
+    if let Some(text) = joined(word, b"--without") {
+        return Some((Form::Without, text));
+    }
+    if let Some(text) = joined(word, b"--generate") {
+        return Some((Form::Generate, text));
+    }
+    if let Some(text) = joined(word, b"--functions") {
+        return Some((Form::Functions, text));
+    }
+    None
 }
 
-fn without_item<'a>(text: &[u8], left: &'a [String]) -> Option<(Item, &'a [String])>
-    ensures { MatchOption result ((ks : Named) → AreNames no_kinds text.now ks → ⊥) (λ p. (ks : Named) × (p.0 ≡ Meant.Without ks) × AreOnly text.now ks × (p.1.now ≡ left.now)) }
+// A number from 1 up to a bound.
+fn count_in(text: &[u8], most: u32) -> Option<u32>
+    ensures { MatchOption result ((n : ℕ) → IsNumber 1 most text.now n → ⊥) (IsNumber 1 most text.now) }
 {
-    let kinds = kinds_in(text)?;
-    Some((Item::Without(kinds), left))
+    let number = number_in(text, 1, u64::from(most))?;
+    Some(number as u32)
+}
+
+// The item of a form and a text.
+fn text_item(form: Form, text: &[u8]) -> Option<Item>
+    ensures { MatchOption result ((x : Meant) → IsText form text.now x → ⊥) (IsOnlyText form text.now) }
+{
+    match form {
+        Form::Json => None,
+        Form::Budget => Some(Item::Budget(count_in(text, MOST_BUDGET)?)),
+        Form::Without => Some(Item::Without(kinds_in(text)?)),
+        Form::Generate => Some(Item::Generate(number_in(text, 0, u64::MAX)?)),
+        Form::Functions => Some(Item::Functions(count_in(text, MOST_FUNCTIONS)?)),
+    }
+}
+
+// The item of a form whose text is a word of its own, and the words behind it.
+fn apart_item<'a>(form: Form, left: &'a [String]) -> Option<(Item, &'a [String])>
+    ensures { MatchOption result ((text : List ℕ) (behind : List (List ℕ)) (x : Meant) → map string_bytes left.now ≡ text ∷ behind → IsText form text x → ⊥) (λ p. (text : List ℕ) × (map string_bytes left.now ≡ text ∷ map string_bytes p.1.now) × IsOnlyText form text p.0) }
+{
+    let (text, behind) = left.split_first()?;
+    let found = text_item(form, text.as_bytes())?;
+    Some((found, behind))
+}
+
+// The item in front of words, of which the first one is that of a form, and the words behind it.
+fn form_item<'a>(form: Form, left: &'a [String]) -> Option<(Item, &'a [String])>
+    ensures { MatchOption result ((x : Meant) (behind : List (List ℕ)) → IsItem (form_word form ∷ map string_bytes left.now) x behind → ⊥) (λ p. IsItemAlone (form_word form ∷ map string_bytes left.now) p.0 (map string_bytes p.1.now)) }
+{
+    match form {
+        Form::Json => Some((Item::Json, left)),
+        _ => apart_item(form, left),
+    }
 }
 
 // The item in front of words that is one word with `=` in it.
 fn joined_item<'a>(first: &[u8], left: &'a [String]) -> Option<(Item, &'a [String])>
-    requires json { first.now ≡ json_word → ⊥ }
-    requires budget { first.now ≡ budget_word → ⊥ }
-    requires without { first.now ≡ without_word → ⊥ }
+    requires { (f : Begun) → first.now ≡ form_word f → ⊥ }
     ensures { MatchOption result ((x : Meant) (behind : List (List ℕ)) → IsItem (first.now ∷ map string_bytes left.now) x behind → ⊥) (λ p. IsItemAlone (first.now ∷ map string_bytes left.now) p.0 (map string_bytes p.1.now)) }
 {
-    if let Some(text) = joined(first, b"--budget") {
-        return budget_item(text, left);
-    }
-    without_item(joined(first, b"--without")?, left)
+    let (form, text) = joined_form(first)?;
+    let found = text_item(form, text)?;
+    Some((found, left))
 }
 
 // The item in front of words, of which the first one is at hand, and the words behind it.
@@ -82,15 +133,7 @@ pub(crate) fn item<'a>(first: &[u8], left: &'a [String]) -> Option<(Item, &'a [S
     ensures { MatchOption result ((x : Meant) (behind : List (List ℕ)) → IsItem (first.now ∷ map string_bytes left.now) x behind → ⊥) (λ p. IsItemAlone (first.now ∷ map string_bytes left.now) p.0 (map string_bytes p.1.now)) }
 {
     match form_of(first) {
-        Some(Form::Json) => Some((Item::Json, left)),
-        Some(Form::Budget) => {
-            let (text, behind) = left.split_first()?;
-            budget_item(text.as_bytes(), behind)
-        }
-        Some(Form::Without) => {
-            let (text, behind) = left.split_first()?;
-            without_item(text.as_bytes(), behind)
-        }
+        Some(form) => form_item(form, left),
         None => joined_item(first, left),
     }
 }

@@ -1,14 +1,9 @@
 //! Numbers on the command line.
 
-ghost use Rattle.std.specs.Prelude.{◌≡◌, ◌≤◌, ℕ, min, length, true, ◌*◌, ◌+◌, ◌-◌, MatchOption};
+ghost use Rattle.std.specs.Prelude.{◌≡◌, ◌≤◌, ◌^◌, ℕ, min, length, true, ◌*◌, ◌+◌, ◌-◌, MatchOption};
 ghost use Rattle.std.specs.List.{list_all};
 ghost use Rattle.stk_base.specs.Text.{decimal};
-ghost use Rattle.stk_records.specs.Words.{IsBudget, is_digit};
-
-// The greatest budget, and the number that stands for all greater ones.
-const MOST_BUDGET: u32 = 200_000;
-
-const TOO_MUCH: u32 = 200_001;
+ghost use Rattle.stk_records.specs.Words.{IsNumber, is_digit};
 
 // Whether a byte is a decimal digit.
 fn is_digit(byte: u8) -> bool
@@ -17,14 +12,15 @@ fn is_digit(byte: u8) -> bool
     byte >= b'0' && byte <= b'9'
 }
 
-// A number with one digit more; any number above 200,000 counts as 200,001.
-fn longer(number: u32, digit: u8) -> u32
-    requires small { number ≤ 200001 }
+// A number with one digit more; any number above a bound counts as the bound.
+fn longer(number: u128, digit: u8, bound: u128) -> u128
+    requires small { number ≤ bound }
+    requires bound { bound ≤ 2 ^ 64 }
     requires digit { digit ≤ 57 }
-    ensures { result ≡ min (number * 10 + (digit - 48)) 200001 }
+    ensures { result ≡ min (number * 10 + (digit - 48)) bound }
 {
-    let whole = number * 10 + u32::from(digit.saturating_sub(b'0'));
-    if whole < TOO_MUCH { whole } else { TOO_MUCH }
+    let whole = number * 10 + u128::from(digit.saturating_sub(b'0'));
+    if whole < bound { whole } else { bound }
 }
 
 // Whether all bytes are decimal digits.
@@ -39,28 +35,30 @@ fn are_digits(text: &[u8]) -> bool
     true
 }
 
-// The number that decimal digits make, or 200,001 where it is greater.
-fn capped(text: &[u8]) -> u32
-    requires { list_all is_digit text.now ≡ true }
-    ensures { result ≡ min (decimal text.now) 200001 }
+// The number that decimal digits make, or a bound where it is greater.
+fn capped(text: &[u8], bound: u128) -> u128
+    requires digits { list_all is_digit text.now ≡ true }
+    requires least { 1 ≤ bound }
+    requires most { bound ≤ 2 ^ 64 }
+    ensures { result ≡ min (decimal text.now) bound }
 {
     let mut number = 0;
     for byte in text {
-        number = longer(number, *byte);
+        number = longer(number, *byte, bound);
     }
     number
 }
 
-/// The budget that a text says: 1 to 20 decimal digits, from 1 to 200,000. `None` for every other text.
-pub(crate) fn budget_in(text: &[u8]) -> Option<u32>
-    ensures { MatchOption result ((n : ℕ) → IsBudget text.now n → ⊥) (IsBudget text.now) }
+/// The number that a text says: 1 to 20 decimal digits, from the least to the most. `None` for every other text.
+pub(crate) fn number_in(text: &[u8], least: u64, most: u64) -> Option<u64>
+    ensures { MatchOption result ((n : ℕ) → IsNumber least most text.now n → ⊥) (IsNumber least most text.now) }
 {
     if text.is_empty() || text.len() > 20 || !are_digits(text) {
         return None;
     }
-    let number = capped(text);
-    if number < 1 || number > MOST_BUDGET {
+    let number = capped(text, u128::from(most) + 1);
+    if number < u128::from(least) || number > u128::from(most) {
         return None;
     }
-    Some(number)
+    Some(number as u64)
 }

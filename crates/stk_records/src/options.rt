@@ -11,6 +11,9 @@ pub struct Options {
     pub budget: u32,
     /// The kinds of undefined behaviour that don't count.
     pub without: Kinds,
+    /// The number that the text is generated from in place of being read, and how many functions it has, from 1 to
+    /// 1,000.
+    pub generate: Option<(u64, u32)>,
 }
 
 /// The words aren't legal.
@@ -25,6 +28,8 @@ pub(crate) enum Item {
     Json,
     Budget(u32),
     Without(Kinds),
+    Generate(u64),
+    Functions(u32),
 }
 
 /// The items so far: each may come once.
@@ -33,4 +38,6 @@ pub(crate) struct Seen {
     pub json: bool,
     pub budget: Option<u32>,
     pub without: Option<Kinds>,
+    pub generate: Option<u64>,
+    pub functions: Option<u32>,
 }

@@ -20,6 +20,8 @@ fn nothing_seen() -> Seen
         json: false,
         budget: None,
         without: None,
+        generate: None,
+        functions: None,
     }
 }
 
@@ -31,6 +33,8 @@ fn has_come(seen: Seen, found: Item) -> bool
         Item::Json => seen.json,
         Item::Budget(_) => seen.budget.is_some(),
         Item::Without(_) => seen.without.is_some(),
+        Item::Generate(_) => seen.generate.is_some(),
+        Item::Functions(_) => seen.functions.is_some(),
     }
 }
 
@@ -46,6 +50,14 @@ fn with_item(seen: Seen, found: Item) -> Seen
         },
         Item::Without(kinds) => Seen {
             without: Some(kinds),
+            ..seen
+        },
+        Item::Generate(number) => Seen {
+            generate: Some(number),
+            ..seen
+        },
+        Item::Functions(count) => Seen {
+            functions: Some(count),
             ..seen
         },
     }
@@ -68,13 +80,15 @@ fn options_of(seen: Seen) -> Options
             abs: false,
             copy: false,
         }),
+        generate: seen.generate.zip(seen.functions),
     }
 }
 
-/// The options that the words on the command line ask for, in any order, each at most once: `--json`; `--budget N` or
-/// `--budget=N`, N being 1 to 20 decimal digits, from 1 to 200,000; `--without LIST` or `--without=LIST`, LIST being
-/// one or more of overflow, zero, shift, null, pointer, bounds, abs and copy, each at most once, with a comma between
-/// each two. `Bad` exactly where the words are no such list. It takes no memory.
+/// The options that the words on the command line ask for, in any order, each at most once: `--json`; `--budget N`,
+/// from 1 to 200,000; `--without LIST`, LIST being one or more of overflow, zero, shift, null, pointer, bounds, abs and
+/// copy, each at most once, with a comma between each two; `--generate M`, from 0 to 2^64 - 1, and `--functions N`,
+/// from 1 to 1,000, one exactly where the other stands. The word behind an item may stand in the same word, behind `=`;
+/// a number is 1 to 20 decimal digits. `Bad` exactly where the words are no such list. It takes no memory.
 pub fn words(words: &[String]) -> Result<Options, WordsFault>
     ensures legal { IfOk result (AreLegal (map string_bytes words.now)) }
     ensures bad { IfErr result (λ fault. (o : Asked) → AreLegal (map string_bytes words.now) o → ⊥) }
@@ -90,6 +104,9 @@ pub fn words(words: &[String]) -> Result<Options, WordsFault>
         }
         seen = with_item(seen, found);
         rest = behind;
+    }
+    if seen.generate.is_some() != seen.functions.is_some() {
+        return Err(WordsFault::Bad);
     }
     Ok(options_of(seen))
 }

@@ -5,17 +5,23 @@ use stk_base::NoMemory;
 use stk_numbers::{Kinds, UbKind};
 use stk_records::{Options, WordsFault, words};
 
-/// Words with single blanks between them, and what they ask for: whether the records are JSON, the budget, and the
-/// kinds that don't count.
-type Legal = (&'static str, bool, u32, &'static [UbKind]);
+/// Words with single blanks between them, and what they ask for: whether the records are JSON, the budget, the kinds
+/// that don't count, and the number and the functions of a text that is generated.
+type Legal = (
+    &'static str,
+    bool,
+    u32,
+    &'static [UbKind],
+    Option<(u64, u32)>,
+);
 
-static LEGAL: [Legal; 11] = [
-    ("", false, 20_000, &[]),
-    ("--json", true, 20_000, &[]),
-    ("--budget 1", false, 1, &[]),
-    ("--budget=200000", false, 200_000, &[]),
-    ("--budget 00000000000000000007", false, 7, &[]),
-    ("--without null", false, 20_000, &[UbKind::Null]),
+static LEGAL: [Legal; 15] = [
+    ("", false, 20_000, &[], None),
+    ("--json", true, 20_000, &[], None),
+    ("--budget 1", false, 1, &[], None),
+    ("--budget=200000", false, 200_000, &[], None),
+    ("--budget 00000000000000000007", false, 7, &[], None),
+    ("--without null", false, 20_000, &[UbKind::Null], None),
     (
         "--without=overflow,zero,shift,null,pointer,bounds,abs,copy",
         false,
@@ -30,19 +36,67 @@ static LEGAL: [Legal; 11] = [
             UbKind::AbsValue,
             UbKind::Overlap,
         ],
+        None,
     ),
     (
         "--without copy,abs",
         false,
         20_000,
         &[UbKind::AbsValue, UbKind::Overlap],
+        None,
     ),
-    ("--json --budget 5 --without zero", true, 5, &[UbKind::Zero]),
-    ("--without zero --budget 5 --json", true, 5, &[UbKind::Zero]),
-    ("--without=zero --json --budget=5", true, 5, &[UbKind::Zero]),
+    (
+        "--json --budget 5 --without zero",
+        true,
+        5,
+        &[UbKind::Zero],
+        None,
+    ),
+    (
+        "--without zero --budget 5 --json",
+        true,
+        5,
+        &[UbKind::Zero],
+        None,
+    ),
+    (
+        "--without=zero --json --budget=5",
+        true,
+        5,
+        &[UbKind::Zero],
+        None,
+    ),
+    (
+        "--generate 0 --functions 1",
+        false,
+        20_000,
+        &[],
+        Some((0, 1)),
+    ),
+    (
+        "--functions=1000 --generate=18446744073709551615",
+        false,
+        20_000,
+        &[],
+        Some((18446744073709551615, 1000)),
+    ),
+    (
+        "--functions 00000000000000000007 --json --generate=00000000000000000000",
+        true,
+        20_000,
+        &[],
+        Some((0, 7)),
+    ),
+    (
+        "--generate 5 --budget=9 --functions 2 --without shift --json",
+        true,
+        9,
+        &[UbKind::Shift],
+        Some((5, 2)),
+    ),
 ];
 
-static BAD: [&str; 22] = [
+static BAD: [&str; 35] = [
     "--help",
     "-json",
     "--json=",
@@ -65,6 +119,19 @@ static BAD: [&str; 22] = [
     "--without null,null",
     "--without nul",
     "--without null zero",
+    "--functions 5",
+    "--generate 5",
+    "--generate --functions 5",
+    "--generate 5 --functions",
+    "--generate 5 --functions 0",
+    "--generate 5 --functions 1001",
+    "--generate= --functions=5",
+    "--generate 18446744073709551616 --functions 5",
+    "--generate 99999999999999999999 --functions 5",
+    "--generate 000000000000000000005 --functions 5",
+    "--generate -1 --functions 5",
+    "--generate 5 --functions 5 --generate 5",
+    "--generate 5 --functions 5 --functions=5",
 ];
 
 /// The words of a text.
@@ -101,11 +168,12 @@ fn kinds_of(list: &[UbKind]) -> Kinds {
 
 #[test]
 fn legal_words_ask_for_options(rt: HostRuntime) -> Result<(), Fail> {
-    for (text, json, budget, without) in &LEGAL {
+    for (text, json, budget, without, generate) in &LEGAL {
         let wanted = Options {
             json: *json,
             budget: *budget,
             without: kinds_of(without),
+            generate: *generate,
         };
         let list = split(rt.alloc(), text)?;
         assert!(rt; words(list.as_slice()) == Ok(wanted), "{text:?}");

@@ -8,9 +8,9 @@ use Rattle.stk_numbers.specs.declared.conditions.UbKind.TheVariants as ub
 use Rattle.stk_numbers.specs.declared.conditions.Kinds.{Kinds}
 use Rattle.stk_records.specs.declared.options.Options.{Options}
 use Rattle.stk_records.specs.Kinds.{kind_name, is_no_comma, AreNames, last, more}
-use Rattle.stk_records.specs.Words.{IsItem, json, budget, joined_budget, without, joined_without, IsItemAlone, AreItems, no_more, then_item, AreLegal}
+use Rattle.stk_records.specs.Words.{IsItem, json, apart, joined, IsItemAlone, AreItems, no_more, then_item, AreLegal}
 use Rattle.stk_records.proofs.Names.{Follows, IsComma, goes_down, only_last}
-use Rattle.stk_records.proofs.Forms.{front_of, json_alone, budget_alone, joined_budget_alone, without_alone, joined_without_alone}
+use Rattle.stk_records.proofs.Forms.{front_of, json_alone, apart_alone, joined_alone, NamesOne, only_text}
 use Rattle.stk_records.proofs.Wholes as wholes
 
 -- ---- the names of kinds
@@ -71,16 +71,17 @@ one_names {text = text} (more k rest e free names) h =
 
 -- ---- items
 
+names_one : NamesOne
+names_one text all other h k = one_names h k
+
 item_alone : {words left : List (List ℕ)} {x : _} → IsItem words x left → IsItemAlone words x left
 item_alone (json e) = json_alone e
-item_alone (budget e b) = budget_alone e b
-item_alone (joined_budget text e b) = joined_budget_alone e b
-item_alone (without e names) = without_alone e (names, λ other h. one_names names h)
-item_alone (joined_without text e names) = joined_without_alone e (names, λ other h. one_names names h)
+item_alone (apart f e t) = apart_alone f e (only_text names_one f _ _ t)
+item_alone (joined f text e t) = joined_alone f e (only_text names_one f text _ t)
 
 one_asked : {seen : _} {words : List (List ℕ)} {o p : Options} → AreItems seen words o → AreItems seen words p → o ≡ p
-one_asked (no_more e) (no_more e') = e ∙ sym e'
-one_asked (no_more e) (then_item i free others) = absurd (omega (arith, wholes.shorter i))
+one_asked (no_more b e) (no_more b' e') = e ∙ sym e'
+one_asked (no_more b e) (then_item i free others) = absurd (omega (arith, wholes.shorter i))
 one_asked (then_item i free others) h =
     let rest = wholes.goes_down (item_alone i) h (λ none. absurd (omega (arith, wholes.shorter i, ap length none))) in
     one_asked others rest.1

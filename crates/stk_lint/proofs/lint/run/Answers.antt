@@ -1,11 +1,8 @@
-use Rattle.std.proofs.Common.{rules}
-use Rattle.stk_lint.proofs.Budget.{legal_least, legal_most}
+use Rattle.stk_records.proofs.Budgets.{legal_least, legal_most}
 use Rattle.stk_lint.proofs.lint.run.Goals as goal
 
--- src/lint.rt:318:22
 pub answer-requires-clause-least : goal.answer-requires-clause-least
 answer-requires-clause-least g c = legal_least c.in-Ok.ensures.legal
 
--- src/lint.rt:318:22
 pub answer-requires-clause-most : goal.answer-requires-clause-most
 answer-requires-clause-most g c = legal_most c.in-Ok.ensures.legal

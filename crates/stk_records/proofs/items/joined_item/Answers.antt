@@ -1,10 +1,13 @@
-use Rattle.std.proofs.Common.{map}
+use Rattle.std.proofs.Common.{◌∷◌, map}
 use Rattle.std.specs.String.{string_bytes}
-use Rattle.stk_records.proofs.Forms.{joined_budget_found, joined_without_found}
+use Rattle.stk_records.proofs.Forms.{other_none, lost, joined_alone, joined_none}
 use Rattle.stk_records.proofs.items.joined_item.Goals as goal
 
-pub returns-in-Some : goal.returns-in-Some
-returns-in-Some c = joined_budget_found (λ b. b.now) (λ ws. map string_bytes ws) c.args.left.now c.args.first.now c.in-Some.text.now c.budget_item.result c.in-Some.ensures c.budget_item.ensures
+pub returns-in_err-form : goal.returns-in_err-form
+returns-in_err-form c = lost (λ b. b.now) (λ ws. map string_bytes ws) (c.args.first.now ∷ map string_bytes c.args.left.now) c.from_residual.result c.from_residual.ensures (λ x behind i. other_none c.requires c.in_err-form.ensures i)
+
+pub returns-in_err-found : goal.returns-in_err-found
+returns-in_err-found c = lost (λ b. b.now) (λ ws. map string_bytes ws) (c.args.first.now ∷ map string_bytes c.args.left.now) c.from_residual-in_err-found.result c.from_residual-in_err-found.ensures (joined_none c.in_ok-form.form c.in_ok-form.text.now c.in_ok-form.ensures c.in_err-found.ensures)
 
 pub returns : goal.returns
-returns c = joined_without_found (λ b. b.now) (λ ws. map string_bytes ws) c.args.left.now c.args.first.now c.in_ok-joined.field-0.now c.without_item.result c.in_ok-joined.ensures c.without_item.ensures
+returns c = joined_alone c.in_ok-form.form c.in_ok-form.ensures c.in_ok-found.ensures

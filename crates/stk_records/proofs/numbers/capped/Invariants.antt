@@ -5,4 +5,4 @@ use Rattle.stk_records.specs.Words.{is_digit}
 use Rattle.stk_records.proofs.numbers.capped.Given as goal
 
 abbrev pub invariant-loop-byte : goal.invariant-loop-byte
-invariant-loop-byte l = (min (decimal_behind l.number (drop l.byte-index l.text)) 200001 ≡ min (decimal l.text) 200001) × (l.number ≤ 200001) × (list_all is_digit (drop l.byte-index l.text) ≡ true)
+invariant-loop-byte l = (min (decimal_behind l.number (drop l.byte-index l.text)) l.bound ≡ min (decimal l.text) l.bound) × (l.number ≤ l.bound) × (list_all is_digit (drop l.byte-index l.text) ≡ true)
