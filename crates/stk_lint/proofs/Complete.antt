@@ -13,22 +13,39 @@ came_within before (Some rest) came bytes h e =
     let same : bytes ≡ came ++ rest = cc in
     omega (arith, ap length same, length-append came rest)
 
-module _ (L : Type 0) (before after : Option (List ℕ)) (R W : Type 0) where
+-- L: the words are legal; A: they ask for reading; R, W: a count of faults rose
+module _ (L A : Type 0) (before after : Option (List ℕ)) (R W : Type 0) where
   pub complete : (result : Status)
       → (IsWritten result ⊎ (IsUnread result ⊎ ((result ≡ WriteFault) ⊎ (result ≡ NoMemory))))
       → ((result ≡ BadWords) ↔ (L → ⊥))
-      → (result ≡ ReadFault → R)
+      → (result ≡ ReadFault → A × R)
       → (result ≡ WriteFault → W)
-      → ((came : List ℕ) × Came before after came × ((result ≡ TooLarge) ↔ (16777216 < length came)))
+      → ((came : List ℕ) × Came before after came × ((result ≡ TooLarge) ↔ (A × (16777216 < length came))))
       → (bytes : List ℕ) → L → before ≡ Some bytes → length bytes ≤ 16777216 → ¬ R → ¬ W → IsWritten result ⊎ (result ≡ NoMemory)
   complete Stable only bad read write large bytes legal told short r w = inl tt
   complete Found only bad read write large bytes legal told short r w = inl tt
   complete Unsure only bad read write large bytes legal told short r w = inl tt
   complete BadWords only bad read write large bytes legal told short r w = absurd (bad.0 refl legal)
-  complete ReadFault only bad read write large bytes legal told short r w = absurd (r (read refl))
+  complete ReadFault only bad read write large bytes legal told short r w = absurd (r (read refl).1)
   complete WriteFault only bad read write large bytes legal told short r w = absurd (w (write refl))
   complete TooLarge only bad read write large bytes legal told short r w =
-      let more : 16777216 < length large.0 = large.2.0 refl in
+      let more : 16777216 < length large.0 = (large.2.0 refl).1 in
       let within : length large.0 ≤ length bytes = came_within before after large.0 bytes large.1 told in
       absurd (omega arith)
   complete NoMemory only bad read write large bytes legal told short r w = inr refl
+
+  -- where the words don't ask for reading
+  pub complete_generated : (result : Status)
+      → ((result ≡ BadWords) ↔ (L → ⊥))
+      → (result ≡ ReadFault → A × R)
+      → (result ≡ WriteFault → W)
+      → ((came : List ℕ) × Came before after came × ((result ≡ TooLarge) ↔ (A × (16777216 < length came))))
+      → L → (A → ⊥) → ¬ W → IsWritten result ⊎ (result ≡ NoMemory)
+  complete_generated Stable bad read write large legal unread w = inl tt
+  complete_generated Found bad read write large legal unread w = inl tt
+  complete_generated Unsure bad read write large legal unread w = inl tt
+  complete_generated BadWords bad read write large legal unread w = absurd (bad.0 refl legal)
+  complete_generated ReadFault bad read write large legal unread w = absurd (unread (read refl).0)
+  complete_generated WriteFault bad read write large legal unread w = absurd (w (write refl))
+  complete_generated TooLarge bad read write large legal unread w = absurd (unread (large.2.0 refl).0)
+  complete_generated NoMemory bad read write large legal unread w = inr refl

@@ -25,8 +25,8 @@ use Rattle.stk_type_laws.specs.Orderly.{AreOrderly}
 use Rattle.stk_type_laws.proofs.Kept.{units_keep_order}
 use Rattle.stk_unit_lines.proofs.Typed.{stays_orderly}
 use Rattle.stk_unit_lines.proofs.Counted.{AreAtMost, unit_most}
-use Rattle.stk_lint.specs.Form.{written_lines, written_summary}
-use Rattle.stk_lint.proofs.Units.{piece_some, joined_up, lines_of_units, written_append}
+use Rattle.stk_lint.specs.Form.{written_records, written_summary}
+use Rattle.stk_lint.proofs.Units.{piece_some, joined_up, lines_of_units, written_append, written_none}
 
 -- ---- what a sink takes
 
@@ -55,14 +55,14 @@ on_err (Ok x) W w = tt
 on_err (Err e) W w = w
 
 -- what lines print is followed by what others print
-pub lines_more : (json : Bool) (before middle after : Option (List ℕ)) (xs ys : List Line) → Appended before middle (written_lines json xs) → Appended middle after (written_lines json ys) → Appended before after (written_lines json (xs ++ ys))
-lines_more json before middle after xs ys first second = subst (Appended before after) (sym (written_append json xs ys)) (appended_more before middle after (written_lines json xs) (written_lines json ys) first second)
+pub lines_more : (o : Options) (before middle after : Option (List ℕ)) (xs ys : List Line) → Appended before middle (written_records o xs) → Appended middle after (written_records o ys) → Appended before after (written_records o (xs ++ ys))
+lines_more o before middle after xs ys first second = subst (Appended before after) (sym (written_append o xs ys)) (appended_more before middle after (written_records o xs) (written_records o ys) first second)
 
 -- nothing is a prefix of what may be written of a unit
 pub no_prefix : (bytes : List ℕ) (o : Options) (mark : Bool) (es : List NameEntry) (body : Option ℕ) (tokens : List Token) (before : Option (List ℕ)) → AreOrderly es → 0 < length tokens → WroteUnitPrefix bytes o mark es body tokens before before
 no_prefix bytes o mark es body tokens before orderly some =
     let unit = lines_of_unit bytes o.without o.budget mark es body orderly tokens some in
-    record { lines = unit.lines; counts = unit.counts; now = unit.now; are = unit.is; written = ([], written_lines o.json unit.lines, refl, nothing_appended before) }
+    record { lines = unit.lines; counts = unit.counts; now = unit.now; are = unit.is; written = ([], written_records o unit.lines, refl, nothing_appended before) }
 
 -- ---- counts
 
@@ -122,7 +122,7 @@ pub record AreSoFar (bytes : List ℕ) (o : Options) (tokens : List Token) (piec
   pub most : AreAtMost (80000 * at) counts
   pub orderly : AreOrderly now
   pub lines : List Line
-  pub written : Appended before after (written_lines o.json lines)
+  pub written : Appended before after (written_records o lines)
   pub counted : AreCounted first last (lines_marks lines)
   pub rises : first ≤ last
   pub goes_on : (more : List Line) (others : Counts) → AreUnitsLines bytes o tokens now (drop i pieces) more others → AreUnitsLines bytes o tokens [] pieces (lines ++ more) (counts_sum counts others)
@@ -142,7 +142,7 @@ module _ (bytes : List ℕ) (o : Options) (tokens : List Token) (pieces : List P
     most = record { functions = omega arith; candidates = omega arith; unstable = omega arith; undecided = omega arith; skipped = omega arith };
     orderly = units_keep_order.first;
     lines = [];
-    written = nothing_appended before;
+    written = subst (Appended before before) (sym (written_none o)) (nothing_appended before);
     counted = counted_none first first (omega arith);
     rises = omega arith;
     goes_on = λ more others are. subst (λ c. AreUnitsLines bytes o tokens [] pieces more c) (sym (nothing_plus others)) are;
@@ -188,7 +188,7 @@ module _ (bytes : List ℕ) (o : Options) (tokens : List Token) (pieces : List P
         most = most_sum (80000 * h.at) (80000 * length (tokens_of_piece tokens p)) (80000 * p.to) counts unit (omega (arith, n.from, n.some, unit_length p n.within)) h.most most;
         orderly = stays_orderly bytes o.without o.budget p.no_return now left (body_of_piece p) (tokens_of_piece tokens p) w.lines unit h.orderly w.are;
         lines = h.lines ++ w.lines;
-        written = lines_more o.json before middle after h.lines w.lines h.written w.written;
+        written = lines_more o before middle after h.lines w.lines h.written w.written;
         counted = subst (AreCounted first later) (sym (marks_append h.lines w.lines)) (counted_more first last later (lines_marks h.lines) (lines_marks w.lines) h.rises up h.counted w.counted);
         rises = omega (arith, h.rises, up);
         goes_on = λ more others are.
@@ -207,14 +207,14 @@ module _ (bytes : List ℕ) (o : Options) (tokens : List Token) (pieces : List P
       let rest = lines_of_units bytes o tokens w.now p.to (drop (i + 1) pieces) left n.rest in
       let e : suc i ≡ i + 1 = omega arith in
       let here : drop i pieces ≡ p ∷ drop (i + 1) pieces = drop-cons pieces i d within ∙ ap (λ n. p ∷ drop n pieces) e in
-      let text : written_lines o.json h.lines ++ (written_lines o.json w.lines ++ written_lines o.json rest.lines) ≡ written_lines o.json (h.lines ++ (w.lines ++ rest.lines)) =
-      ap (λ (u : List ℕ). written_lines o.json h.lines ++ u) (sym (written_append o.json w.lines rest.lines)) ∙ sym (written_append o.json h.lines (w.lines ++ rest.lines)) in
+      let text : written_records o h.lines ++ (written_records o w.lines ++ written_records o rest.lines) ≡ written_records o (h.lines ++ (w.lines ++ rest.lines)) =
+      ap (λ (u : List ℕ). written_records o h.lines ++ u) (sym (written_append o w.lines rest.lines)) ∙ sym (written_append o h.lines (w.lines ++ rest.lines)) in
       record {
         lines = h.lines ++ (w.lines ++ rest.lines);
         counts = counts_sum counts (counts_sum w.counts rest.counts);
         are = h.goes_on (w.lines ++ rest.lines) (counts_sum w.counts rest.counts)
             (subst (λ (ps : List Piece). AreUnitsLines bytes o tokens now ps (w.lines ++ rest.lines) (counts_sum w.counts rest.counts)) (sym here) (then_unit w.are rest.are));
-        written = subst (AppendedPrefix before after) text (prefix_more before middle after (written_lines o.json h.lines) (written_lines o.json w.lines) (written_lines o.json rest.lines) h.written w.written);
+        written = subst (AppendedPrefix before after) text (prefix_more before middle after (written_records o h.lines) (written_records o w.lines) (written_records o rest.lines) h.written w.written);
       }
 
   -- all units
@@ -232,7 +232,7 @@ module _ (bytes : List ℕ) (o : Options) (tokens : List Token) (pieces : List P
 -- ---- the text
 
 module _ (bytes : List ℕ) (o : Options) (kept : List Token) (pieces : List Piece) (units : AreUnitsOf bytes kept pieces) where
-  lawful : (lines : List Line) (counts : Counts) → AreUnitsLines bytes o kept [] pieces lines counts → IsLawfulText bytes o (written_lines o.json lines ++ written_summary o.json o.without counts) (status_of counts.unstable counts.undecided) (lines_marks lines)
+  lawful : (lines : List Line) (counts : Counts) → AreUnitsLines bytes o kept [] pieces lines counts → IsLawfulText bytes o (written_records o lines ++ written_summary o.json o.without counts) (status_of counts.unstable counts.undecided) (lines_marks lines)
   lawful lines counts are = record {
     tokens = units.tokens;
     cut = units.cut;
@@ -247,28 +247,28 @@ module _ (bytes : List ℕ) (o : Options) (kept : List Token) (pieces : List Pie
   pub text_taken : (before middle after : Option (List ℕ)) (flushed first last : ℕ) (counts : Counts) (status : Status) → WroteUnits bytes o kept pieces before middle first last counts → Appended middle after (written_summary o.json o.without counts) → IsFlushed after flushed
       → status ≡ status_of counts.unstable counts.undecided → TookText bytes o before after flushed first last status
   text_taken before middle after flushed first last counts status w end flush e = record {
-    text = written_lines o.json w.lines ++ written_summary o.json o.without counts;
+    text = written_records o w.lines ++ written_summary o.json o.without counts;
     marks = lines_marks w.lines;
     lawful = rw e (lawful w.lines counts w.are);
-    written = appended_more before middle after (written_lines o.json w.lines) (written_summary o.json o.without counts) w.written end;
+    written = appended_more before middle after (written_records o w.lines) (written_summary o.json o.without counts) w.written end;
     flush = flush;
     counted = w.counted;
   }
 
   pub units_stop : (before after : Option (List ℕ)) → WroteUnitsPrefix bytes o kept pieces before after → TookPrefix bytes o before after
   units_stop before after w = record {
-    text = written_lines o.json w.lines ++ written_summary o.json o.without w.counts;
+    text = written_records o w.lines ++ written_summary o.json o.without w.counts;
     status = status_of w.counts.unstable w.counts.undecided;
     marks = lines_marks w.lines;
     lawful = lawful w.lines w.counts w.are;
-    written = prefix_of before after (written_lines o.json w.lines) (written_summary o.json o.without w.counts) w.written;
+    written = prefix_of before after (written_records o w.lines) (written_summary o.json o.without w.counts) w.written;
   }
 
   pub summary_stops : (before middle after : Option (List ℕ)) (first last : ℕ) (counts : Counts) → WroteUnits bytes o kept pieces before middle first last counts → AppendedPrefix middle after (written_summary o.json o.without counts) → TookPrefix bytes o before after
   summary_stops before middle after first last counts w (front, back, same, taken) = record {
-    text = written_lines o.json w.lines ++ written_summary o.json o.without counts;
+    text = written_records o w.lines ++ written_summary o.json o.without counts;
     status = status_of counts.unstable counts.undecided;
     marks = lines_marks w.lines;
     lawful = lawful w.lines counts w.are;
-    written = (written_lines o.json w.lines ++ front, back, ap (λ (u : List ℕ). written_lines o.json w.lines ++ u) same ∙ sym (append_assoc (written_lines o.json w.lines) front back), appended_more before middle after (written_lines o.json w.lines) front w.written taken);
+    written = (written_records o w.lines ++ front, back, ap (λ (u : List ℕ). written_records o w.lines ++ u) same ∙ sym (append_assoc (written_records o w.lines) front back), appended_more before middle after (written_records o w.lines) front w.written taken);
   }

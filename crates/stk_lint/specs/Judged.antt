@@ -10,14 +10,14 @@ use Rattle.stk_records.specs.declared.line.Line.{Line}
 use Rattle.stk_spent_queries.specs.Marks.{AreCounted}
 use Rattle.stk_unit_lines.specs.UnitLines.{IsUnitLines}
 use Rattle.stk_unit_lines.specs.Marks.{lines_marks}
-use Rattle.stk_lint.specs.Form.{written_lines}
+use Rattle.stk_lint.specs.Form.{written_records}
 use Rattle.stk_lint.specs.LawfulText.{AreUnitsLines}
 
 -- a sink took the lines of a unit, which leaves these names, and a count of what was given up tells of their marks
 pub record WroteUnit (bytes : List ℕ) (o : Options) (mark : Bool) (es : List NameEntry) (body : Option ℕ) (tokens : List Token) (before after : Option (List ℕ)) (first last : ℕ) (counts : Counts) (now : List NameEntry) : Type 0 where
   pub lines : List Line
   pub are : IsUnitLines bytes o.without o.budget mark es body tokens lines counts now
-  pub written : Appended before after (written_lines o.json lines)
+  pub written : Appended before after (written_records o lines)
   pub counted : AreCounted first last (lines_marks lines)
 
 -- a sink took some prefix of what may be written of a unit
@@ -26,13 +26,13 @@ pub record WroteUnitPrefix (bytes : List ℕ) (o : Options) (mark : Bool) (es : 
   pub counts : Counts
   pub now : List NameEntry
   pub are : IsUnitLines bytes o.without o.budget mark es body tokens lines counts now
-  pub written : AppendedPrefix before after (written_lines o.json lines)
+  pub written : AppendedPrefix before after (written_records o lines)
 
 -- a sink took the lines of units
 pub record WroteUnits (bytes : List ℕ) (o : Options) (tokens : List Token) (pieces : List Piece) (before after : Option (List ℕ)) (first last : ℕ) (counts : Counts) : Type 0 where
   pub lines : List Line
   pub are : AreUnitsLines bytes o tokens [] pieces lines counts
-  pub written : Appended before after (written_lines o.json lines)
+  pub written : Appended before after (written_records o lines)
   pub counted : AreCounted first last (lines_marks lines)
 
 -- a sink took some prefix of what may be written of units
@@ -40,4 +40,4 @@ pub record WroteUnitsPrefix (bytes : List ℕ) (o : Options) (tokens : List Toke
   pub lines : List Line
   pub counts : Counts
   pub are : AreUnitsLines bytes o tokens [] pieces lines counts
-  pub written : AppendedPrefix before after (written_lines o.json lines)
+  pub written : AppendedPrefix before after (written_records o lines)

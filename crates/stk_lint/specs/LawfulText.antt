@@ -1,6 +1,6 @@
 -- Which texts and statuses are lawful for the bytes of an input and the options of a run. The input is cut into its
 -- units; a tree stands for a unit by printing its tokens, so nothing here speaks of how a unit is read.
-use Rattle.std.specs.Prelude.{◌≡◌, ℕ, ◌-◌, Bool, List, [], ◌∷◌, ◌++◌, take, drop, zero, suc, Option}
+use Rattle.std.specs.Prelude.{◌≡◌, ℕ, ◌-◌, List, [], ◌∷◌, ◌++◌, take, drop, zero, suc, Option}
 use Rattle.std.specs.Option.{option_map}
 use Rattle.stk_base.specs.declared.status.Status.{Status}
 use Rattle.stk_base.specs.declared.status.Status.TheVariants.{Stable, Found, Unsure}
@@ -16,7 +16,7 @@ use Rattle.stk_records.specs.declared.line.Line.{Line}
 use Rattle.stk_records.specs.Counts.{nothing_counted, counts_sum}
 use Rattle.stk_unit_lines.specs.UnitLines.{IsUnitLines}
 use Rattle.stk_unit_lines.specs.Marks.{lines_marks}
-use Rattle.stk_lint.specs.Form.{written_lines, written_summary}
+use Rattle.stk_lint.specs.Form.{written_records, written_summary}
 
 -- the status where so many candidates are unstable, and so many undecided
 abbrev pub status_of : ℕ → ℕ → Status
@@ -41,15 +41,16 @@ pub data AreUnitsLines (bytes : List ℕ) (o : Options) (tokens : List Token) : 
 
 -- ---- the text
 
--- A lawful text of these bytes under these options, the status that goes with it, and how often it says that a query was
--- given up: in the form that the options ask for, the lawful lines of each unit of the bytes, in order, with no names in
--- force before the first, and then the summary with their counts.
+-- A lawful text of these bytes under these options, the status that goes with it, and how often its lines say that a
+-- query was given up: in the form that the options ask for, the lawful lines of each unit of the bytes, in order, with
+-- no names in force before the first, and then the summary with their counts; where the options ask for a generated
+-- text, the summary alone.
 pub record IsLawfulText (bytes : List ℕ) (o : Options) (text : List ℕ) (status : Status) (marks : ℕ) : Type 0 where
   pub tokens : List Token
   pub cut : IsCut bytes tokens
   pub lines : List Line
   pub counts : Counts
   pub units : AreUnitsLines bytes o (kept_tokens bytes tokens) [] (units_of bytes (kept_tokens bytes tokens) (notes_of bytes tokens)) lines counts
-  pub same_text : text ≡ written_lines o.json lines ++ written_summary o.json o.without counts
+  pub same_text : text ≡ written_records o lines ++ written_summary o.json o.without counts
   pub same_status : status ≡ status_of counts.unstable counts.undecided
   pub same_marks : marks ≡ lines_marks lines

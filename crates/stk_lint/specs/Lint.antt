@@ -1,5 +1,5 @@
 -- What the top call does: how it ends, what it wrote, and what it tells of a failure.
-use Rattle.std.specs.Prelude.{◌≡◌, ℕ, ◌≤◌, List, [], length, Option, Some, Result, Ok, Err, codes}
+use Rattle.std.specs.Prelude.{◌≡◌, ℕ, ◌≤◌, List, [], length, Option, None, Some, Result, Ok, Err, codes}
 use Rattle.stk_base.specs.declared.status.Status.{Status}
 use Rattle.stk_base.specs.declared.status.Status.TheVariants.{Stable, Found, Unsure, BadWords, ReadFault, WriteFault, TooLarge, NoMemory}
 use Rattle.stk_base.specs.Streams.{Appended, AppendedPrefix, IsFlushed}
@@ -14,6 +14,7 @@ use Rattle.stk_records.specs.Words.{AreLegal}
 use Rattle.stk_lint.specs.declared.lint.Stop.{Stop}
 use Rattle.stk_lint.specs.declared.lint.Stop.TheVariants as stops
 use Rattle.stk_spent_queries.specs.Marks.{AreCounted}
+use Rattle.stk_gen.specs.Generated.{source_of}
 use Rattle.stk_lint.specs.LawfulText.{IsLawfulText}
 
 -- the records were written: the run ended stable, or found something, or is unsure
@@ -46,9 +47,20 @@ pub record IsLegal (words : List (List ℕ)) : Type 0 where
   pub options : Options
   pub are : AreLegal words options
 
--- The source was read to its end, and the sink took a text that is lawful for its bytes and the options that the words
--- ask for, with this status, and was flushed. The bytes are those that the source had left, where it tells them. A count
--- of goals that were given up tells of what the text says is undecided or open.
+-- these words on the command line are legal, and don't ask for a generated text
+pub record AskForReading (words : List (List ℕ)) : Type 0 where
+  pub options : Options
+  pub are : AreLegal words options
+  pub generate : options.generate ≡ None
+
+-- Which bytes a run judges: those that the source had left, where it tells them, and then it has none left. Where the
+-- options ask for it, the text that their number generates, and then the source is left as it was.
+abbrev pub IsInput : Option (ℕ × ℕ) → Option (List ℕ) → Option (List ℕ) → List ℕ → Type 0
+IsInput None before after bytes = (left : List ℕ) → before ≡ Some left → (bytes ≡ left) × (after ≡ Some [])
+IsInput (Some asked) before after bytes = (bytes ≡ source_of asked.0 asked.1) × (after ≡ before)
+
+-- The bytes were gathered, and the sink took a text that is lawful for them and the options that the words ask for, with
+-- this status, and was flushed. A count of goals that were given up tells of what its lines say is undecided or open.
 pub record HasWritten (words : List (List ℕ)) (left_before left_after taken_before taken_after : Option (List ℕ)) (flushed given_before given_after : ℕ) (status : Status) : Type 0 where
   pub options : Options
   pub legal : AreLegal words options
@@ -56,12 +68,12 @@ pub record HasWritten (words : List (List ℕ)) (left_before left_after taken_be
   pub text : List ℕ
   pub marks : ℕ
   pub lawful : IsLawfulText bytes options text status marks
-  pub read : (left : List ℕ) → left_before ≡ Some left → (bytes ≡ left) × (left_after ≡ Some [])
+  pub input : IsInput options.generate left_before left_after bytes
   pub written : Appended taken_before taken_after text
   pub flush : IsFlushed taken_after flushed
   pub counted : AreCounted given_before given_after marks
 
--- The source was read to its end, and the sink took some prefix of a text that is lawful for its bytes and the options.
+-- The bytes were gathered, and the sink took some prefix of a text that is lawful for them and the options.
 pub record HasWrittenPrefix (words : List (List ℕ)) (left_before left_after taken_before taken_after : Option (List ℕ)) : Type 0 where
   pub options : Options
   pub legal : AreLegal words options
@@ -70,7 +82,7 @@ pub record HasWrittenPrefix (words : List (List ℕ)) (left_before left_after ta
   pub status : Status
   pub marks : ℕ
   pub lawful : IsLawfulText bytes options text status marks
-  pub read : (left : List ℕ) → left_before ≡ Some left → (bytes ≡ left) × (left_after ≡ Some [])
+  pub input : IsInput options.generate left_before left_after bytes
   pub written : AppendedPrefix taken_before taken_after text
 
 -- what skimming leaves of the tokens of an input

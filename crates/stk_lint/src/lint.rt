@@ -1,6 +1,6 @@
 //! The top call.
 
-ghost use Rattle.std.specs.Prelude.{◌≡◌, ◌↔◌, ◌⊎◌, ◌≤◌, ◌<◌, ℕ, List, length, map, Some, Err, IfOk, OnOk, OnErr};
+ghost use Rattle.std.specs.Prelude.{◌≡◌, ◌↔◌, ◌⊎◌, ◌≤◌, ◌<◌, ℕ, List, length, map, None, Some, Err, IfOk, IfSome, IsErrOf, OnOk, OnErr, vec_len};
 ghost use Rattle.std.specs.String.{string_bytes};
 ghost use Rattle.stk_base.specs.Limits.{most_bytes};
 ghost use Rattle.stk_base.specs.Causes.{Rose, HasCause};
@@ -10,14 +10,15 @@ ghost use Rattle.stk_type_laws.specs.Orderly.{AreOrderly};
 ghost use Rattle.stk_lint.specs.Form.{written_summary};
 ghost use Rattle.stk_lint.specs.LawfulText.{body_of_piece, status_of, tokens_of_piece};
 ghost use Rattle.stk_lint.specs.Judged.{WroteUnit, WroteUnitPrefix, WroteUnits, WroteUnitsPrefix};
-ghost use Rattle.stk_lint.specs.Lint.{IsWritten, IsUnread, IsLegal, fault_line, HasWritten, HasWrittenPrefix, IsSkimmedFrom, AreUnitsOf, TookText, TookPrefix, status_after};
+ghost use Rattle.stk_lint.specs.Lint.{IsWritten, IsUnread, IsLegal, AskForReading, IsInput, fault_line, HasWritten, HasWrittenPrefix, IsSkimmedFrom, AreUnitsOf, TookText, TookPrefix, status_after};
 
-use crate::writing::{summary_text, text_of};
+use crate::writing::{records_text, summary_text};
 use std::alloc::Global;
 use stk_base::{
     Failed, List, MOST_BYTES, NoMemory, ReadAll, Sink, Source, Status, read_all, write_all,
 };
 use stk_ctype::Names;
+use stk_gen::{MOST_FUNCTIONS, source_of};
 use stk_lex::{Piece, Places, Skimmed, Token, cut, lex, skim};
 use stk_query::{Decider, MOST_BUDGET};
 use stk_records::{Counts, Options, WordsFault, words as options_of};
@@ -129,7 +130,7 @@ fn write_unit<K: Sink, D: Decider>(
     let body = body_of_piece(piece);
     let mark = piece.no_return;
     let unit = unit_lines(alloc, input, options, mark, body, tokens, names, decider)?;
-    let text = text_of(alloc, options.json, unit.lines.as_slice())?;
+    let text = records_text(alloc, options, unit.lines.as_slice())?;
     write_all(out, text.as_slice())?;
     Ok(unit.counts)
 }
@@ -290,7 +291,31 @@ fn answer<K: Sink, D: Decider>(
     ended(written)
 }
 
-// Reads the input, judges it and writes its records.
+// The bytes that are judged: all that the source has left, or where the options ask for it a generated text.
+fn input_bytes<S: Source>(
+    alloc: Global,
+    options: Options,
+    source: &mut S,
+) -> Result<Vec<u8>, ReadAll>
+    requires { IfSome options.generate (λ asked. asked.1 ≤ MOST_FUNCTIONS) }
+    ensures input { IfOk result (λ bytes. IsInput options.generate (S.left source.old) (S.left source.new) bytes.items) }
+    ensures few { IfOk result (λ bytes. vec_len bytes ≤ most_bytes) }
+    ensures unread { (options.generate ≡ None) ⊎ ((S.left source.new ≡ S.left source.old) × (S.faults source.new ≡ S.faults source.old)) }
+    ensures fault { IsErrOf result ReadAll.ReadFault → (options.generate ≡ None) × Rose (S.faults source.old) (S.faults source.new) }
+    ensures no_fault { IsErrOf result ReadAll.ReadFault ⊎ (S.faults source.new ≡ S.faults source.old) }
+    ensures large { IsErrOf result ReadAll.TooLarge → options.generate ≡ None }
+    ensures too_large { (came : List ℕ) × Came (S.left source.old) (S.left source.new) came × (IsErrOf result ReadAll.TooLarge ↔ (most_bytes < length came)) }
+{
+    match options.generate {
+        None => read_all(alloc, source, MOST_BYTES),
+        Some((number, functions)) => match source_of(alloc, number, functions) {
+            Ok(text) => Ok(text),
+            Err(NoMemory) => Err(ReadAll::NoMemory),
+        },
+    }
+}
+
+// Gathers the input, judges it and writes its records.
 fn run<S: Source, K: Sink, D: Decider>(
     alloc: Global,
     words: &[String],
@@ -304,17 +329,17 @@ fn run<S: Source, K: Sink, D: Decider>(
     ensures no_memory { result ≡ Status.NoMemory → (K.taken out.new ≡ K.taken out.old) ⊎ HasWrittenPrefix (map string_bytes words.now) (S.left source.old) (S.left source.new) (K.taken out.old) (K.taken out.new) }
     ensures only { IsWritten result ⊎ (IsUnread result ⊎ ((result ≡ Status.WriteFault) ⊎ (result ≡ Status.NoMemory))) }
     ensures bad_words { (result ≡ Status.BadWords) ↔ (IsLegal (map string_bytes words.now) → ⊥) }
-    ensures unread { (IsLegal (map string_bytes words.now) → ⊥) → (S.left source.new ≡ S.left source.old) × (S.faults source.new ≡ S.faults source.old) }
-    ensures read_fault { result ≡ Status.ReadFault → Rose (S.faults source.old) (S.faults source.new) }
+    ensures unread { (AskForReading (map string_bytes words.now) → ⊥) → (S.left source.new ≡ S.left source.old) × (S.faults source.new ≡ S.faults source.old) }
+    ensures read_fault { result ≡ Status.ReadFault → AskForReading (map string_bytes words.now) × Rose (S.faults source.old) (S.faults source.new) }
     ensures write_fault { result ≡ Status.WriteFault → Rose (K.faults out.old) (K.faults out.new) }
-    ensures too_large { (came : List ℕ) × Came (S.left source.old) (S.left source.new) came × ((result ≡ Status.TooLarge) ↔ (most_bytes < length came)) }
+    ensures too_large { (came : List ℕ) × Came (S.left source.old) (S.left source.new) came × ((result ≡ Status.TooLarge) ↔ (AskForReading (map string_bytes words.now) × (most_bytes < length came))) }
     ensures no_fault { (result ≡ Status.ReadFault) ⊎ (S.faults source.new ≡ S.faults source.old) }
 {
     let options = match options_of(words) {
         Ok(options) => options,
         Err(WordsFault::Bad) => return Status::BadWords,
     };
-    match read_all(alloc, source, MOST_BYTES) {
+    match input_bytes(alloc, options, source) {
         Ok(bytes) => answer(alloc, bytes.as_slice(), options, out, decider),
         Err(refusal) => refused(refusal),
     }
@@ -342,17 +367,20 @@ fn tell<E: Sink>(fault: &mut E, status: Status)
 }
 
 /// Reads C from a source, writes the records of what is unstable in it to a sink, and flushes them; tells of a failure
-/// on a third sink. The words ask for options: `--json`, `--budget N` and `--without LIST` (stk_records). The answer
-/// says how it ended:
+/// on a third sink. The words ask for options: `--json`, `--budget N`, `--without LIST`, and `--generate M` with
+/// `--functions N` (stk_records). With the last two the source is left unread: the bytes that are judged are the text
+/// that M generates, of N functions (stk_gen), and of the records the summary alone is written. The answer says how it
+/// ended:
 ///
-/// - `Stable`, `Found` and `Unsure`: the source was read to its end, and the sink took a text that is lawful for its
-///   bytes and the options, and was flushed; `Found` where at least one candidate is unstable, `Unsure` where none is
-///   and at least one is undecided. What the text says is undecided or open is at most as much as the count of goals
-///   that the decider gave up rose by, or that stands at the last value of a u64; and it is nothing where it didn't
-///   rise.
+/// - `Stable`, `Found` and `Unsure`: the source was read to its end, or a text was generated; the sink took a text that
+///   is lawful for these bytes and the options, and was flushed; `Found` where at least one candidate is unstable,
+///   `Unsure` where none is and at least one is undecided. What the records say is undecided or open is at most as much
+///   as the count of goals that the decider gave up rose by, or that stands at the last value of a u64; and it is
+///   nothing where it didn't rise.
 /// - `BadWords`: exactly where the words aren't legal. The source is unread.
-/// - `ReadFault`: only where the source counted a fault, and after every other answer it counted none.
-/// - `TooLarge`: exactly where more than 16,777,216 bytes came before the end and before any failed call.
+/// - `ReadFault`: only where the source was to be read and counted a fault; after every other answer it counted none.
+/// - `TooLarge`: exactly where the source was to be read, and more than 16,777,216 bytes came before the end and before
+///   any failed call.
 /// - `WriteFault`: only where the sink counted a fault. It took some prefix of a lawful text.
 /// - `NoMemory`: no clause says when it comes. The sink took nothing, or some prefix of a lawful text.
 ///
@@ -374,16 +402,18 @@ pub fn lint_main<S: Source, K: Sink, E: Sink, D: Decider>(
 
     // When each refusal comes.
     ensures bad_words { (result ≡ Status.BadWords) ↔ (IsLegal (map string_bytes words.now) → ⊥) }
-    ensures unread { (IsLegal (map string_bytes words.now) → ⊥) → (S.left source.new ≡ S.left source.old) × (S.faults source.new ≡ S.faults source.old) }
-    ensures read_fault { result ≡ Status.ReadFault → Rose (S.faults source.old) (S.faults source.new) }
+    ensures unread { (AskForReading (map string_bytes words.now) → ⊥) → (S.left source.new ≡ S.left source.old) × (S.faults source.new ≡ S.faults source.old) }
+    ensures read_fault { result ≡ Status.ReadFault → AskForReading (map string_bytes words.now) × Rose (S.faults source.old) (S.faults source.new) }
     ensures write_fault { result ≡ Status.WriteFault → Rose (K.faults out.old) (K.faults out.new) }
-    ensures too_large { (came : List ℕ) × Came (S.left source.old) (S.left source.new) came × ((result ≡ Status.TooLarge) ↔ (16777216 < length came)) }
+    ensures too_large { (came : List ℕ) × Came (S.left source.old) (S.left source.new) came × ((result ≡ Status.TooLarge) ↔ (AskForReading (map string_bytes words.now) × (16777216 < length came))) }
     ensures no_fault { (result ≡ Status.ReadFault) ⊎ (S.faults source.new ≡ S.faults source.old) }
 
     // With legal words, over a source that tells no more bytes than the limit, and where nothing fails.
     ensures complete { (bytes : List ℕ) → IsLegal (map string_bytes words.now) → S.left source.old ≡ Some bytes → length bytes ≤ 16777216
         → ¬ Rose (S.faults source.old) (S.faults source.new) → ¬ Rose (K.faults out.old) (K.faults out.new)
         → IsWritten result ⊎ (result ≡ Status.NoMemory) }
+    ensures complete_generated { IsLegal (map string_bytes words.now) → (AskForReading (map string_bytes words.now) → ⊥)
+        → ¬ Rose (K.faults out.old) (K.faults out.new) → IsWritten result ⊎ (result ≡ Status.NoMemory) }
 
     // The line of a failure.
     ensures line { ¬ Rose (E.faults fault.old) (E.faults fault.new) → Appended (E.taken fault.old) (E.taken fault.new) (fault_line result) }

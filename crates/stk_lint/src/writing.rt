@@ -1,7 +1,7 @@
 //! Lines in the form that the options ask for.
 
 ghost use Rattle.std.specs.Prelude.{◌≡◌, ◌++◌, IfOk, OnOk};
-ghost use Rattle.stk_lint.specs.Form.{written_line, written_lines, written_summary};
+ghost use Rattle.stk_lint.specs.Form.{written_line, written_lines, written_records, written_summary};
 
 use std::alloc::Global;
 use stk_base::NoMemory;
@@ -18,8 +18,8 @@ fn write_line(alloc: Global, json: bool, line: &Line, text: &mut Vec<u8>) -> Res
     }
 }
 
-/// The text of lines.
-pub(crate) fn text_of(alloc: Global, json: bool, lines: &[Line]) -> Result<Vec<u8>, NoMemory>
+// The text of lines.
+fn text_of(alloc: Global, json: bool, lines: &[Line]) -> Result<Vec<u8>, NoMemory>
     ensures { IfOk result (λ text. text.items ≡ written_lines json lines.now) }
 {
     let mut text = Vec::new(alloc);
@@ -27,6 +27,20 @@ pub(crate) fn text_of(alloc: Global, json: bool, lines: &[Line]) -> Result<Vec<u
         write_line(alloc, json, line, &mut text)?;
     }
     Ok(text)
+}
+
+/// What is written of the lines of a unit: all of them, and none where the text is generated.
+pub(crate) fn records_text(
+    alloc: Global,
+    options: Options,
+    lines: &[Line],
+) -> Result<Vec<u8>, NoMemory>
+    ensures { IfOk result (λ text. text.items ≡ written_records options lines.now) }
+{
+    if options.generate.is_some() {
+        return Ok(Vec::new(alloc));
+    }
+    text_of(alloc, options.json, lines)
 }
 
 /// The text of the summary.

@@ -1,8 +1,11 @@
-//! Tests of the top call on functions of more than 16 input bits: their records, and what the decider is asked.
+//! Tests of the top call on functions of more than 16 input bits: their records, and what the decider is asked; and on
+//! texts that are generated.
 #![tactic(auto)]
 
 #[cfg(test)]
 mod asked;
+#[cfg(test)]
+mod generated;
 #[cfg(test)]
 mod given_up;
 #[cfg(test)]

@@ -2,15 +2,16 @@
 
 use std::alloc::Global;
 use std::test::Fail;
-use stk_base::{MemSink, MemSource, Status};
+use stk_base::{MOST_BYTES, MemSink, MemSource, Status, read_all};
 use stk_lint::lint_main;
 use stk_query::Decider;
 
-/// What a run came to: its status, and what its output took.
+/// What a run came to: its status, what its output took, and what it left of its input.
 #[derive(Drop)]
 pub struct Outcome {
     pub status: Status,
     pub records: Vec<u8>,
+    pub left: Vec<u8>,
 }
 
 // The most bytes of a call of the source or a sink.
@@ -33,9 +34,11 @@ pub(crate) fn ran<D: Decider>(
     let mut fault = MemSink::new(alloc, MOST, Vec::new(alloc));
     let words = owned.as_slice();
     let status = lint_main(alloc, words, &mut source, &mut out, &mut fault, decider);
+    let left = read_all(alloc, &mut source, MOST_BYTES)?;
     Ok(Outcome {
         status,
         records: Vec::from_slice(alloc, out.bytes())?,
+        left,
     })
 }
 

@@ -412,7 +412,7 @@ pub(crate) fn of_outside(
 
 #[test]
 fn each_failure_has_its_status(rt: HostRuntime) -> Result<(), Fail> {
-    let table: [(Outside, Status, &[u8], &[u8]); 7] = [
+    let table: [(Outside, Status, &[u8], &[u8]); 9] = [
         (
             of_outside(&["--help"], 9, None, None, None),
             Status::BadWords,
@@ -454,6 +454,30 @@ fn each_failure_has_its_status(rt: HostRuntime) -> Result<(), Fail> {
             Status::ReadFault,
             b"",
             b"",
+        ),
+        (
+            of_outside(
+                &["--generate", "0", "--functions", "1"],
+                9,
+                Some(0),
+                None,
+                None,
+            ),
+            Status::Stable,
+            b"1 functions, 6 candidates, 0 unstable, 0 undecided, 0 skipped\n",
+            b"",
+        ),
+        (
+            of_outside(
+                &["--generate", "2", "--functions", "1"],
+                16,
+                None,
+                Some(1),
+                None,
+            ),
+            Status::WriteFault,
+            b"1 functions, 3 c",
+            UNWRITTEN,
         ),
     ];
     for (outside, status, records, line) in &table {

@@ -8,7 +8,7 @@ use Rattle.stk_text_laws.proofs.Cutting.{cut_of}
 use Rattle.stk_type_laws.proofs.Kept.{units_keep_order}
 use Rattle.stk_records.specs.declared.options.Options.{Options}
 use Rattle.stk_unit_lines.specs.Marks.{lines_marks}
-use Rattle.stk_lint.specs.Form.{written_lines, written_summary}
+use Rattle.stk_lint.specs.Form.{written_records, written_summary}
 use Rattle.stk_lint.specs.LawfulText.{IsLawfulText, status_of}
 use Rattle.stk_lint.proofs.Units.{lines_of_units}
 
@@ -19,7 +19,7 @@ records_of bytes o =
     let notes = notes_of bytes cut.0 in
     let joined = cut_joined bytes kept notes (units_of bytes kept notes) (record { all = λ order. refl; bounds = refl }) in
     let units = lines_of_units bytes o kept [] 0 (units_of bytes kept notes) units_keep_order.first joined in (
-      written_lines o.json units.lines ++ written_summary o.json o.without units.counts,
+      written_records o units.lines ++ written_summary o.json o.without units.counts,
       (
         status_of units.counts.unstable units.counts.undecided,
         (

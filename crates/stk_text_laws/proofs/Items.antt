@@ -1,6 +1,7 @@
 -- Words that are legal ask for one set of options: no two items stand in front of the same words, and no text names two
 -- sets of kinds.
 use Rattle.std.proofs.Common.{◌≡◌, ℕ, ◌<◌, true, List, [], ◌∷◌, ◌++◌, length, take, drop, get_or, length-append, inl, inr, refl, sym, ap, ◌∙◌, arith}
+use Rattle.std.specs.Prelude.{Some, None}
 use Rattle.std.specs.List.{list_all}
 use Rattle.std.proofs.lemmas.List.{append-nil}
 use Rattle.stk_numbers.specs.declared.conditions.UbKind.{UbKind}
@@ -12,6 +13,7 @@ use Rattle.stk_records.specs.Words.{IsItem, json, apart, joined, IsItemAlone, Ar
 use Rattle.stk_records.proofs.Names.{Follows, IsComma, goes_down, only_last}
 use Rattle.stk_records.proofs.Forms.{front_of, json_alone, apart_alone, joined_alone, NamesOne, only_text}
 use Rattle.stk_records.proofs.Wholes as wholes
+use Rattle.stk_lint.specs.Lint.{AskForReading}
 
 -- ---- the names of kinds
 
@@ -88,3 +90,10 @@ one_asked (then_item i free others) h =
 
 pub one_options : (words : List (List ℕ)) (o p : Options) → AreLegal words o → AreLegal words p → o ≡ p
 one_options words o p h k = one_asked h k
+
+-- words that ask for a generated text don't ask for reading
+pub no_reading : (words : List (List ℕ)) (o : Options) (asked : ℕ × ℕ) → AreLegal words o → o.generate ≡ Some asked → AskForReading words → ⊥
+no_reading words o asked legal e reading =
+    let same = one_options words o reading.options legal reading.are in
+    let none : Some asked ≡ None = sym e ∙ (ap (λ (x : Options). x.generate) same ∙ reading.generate) in
+    cc

@@ -30,7 +30,7 @@ use Rattle.stk_spent_queries.specs.Spent.{spent_at}
 use Rattle.stk_unit_lines.specs.UnitLines.{one_judged, skip_line, function_lines, AreFindingsOf, IsUnitLines, accepted, refused, unjudged, judged}
 use Rattle.stk_unit_lines.specs.Marks.{lines_marks}
 use Rattle.stk_text_laws.specs.Texts.{AreNarrow, HasNarrowFunctions}
-use Rattle.stk_lint.specs.Form.{written_lines, written_summary}
+use Rattle.stk_lint.specs.Form.{written_records, written_summary}
 use Rattle.stk_lint.specs.LawfulText.{body_of_piece, tokens_of_piece, AreUnitsLines, no_unit, then_unit, status_of, IsLawfulText}
 use Rattle.stk_text_laws.proofs.Accepted.{one_tree, one_left, not_both, one_accepted, one_cause}
 
@@ -145,7 +145,7 @@ one_text bytes o text other status also marks others few h k =
     let cut : h.tokens ≡ k.tokens = one_cut bytes h.tokens k.tokens h.cut k.cut in
     let there = subst (λ (ts : List Token). AreUnitsLines bytes o (kept_tokens bytes ts) [] (units_of bytes (kept_tokens bytes ts) (notes_of bytes ts)) k.lines k.counts) (sym cut) k.units in
     let same = one_units_lines refl (few h.tokens h.cut) h.units there in
-    let whole : List Line → Counts → List ℕ = λ lines counts. written_lines o.json lines ++ written_summary o.json o.without counts in (
+    let whole : List Line → Counts → List ℕ = λ lines counts. written_records o lines ++ written_summary o.json o.without counts in (
       h.same_text ∙ ap (λ (x : List Line). whole x h.counts) same.0 ∙ ap (whole k.lines) same.1 ∙ sym k.same_text,
       h.same_status ∙ ap (λ (x : Counts). status_of x.unstable x.undecided) same.1 ∙ sym k.same_status,
       h.same_marks ∙ ap lines_marks same.0 ∙ sym k.same_marks,

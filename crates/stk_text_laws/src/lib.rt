@@ -15,4 +15,4 @@ pub use layouts::laid_out_by_its_tokens;
 pub use semicolons::ends_at_the_first_semicolon;
 pub use stretches::{one_skimming, skimming_by_stretches};
 pub use texts::{each_text_has_lawful_records, one_lawful_text};
-pub use words::words_ask_for_one;
+pub use words::{generating_is_no_reading, words_ask_for_one};
