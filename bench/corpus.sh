@@ -11,7 +11,7 @@
 # megabytes; and the processor seconds of `clang --analyze` and of `clang -fsyntax-only` on the same files, in which
 # types and attributes that it doesn't know are written in others (EVERY=N in the environment: on each Nth file, beside
 # the checker's on these). Then it lists the ten slowest files of all, the files
-# whose run didn't end with status 0, 1 or 2 (124: by time), and those that clang refuses.
+# whose run didn't end with status 0, 1 or 2 (124: by time), and those on which clang fails.
 # FOLDER/PACKAGE.rows has a line for each file: processor seconds, kilobytes, status, name and hash.
 set -eu
 program=$(realpath "${1:?a program}")
@@ -174,10 +174,10 @@ report() {
         }' "$folder/$package.rows"
     awk '
         FNR == NR { ours[$NF] = $1; next }
-        { files++; seconds += ours[$NF]; analyze += $1; syntax += $3; if ($2 + $4 > 0) refused++ }
+        { files++; seconds += ours[$NF]; analyze += $1; syntax += $3; if ($2 + $4 > 0) failed++ }
         END {
             printf "  on %d of them %.2f s, clang --analyze %.2f s, ", files, seconds, analyze
-            printf "clang -fsyntax-only %.2f s (%d refused)\n", syntax, refused
+            printf "clang -fsyntax-only %.2f s (%d failed)\n", syntax, failed
         }' "$folder/$package.rows" "$folder/$package.clang"
     count_records
 }
@@ -193,5 +193,5 @@ echo "The slowest files (processor seconds, kilobytes, status, name, hash):"
 sort -rn "$folder/all.rows" | head -n 10 | sed 's/^/  /'
 echo "Files whose run had another status than 0, 1 and 2:"
 awk '$3 > 2 { print "  " $0 }' "$folder/all.rows"
-echo "Files that clang refuses:"
+echo "Files on which clang fails (seconds and status of --analyze, and of -fsyntax-only):"
 for package; do awk '$2 + $4 > 0 { print "  " $0 }' "$folder/$package.clang"; done

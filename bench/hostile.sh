@@ -150,9 +150,12 @@ text '' 'int f%d(unsigned char a, unsigned char b) { if (a / (b + 1) == %d) retu
     hostile '9,000 functions of 16 input bits, all of whose maps are run'
 text '' 'int f%d(unsigned char a) { if (100 / a == %d) return a; return 1; }' 9000 '' |
     hostile '9,000 functions of 8 input bits'
-hard='if ((a + b) * (a - b) != a * a - b * b + %d) s++; '
-text 'int f(unsigned long a, unsigned long b) { int s = 0;' "$hard" 19 'return s; }' |
-    hostile 'the greatest weight: 19 tests of three products each'
+hard='if ((a + b + %d) * (a - b) != a * a - b * b + %d * (a - b)) s++; '
+text 'int f(unsigned long a, unsigned long b) { int s = 0;' "$hard" 14 'return s; }' |
+    hostile 'the greatest weight: 14 tests that no input meets, of four products each'
+sums='if ((a + %d) + (b - %d) != (a ^ b) + (a & b) + (a & b)) s++; '
+text 'int f(unsigned long a, unsigned long b) { int s = 0;' "$sums" 320 'return s; }' |
+    hostile 'the greatest weight: 320 tests that no input meets, of sums'
 easy='if (a + %d < b) s++; '
 text 'int f(int a, int b) { int s = 0;' "$easy" 1000 'return s; }' | hostile '1,000 tests of sums'
 text 'int f(int a, int b) { int s = 0;' "s ^= a / (b + %d); if (b == -%d) s++; " 160 'return s; }' |
