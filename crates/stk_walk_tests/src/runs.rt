@@ -12,8 +12,7 @@ use stk_findings::SearchedFunction;
 use stk_first_maps::{CHOICES, is_valid, map_of_choice, words_of};
 use stk_function_env::KeyInfo;
 use stk_meaning::Entry;
-use stk_numbers::{IntKind, fits, width};
-use stk_operators::Word;
+use stk_numbers::{IntKind, fits, width, wrap};
 use stk_path_runs::path_run;
 use stk_terms::Residues;
 
@@ -22,7 +21,7 @@ use stk_terms::Residues;
 pub(crate) enum Maps {
     /// Those of the numbers below 2 to so many bits, which are given to the keys, the lowest ones to the first key.
     Numbered(u32),
-    /// Those of a text: numbers for the keys in order, with a comma between maps, each converted to the kind of its key.
+    /// Those of a text: numbers for the keys in order, with a comma between maps.
     Listed(&'static str),
     /// So many of the first maps of the search for findings.
     First(usize),
@@ -73,27 +72,18 @@ fn residues_of(alloc: Global, keys: &[KeyInfo], numbers: &[i128]) -> Result<Resi
     })
 }
 
-// The numbers of words.
-fn numbers_of(alloc: Global, words: &[Word]) -> Result<Vec<i128>, NoMemory> {
-    let mut numbers = Vec::new(alloc);
-    for word in words {
-        numbers.push(word.number())?;
-    }
-    Ok(numbers)
-}
-
 // The numbers that a number gives to keys.
 fn numbered(alloc: Global, keys: &[KeyInfo], number: u32) -> Result<Vec<i128>, NoMemory> {
     let mut numbers = Vec::new(alloc);
     let mut left = number;
     for info in keys {
-        numbers.push(i128::from(left))?;
+        numbers.push(wrap(info.kind, i128::from(left)))?;
         left = left.checked_shr(u32::from(width(info.kind))).unwrap_or(0);
     }
     Ok(numbers)
 }
 
-/// The path run of these numbers, each converted to the kind of its key.
+/// The path run of these numbers.
 pub(crate) fn run_under(
     alloc: Global,
     searched: &SearchedFunction,
@@ -105,10 +95,9 @@ pub(crate) fn run_under(
     let words = words_of(alloc, keys, numbers)?;
     let trace = path_run(alloc, searched.tables, searched.function, words.as_slice())?;
     let valid = is_valid(alloc, searched.tables, words.as_slice())?;
-    let numbers = numbers_of(alloc, words.as_slice())?;
-    let residues = residues_of(alloc, keys, numbers.as_slice())?;
+    let residues = residues_of(alloc, keys, numbers)?;
     Ok(Run {
-        numbers,
+        numbers: Vec::from_slice(alloc, numbers)?,
         residues,
         valid,
         trace,
