@@ -195,14 +195,15 @@ def tested(tests, assignments, sums):
     return function(BYTES, 'int z = x;', parts, 'return z;')
 
 FUNCTIONS = [
-    ('10,000 nodes', 20, False, mixed(500)),
-    ('20,000 nodes', 20, False, mixed(990)),
-    ('1,000 reads of a kept object', 20, False, reads(1000)),
-    ('2,000 reads of a kept object', 20, False, reads(2000)),
-    ('500 candidates', 2, True, tested(166, 3800, 250)),
-    ('1,000 candidates', 2, True, tested(333, 3600, 350)),
-    ('2,000 candidates', 2, True, tested(666, 2900, 500)),
+    ('10,000 nodes', False, mixed(500)),
+    ('20,000 nodes', False, mixed(990)),
+    ('1,000 reads of a kept object', False, reads(1000)),
+    ('2,000 reads of a kept object', False, reads(2000)),
+    ('500 candidates', True, tested(166, 3800, 250)),
+    ('1,000 candidates', True, tested(333, 3600, 350)),
+    ('2,000 candidates', True, tested(666, 2900, 500)),
 ]
+WALKS, GOALS = 50, 4
 
 # the processor seconds of the program with these words, and what it writes
 def run(words, text):
@@ -211,17 +212,17 @@ def run(words, text):
     return resource.getrusage(resource.RUSAGE_CHILDREN).ru_utime - before, said
 
 program = sys.argv[1]
-for name, times, goals, text in FUNCTIONS:
+for name, goals, text in FUNCTIONS:
     read, _ = run([program, '0'], text)
-    walked, said = run([program, str(times)], text)
+    walked, said = run([program, str(WALKS)], text)
     nodes, bits, candidates, _, _ = map(int, said)
-    walk = max((walked - read) / times, 1e-6)
+    walk = max((walked - read) / WALKS, 1e-6)
     row = f'{name}: {nodes} nodes, {bits} input bits, {candidates} candidates; a walk {walk:.4f} s'
     row += f', {nodes / walk / 1e6:.2f} million nodes a second'
     if goals:
-        made, said = run([program, str(times), 'goals'], text)
+        made, said = run([program, str(GOALS), 'goals'], text)
         first, terms = map(int, said[3:])
-        row += f'; {2 * candidates} goals {(made - walked) / times:.4f} s, from {first} to {terms} terms'
+        row += f'; {2 * candidates} goals {(made - read) / GOALS - walk:.4f} s, from {first} to {terms} terms'
     print(row)
 END
 python3 functions.py "$program"
