@@ -1,5 +1,5 @@
 -- Maps whose numbers are in the ranges of their keys have each key.
-use Rattle.std.proofs.Common.{◌≡◌, ℕ, zero, suc, ◌<◌, true, List, [], ◌∷◌, length, map, get_or, slice_get, Some, IsTrue, ℤ, pos, sym, subst, arith}
+use Rattle.std.proofs.Common.{◌≡◌, ℕ, zero, suc, ◌<◌, true, List, [], ◌∷◌, length, map, get_or, slice_get, Some, IsTrue, ℤ, pos, subst, arith}
 use Rattle.std.proofs.lemmas.Option.{none-some, same_Some}
 use Rattle.stk_ctype.specs.declared.kind.IntKind.{IntKind}
 use Rattle.stk_numbers.specs.Kinds.{fits}
@@ -11,5 +11,5 @@ there [] xs key k h found = absurd (none-some k found)
 there (c ∷ ks) [] key k h found = absurd h
 there (c ∷ ks) (x ∷ xs) zero k h found =
     let same : c.kind ≡ k = same_Some c.kind k found in
-    (omega arith, subst (λ (b : IntKind). IsTrue (fits b x)) same (subst IsTrue (sym h.0) tt))
+    (omega arith, subst (λ (b : IntKind). IsTrue (fits b x)) same h.0)
 there (c ∷ ks) (x ∷ xs) (suc n) k h found = let r = there ks xs n k h.1 found in (omega (arith, r.0), r.1)

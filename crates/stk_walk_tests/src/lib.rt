@@ -14,6 +14,8 @@ mod goal_values;
 #[cfg(test)]
 mod large;
 #[cfg(test)]
+mod last_rows;
+#[cfg(test)]
 mod memory_rows;
 #[cfg(test)]
 mod more_rows;

@@ -2,11 +2,10 @@
 
 use crate::comparing::{Outcome, compared};
 use crate::memory_rows::MEMORY;
-use crate::more_rows::{LAST_FUNCTIONS, SECOND_FUNCTIONS, THIRD_FUNCTIONS};
 use crate::narrow_rows::NARROW;
-use crate::rows::{FIRST_FUNCTIONS, Row, WORKED};
+use crate::rows::{Row, WORKED};
 use crate::runs::Maps;
-use crate::{memory_rows, rows};
+use crate::{last_rows, memory_rows, more_rows, rows};
 use std::alloc::Global;
 use std::process::Abort;
 use std::test::Fail;
@@ -60,23 +59,165 @@ fn are_same(
 }
 
 #[test]
-fn functions_are_walked_as_they_run(rt: HostRuntime) -> Result<(), Fail> {
-    are_same(&rt, rt.alloc(), rows::FIRST, &FIRST_FUNCTIONS, false)
+fn first_functions_are_walked_as_they_run(rt: HostRuntime) -> Result<(), Fail> {
+    are_same(&rt, rt.alloc(), rows::FIRST, &rows::FIRST_FUNCTIONS, false)
 }
 
 #[test]
-fn more_functions_are_walked_as_they_run(rt: HostRuntime) -> Result<(), Fail> {
-    are_same(&rt, rt.alloc(), rows::FIRST, &SECOND_FUNCTIONS, false)
+fn second_functions_are_walked_as_they_run(rt: HostRuntime) -> Result<(), Fail> {
+    are_same(&rt, rt.alloc(), rows::FIRST, &rows::SECOND_FUNCTIONS, false)
 }
 
 #[test]
-fn further_functions_are_walked_as_they_run(rt: HostRuntime) -> Result<(), Fail> {
-    are_same(&rt, rt.alloc(), rows::FIRST, &THIRD_FUNCTIONS, false)
+fn third_functions_are_walked_as_they_run(rt: HostRuntime) -> Result<(), Fail> {
+    are_same(&rt, rt.alloc(), rows::FIRST, &rows::THIRD_FUNCTIONS, false)
 }
 
 #[test]
-fn the_last_functions_are_walked_as_they_run(rt: HostRuntime) -> Result<(), Fail> {
-    are_same(&rt, rt.alloc(), rows::FIRST, &LAST_FUNCTIONS, false)
+fn fourth_functions_are_walked_as_they_run(rt: HostRuntime) -> Result<(), Fail> {
+    are_same(&rt, rt.alloc(), rows::FIRST, &rows::FOURTH_FUNCTIONS, false)
+}
+
+#[test]
+fn fifth_functions_are_walked_as_they_run(rt: HostRuntime) -> Result<(), Fail> {
+    are_same(&rt, rt.alloc(), rows::FIRST, &rows::FIFTH_FUNCTIONS, false)
+}
+
+#[test]
+fn sixth_functions_are_walked_as_they_run(rt: HostRuntime) -> Result<(), Fail> {
+    are_same(&rt, rt.alloc(), rows::FIRST, &rows::SIXTH_FUNCTIONS, false)
+}
+
+#[test]
+fn seventh_functions_are_walked_as_they_run(rt: HostRuntime) -> Result<(), Fail> {
+    are_same(
+        &rt,
+        rt.alloc(),
+        rows::FIRST,
+        &more_rows::SEVENTH_FUNCTIONS,
+        false,
+    )
+}
+
+#[test]
+fn eighth_functions_are_walked_as_they_run(rt: HostRuntime) -> Result<(), Fail> {
+    are_same(
+        &rt,
+        rt.alloc(),
+        rows::FIRST,
+        &more_rows::EIGHTH_FUNCTIONS,
+        false,
+    )
+}
+
+#[test]
+fn ninth_functions_are_walked_as_they_run(rt: HostRuntime) -> Result<(), Fail> {
+    are_same(
+        &rt,
+        rt.alloc(),
+        rows::FIRST,
+        &more_rows::NINTH_FUNCTIONS,
+        false,
+    )
+}
+
+#[test]
+fn tenth_functions_are_walked_as_they_run(rt: HostRuntime) -> Result<(), Fail> {
+    are_same(
+        &rt,
+        rt.alloc(),
+        rows::FIRST,
+        &more_rows::TENTH_FUNCTIONS,
+        false,
+    )
+}
+
+#[test]
+fn eleventh_functions_are_walked_as_they_run(rt: HostRuntime) -> Result<(), Fail> {
+    are_same(
+        &rt,
+        rt.alloc(),
+        rows::FIRST,
+        &more_rows::ELEVENTH_FUNCTIONS,
+        false,
+    )
+}
+
+#[test]
+fn twelfth_functions_are_walked_as_they_run(rt: HostRuntime) -> Result<(), Fail> {
+    are_same(
+        &rt,
+        rt.alloc(),
+        rows::FIRST,
+        &more_rows::TWELFTH_FUNCTIONS,
+        false,
+    )
+}
+
+#[test]
+fn thirteenth_functions_are_walked_as_they_run(rt: HostRuntime) -> Result<(), Fail> {
+    are_same(
+        &rt,
+        rt.alloc(),
+        rows::FIRST,
+        &last_rows::THIRTEENTH_FUNCTIONS,
+        false,
+    )
+}
+
+#[test]
+fn fourteenth_functions_are_walked_as_they_run(rt: HostRuntime) -> Result<(), Fail> {
+    are_same(
+        &rt,
+        rt.alloc(),
+        rows::FIRST,
+        &last_rows::FOURTEENTH_FUNCTIONS,
+        false,
+    )
+}
+
+#[test]
+fn fifteenth_functions_are_walked_as_they_run(rt: HostRuntime) -> Result<(), Fail> {
+    are_same(
+        &rt,
+        rt.alloc(),
+        rows::FIRST,
+        &last_rows::FIFTEENTH_FUNCTIONS,
+        false,
+    )
+}
+
+#[test]
+fn sixteenth_functions_are_walked_as_they_run(rt: HostRuntime) -> Result<(), Fail> {
+    are_same(
+        &rt,
+        rt.alloc(),
+        rows::FIRST,
+        &last_rows::SIXTEENTH_FUNCTIONS,
+        false,
+    )
+}
+
+#[test]
+fn seventeenth_functions_are_walked_as_they_run(rt: HostRuntime) -> Result<(), Fail> {
+    are_same(
+        &rt,
+        rt.alloc(),
+        rows::FIRST,
+        &last_rows::SEVENTEENTH_FUNCTIONS,
+        false,
+    )
+}
+
+#[test]
+fn eighteenth_functions_are_walked_as_they_run(rt: HostRuntime) -> Result<(), Fail> {
+    are_same(
+        &rt,
+        rt.alloc(),
+        rows::FIRST,
+        &last_rows::EIGHTEENTH_FUNCTIONS,
+        false,
+    )
 }
 
 #[test]
