@@ -41,4 +41,4 @@ visit_function-requires-clause-light g c =
     let d : IsDefinition (view_unit p.types.unit) f = subst (λ (t : TypedUnit). IsDefinition (view_unit t.unit) f) (sym made.types) c.requires.is in
     let few : unit_nodes (view_unit p.types.unit) ≤ 20000 = subst (λ (t : TypedUnit). unit_nodes (view_unit t.unit) ≤ 20000) (sym made.types) c.requires.few in
     let same : c.in_ok-weight.weight ≡ weight (typing_in p.types) p.without f = c.in_ok-weight.ensures.exact few ∙ ap (unit_weight (typing_in p.types) p.without) d.1 in
-    omega (arith, sym same, c.if-weight-gt.false)
+    omega (arith, sym same, c.if-weight-gt-MOST_WEIGHT.false)
