@@ -24,13 +24,14 @@ use stk_query::{Cdcl, Decider, MOST_BUDGET, Verdict};
 use stk_terms::{TermId, Terms, input_bits};
 
 /// Looks at the goal that it is asked, whether it is 1 exactly under the maps of the runs that hit the candidate free of
-/// the set, and decides it where there are few input bits. Else it has no answer.
+/// the set, and decides it where there are few input bits. Else it has no answer. A goal that was refuted before isn't
+/// asked again, and so isn't looked at.
 #[derive(Drop)]
 struct Looking<'a> {
     runs: &'a [Run],
     query: Query<'a>,
     decider: Cdcl,
-    is_right: bool,
+    is_right: Option<bool>,
 }
 
 // Whether a valid map's run hits a candidate free of a set.
@@ -81,7 +82,8 @@ impl<'a> Decider for Looking<'a> {
         ensures rose { IfOk result (λ v. is_undecided v ≡ true → Rose self.old.decider self.new.decider) }
         ensures later { self.old.decider ≤ self.new.decider }
     {
-        self.is_right = is_goal_right(terms, goal, self.runs, &self.query)?;
+        let is_right = is_goal_right(terms, goal, self.runs, &self.query)?;
+        self.is_right = Some(is_right);
         if input_bits(terms) > 16 {
             return Err(NoMemory);
         }
@@ -126,14 +128,14 @@ fn is_query_right(
         runs,
         query: *query,
         decider: Cdcl::new(alloc),
-        is_right: false,
+        is_right: None,
     };
     match goals.ask(&mut looking, query, MOST_BUDGET) {
         Ok(answer) => {
             let right = is_right_answer(alloc, searched, &answer, runs, query)?;
-            Ok(right && looking.is_right)
+            Ok(right && !matches!(looking.is_right, Some(false)))
         }
-        Err(NoMemory) => Ok(looking.is_right),
+        Err(NoMemory) => Ok(matches!(looking.is_right, Some(true))),
     }
 }
 
