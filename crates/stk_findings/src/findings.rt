@@ -25,8 +25,8 @@ use stk_path_runs::{FunctionTables, input_bits};
 use stk_query::{Decider, MOST_BUDGET};
 use stk_tree::Function;
 
-/// A function whose findings are searched for, with at most 8,000,000 of weight: the tables of its path runs, itself, its
-/// candidates in order, and its conditions in ascending order.
+/// A function whose findings are searched for, with at most 8,000,000 of weight: the tables of its path runs, itself,
+/// its candidates in order, and its conditions in ascending order.
 #[derive(Clone, Copy)]
 pub struct SearchedFunction<'a> {
     pub tables: &'a FunctionTables<'a>,

@@ -148,8 +148,8 @@ impl<'a> FunctionGoals<'a> {
     /// `Start` has such a map, `Never` comes only where there is none. `GivenUp` comes only where the function has more
     /// than 16 input bits and the decider counted a goal as given up, with a spent log of this budget over clauses that
     /// stand for the query, with no more variables than the function has input bits and weight. What the decider gave
-    /// up doesn't become less. A goal that was refuted isn't asked for again. After `NoMemory` other queries may be asked
-    /// as before.
+    /// up doesn't become less. A goal that was refuted isn't asked for again. After `NoMemory` other queries may be
+    /// asked as before.
     pub fn ask<D: Decider>(
         &mut self,
         decider: &mut D,

@@ -1,8 +1,6 @@
 // The terms that operators are, by the names of their arguments.
-ghost use Rattle.std.specs.Prelude.{◌≡◌, ◌≤◌, ◌<◌, ◌+◌, ◌++◌, IfOk};
+ghost use Rattle.std.specs.Prelude.{◌≡◌, ◌++◌, IfOk};
 ghost use Rattle.stk_terms.specs.Terms.{nth};
-ghost use Rattle.stk_terms.specs.Fitting.{WidthsFit};
-ghost use Rattle.stk_scripts.specs.Texts.{laid};
 ghost use Rattle.stk_smtlib.specs.Written.{body_text};
 
 use crate::pieces::{

@@ -1,9 +1,7 @@
 // The commands of a script, each in a line.
-ghost use Rattle.std.specs.Prelude.{◌≡◌, ◌<◌, ◌+◌, ◌++◌, ◌∷◌, [], IfOk, codes, decimal, get_or, length, take, false};
-ghost use Rattle.stk_terms.specs.Terms.{Term, StandsAt, term_at};
-ghost use Rattle.stk_terms.specs.Values.{width_at};
-ghost use Rattle.stk_terms.specs.Parts.{is_part};
-ghost use Rattle.stk_scripts.specs.Tokens.{opening, closing, word, sort_tokens, expr_tokens, declared_tokens, defined_tokens, declared_commands, defined_commands, assert_tokens};
+ghost use Rattle.std.specs.Prelude.{◌≡◌, ◌<◌, ◌+◌, ◌++◌, ◌∷◌, [], IfOk, codes, length, take};
+ghost use Rattle.stk_terms.specs.Terms.{term_at};
+ghost use Rattle.stk_scripts.specs.Tokens.{sort_tokens, declared_tokens, defined_tokens, declared_commands, defined_commands, assert_tokens};
 ghost use Rattle.stk_scripts.specs.Texts.{laid, lines};
 ghost use Rattle.stk_scripts.specs.Syntax.{literal};
 ghost use Rattle.stk_scripts.specs.declared.operators.TestOp.TheVariants as tests;

@@ -15,9 +15,9 @@ use stk_terms::{TermId, Terms};
 
 /// The SMT-LIB script of a goal of width 1: the logic QF_BV, a declaration of each input, a definition of each term on
 /// which the goal depends, in ascending order, the assertion that the goal is 1, and `check-sat`, each in a line
-/// (SMT-LIB 2.6, sections 3.9 and 4.2). Input K is called `kK`, the term at a place J `tJ`. The text is of the subset that
-/// is read, and denotes exactly the residues for which the goal is 1. It takes time linear in the terms up to the goal.
-/// The only refusal is want of memory.
+/// (SMT-LIB 2.6, sections 3.9 and 4.2). Input K is called `kK`, the term at a place J `tJ`. The text is of the subset
+/// that is read, and denotes exactly the residues for which the goal is 1. It takes time linear in the terms up to the
+/// goal. The only refusal is want of memory.
 pub fn script(alloc: Global, terms: &Terms, goal: TermId) -> Result<Vec<u8>, NoMemory>
     requires exists { goal.0 < length terms.now.terms }
     requires one { width_at terms.now goal.0 ≡ 1 }

@@ -25,8 +25,8 @@ use stk_terms::{Residues, TermId, Terms};
 use stk_values::{Numbers, Step, Walked};
 
 /// How many functions were walked, and under how many maps; under how many of them the walk over numbers says what the
-/// path run does, and the walk over terms what the walk over numbers says. How many goals there are, and how many of them
-/// are right; and how often a goal is to be 1 under a map.
+/// path run does, and the walk over terms what the walk over numbers says. How many goals there are, and how many of
+/// them are right; and how often a goal is to be 1 under a map.
 #[derive(Clone, Copy, Debug, PartialEq, Eq)]
 pub(crate) struct Outcome {
     pub(crate) functions: u32,

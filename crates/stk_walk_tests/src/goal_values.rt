@@ -23,9 +23,9 @@ use stk_goals::{FunctionGoals, Query, QueryAnswer};
 use stk_query::{Cdcl, Decider, MOST_BUDGET, Verdict};
 use stk_terms::{TermId, Terms, input_bits};
 
-/// Looks at the goal that it is asked, whether it is 1 exactly under the maps of the runs that hit the candidate free of
-/// the set, and decides it where there are few input bits. Else it has no answer. A goal that was refuted before isn't
-/// asked again, and so isn't looked at.
+/// Looks at the goal that it is asked, whether it is 1 exactly under the maps of the runs that hit the candidate free
+/// of the set, and decides it where there are few input bits. Else it has no answer. A goal that was refuted before
+/// isn't asked again, and so isn't looked at.
 #[derive(Drop)]
 struct Looking<'a> {
     runs: &'a [Run],

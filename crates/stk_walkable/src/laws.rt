@@ -2,9 +2,9 @@
 ghost use Rattle.stk_walkable.specs.Searched.{AcceptedFunctionsAreSearched, KeysAreThere, TypedFunctionsAreSearched};
 
 /// A function is searched where its tree is typed and kinded, numbers have the bits of their types, the tables are its
-/// own and know its loops, and it has at most 8,000,000 of weight: then the tables are to be walked, each candidate has a
-/// place of 32 bits, there are no more input bits than weight, and its walk may cost no more than its weight less 16 for
-/// each node.
+/// own and know its loops, and it has at most 8,000,000 of weight: then the tables are to be walked, each candidate has
+/// a place of 32 bits, there are no more input bits than weight, and its walk may cost no more than its weight less 16
+/// for each node.
 pub fn typed_functions_are_searched()
     ensures { TypedFunctionsAreSearched }
 {}

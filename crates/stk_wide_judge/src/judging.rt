@@ -80,9 +80,9 @@ fn by_guesses<Q: Questions, D: Decider>(
 /// condition to the least. Where a known start hits the candidate free of all conditions, nothing is asked. Else the
 /// set is guessed from the known starts, and one query says whether the guess is right; a start that refutes it joins
 /// the known ones, up to 32 times, and the fourth query asks for one that is free of all conditions. Where that doesn't
-/// lead to a finding, the queries of the definition are asked that no known start answers. Queries that the finding says
-/// were given up are at most as many as those that were counted as given up, or the count stands at its last value. The
-/// only refusal is want of memory, after which nothing is known.
+/// lead to a finding, the queries of the definition are asked that no known start answers. Queries that the finding
+/// says were given up are at most as many as those that were counted as given up, or the count stands at its last
+/// value. The only refusal is want of memory, after which nothing is known.
 pub fn judge_candidate<Q: Questions, D: Decider>(
     function: &JudgedFunction,
     questions: &mut Q,

@@ -20,12 +20,12 @@ use stk_judge::Row;
 use stk_meaning::{Finding, Need};
 use stk_query::Decider;
 
-/// What a guess leads to.
+/// What the question of a round leads to.
 #[derive(Drop)]
 pub(crate) enum Round {
-    /// It is right, or the known starts decide by themselves.
+    /// The guess is right, or the known starts decide by themselves.
     Found(Finding),
-    /// A start that was found refutes it.
+    /// A start that was found refutes the guess, or no start is free of all conditions: there is another round.
     Refuted,
     /// Its query was given up, or no further start is kept.
     Stopped,
