@@ -1,7 +1,7 @@
 -- The exit status of each way to end.
 use Rattle.std.specs.Prelude.{ℕ}
 use Rattle.stk_base.specs.declared.status.Status.{Status}
-use Rattle.stk_base.specs.declared.status.Status.TheVariants.{Stable, Found, Unsure, BadWords, ReadFault, WriteFault, TooLarge, NoMemory}
+use Rattle.stk_base.specs.declared.status.Status.TheVariants.{Stable, Found, Unsure, BadWords, ReadFault, WriteFault, TooLarge, NoMemory, NoCandidate}
 
 -- the exit status of the process
 abbrev pub code_of : Status → ℕ
@@ -13,3 +13,4 @@ code_of ReadFault = 4
 code_of WriteFault = 5
 code_of TooLarge = 6
 code_of NoMemory = 7
+code_of NoCandidate = 8

@@ -20,10 +20,12 @@ pub enum Status {
     TooLarge,
     /// Memory ran out.
     NoMemory,
+    /// There are fewer candidates than the words of the command line count.
+    NoCandidate,
 }
 
 impl Status {
-    /// The exit status of the process, from 0 to 7 in the order of the variants.
+    /// The exit status of the process, from 0 to 8 in the order of the variants.
     pub fn code(self) -> u8
         ensures { result ≡ code_of self }
     {
@@ -36,6 +38,7 @@ impl Status {
             Status::WriteFault => 5,
             Status::TooLarge => 6,
             Status::NoMemory => 7,
+            Status::NoCandidate => 8,
         }
     }
 }

@@ -1,5 +1,5 @@
 -- Findings of a function whose maps are all tried: they are lawful where queries may be given up too, and have no mark.
-use Rattle.std.proofs.Common.{◌≡◌, ℕ, ◌≤◌, true, List, [], ◌∷◌, Result, Ok, Err, IfOk, refl, sym, subst, ◌∙◌, arith}
+use Rattle.std.proofs.Common.{◌≡◌, ℕ, ◌≤◌, true, List, [], Result, Ok, Err, IfOk, refl, sym, subst, ◌∙◌, arith}
 use Rattle.std.proofs.lemmas.Bool.{false≢true, le-leb}
 use Rattle.stk_tree.specs.Syntax.{FunctionTree}
 use Rattle.stk_numbers.specs.declared.conditions.Candidate.{Candidate}
@@ -11,10 +11,10 @@ use Rattle.stk_meaning.specs.declared.finding.Finding.{Finding}
 use Rattle.stk_meaning.specs.declared.finding.Finding.TheVariants.{Clear, Unstable, Undecided}
 use Rattle.stk_meaning.specs.declared.finding.Need.{Need}
 use Rattle.stk_meaning.specs.declared.finding.Phase.TheVariants.{Free, Hit}
-use Rattle.stk_meaning.specs.Findings.{Subject, IsGivenUp, IsMinimal, no_more, member, open_member, no_member, IsLawful, AreLawful}
+use Rattle.stk_meaning.specs.Findings.{Subject, IsGivenUp, IsMinimal, no_more, member, open_member, no_member, IsLawful}
 use Rattle.stk_judge.specs.PathSubjects.{path_subject}
 use Rattle.stk_judge.proofs.Agreeing.{Agrees, lawful}
-use Rattle.stk_spent_queries.specs.Marks.{open_count, marks, all_marks, AreCounted}
+use Rattle.stk_spent_queries.specs.Marks.{open_count, marks, AreCounted}
 use Rattle.stk_spent_queries.proofs.Counting.{counted_none}
 use Rattle.stk_findings.specs.Searched.{searched_subject}
 
@@ -32,11 +32,8 @@ module _ (ty : Typing) (without : Kinds) (f : FunctionTree) (budget : ℕ) (few 
     spent = λ c set h. absurd h;
   }
 
-  pub narrow_findings : (cs : List Candidate) (xs : List Finding) → AreLawful (path_subject ty without f) cs xs → AreLawful (searched_subject ty without f budget) cs xs
-  narrow_findings [] [] h = tt
-  narrow_findings [] (x ∷ xs) h = absurd h
-  narrow_findings (c ∷ cs) [] h = absurd h
-  narrow_findings (c ∷ cs) (x ∷ xs) h = (lawful (path_subject ty without f) (searched_subject ty without f budget) agrees c (λ set u never. tt) x h.0, narrow_findings cs xs h.1)
+  pub narrow_finding : (c : Candidate) (x : Finding) → IsLawful (path_subject ty without f) c x → IsLawful (searched_subject ty without f budget) c x
+  narrow_finding c x h = lawful (path_subject ty without f) (searched_subject ty without f budget) agrees c (λ set u never. tt) x h
 
 -- ---- no mark
 
@@ -56,17 +53,11 @@ module _ (q : Subject) (all : q.tries_all ≡ true) where
   none_marked c (Undecided Free) h = absurd (none_given_up c q.conditions h)
   none_marked c (Undecided Hit) h = absurd (none_given_up c [] h.given_up)
 
-  pub no_marks : (cs : List Candidate) (xs : List Finding) → AreLawful q cs xs → all_marks xs ≡ 0
-  no_marks [] [] h = refl
-  no_marks [] (x ∷ xs) h = absurd h
-  no_marks (c ∷ cs) [] h = absurd h
-  no_marks (c ∷ cs) (x ∷ xs) h = omega (arith, none_marked c x h.0, no_marks cs xs h.1)
+  -- no mark is told by any count
+  pub uncounted : (n : ℕ) (c : Candidate) (x : Finding) → IsLawful q c x → AreCounted n n (marks x)
+  uncounted n c x h = subst (AreCounted n n) (sym (none_marked c x h)) (counted_none n n (omega arith))
 
 -- what is known of a value is known of it otherwise
 pub weaker : {A E : Type 0} (r : Result A E) (P Q : A → Type 0) → ((x : A) → P x → Q x) → IfOk r P → IfOk r Q
 weaker (Ok x) P Q k h = k x h
 weaker (Err e) P Q k h = tt
-
--- no mark is told by any count
-pub uncounted : (n : ℕ) (xs : List Finding) → all_marks xs ≡ 0 → AreCounted n n (all_marks xs)
-uncounted n xs e = subst (AreCounted n n) (sym e) (counted_none n n (omega arith))

@@ -1,2 +1,3 @@
 pub mod Searched
 pub mod Answering
+pub mod Telling

@@ -1,8 +1,11 @@
-//! The findings of a function, whatever the number of its input bits.
+//! The findings of a function, one candidate after the other, whatever the number of its input bits.
 #![tactic(auto)]
 
-mod findings;
+mod by_maps;
+mod judge;
+mod queries;
 mod questions;
-mod wide;
 
-pub use findings::{SearchedFunction, findings_of};
+pub use by_maps::all_maps;
+pub use judge::{Judge, SearchedFunction};
+pub use queries::Queries;

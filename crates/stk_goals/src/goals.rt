@@ -23,10 +23,9 @@ use stk_function_walk::walk_function;
 use stk_numbers::{Candidate, IntKind};
 use stk_path_runs::FunctionTables;
 use stk_query::{Decider, MOST_BUDGET};
-use stk_symbols::Symbols;
+use stk_symbols::{IndexedWalk, Symbols};
 use stk_terms::TermId;
 use stk_tree::Function;
-use stk_values::Walked;
 
 /// The goals of a function's queries: a store of terms whose inputs are the function's keys, and the walk of the
 /// function over it. A goal is made as its query is asked; all of them share the terms of the walk.
@@ -39,7 +38,7 @@ pub struct FunctionGoals<'a> {
     function: &'a Function,
     kinds: Vec<IntKind>,
     symbols: Symbols,
-    walked: Walked<TermId>,
+    walk: IndexedWalk,
     // the places of goals that no inputs make 1
     nevers: Vec<usize>,
 }
@@ -75,7 +74,7 @@ impl<'a> Model for FunctionGoals<'a> {
 
     ghost view = { λ g. record { tables = g.tables.now; function = g.function.now } };
 
-    ghost invariant = { λ g. AreGoalsIn (record { tables = g.tables.now; function = g.function.now }) g.kinds.items g.symbols g.walked g.nevers.items };
+    ghost invariant = { λ g. AreGoalsIn (record { tables = g.tables.now; function = g.function.now }) g.kinds.items g.symbols g.walk.walked g.nevers.items };
 }
 
 // The kinds of keys.
@@ -94,21 +93,21 @@ fn goal_of(
     tables: &FunctionTables,
     function: &Function,
     symbols: &mut Symbols,
-    walked: &Walked<TermId>,
+    walk: &IndexedWalk,
     query: &Query,
 ) -> Result<TermId, NoMemory>
-    requires goals { AreGoalsOf (typing_in tables.now.places.types) tables.now.places.without (view_function function.now) symbols.old walked.now }
+    requires goals { AreGoalsOf (typing_in tables.now.places.types) tables.now.places.without (view_function function.now) symbols.old walk.now.walked }
     requires at { slice_get (lists.candidates (typing_in tables.now.places.types) (view_function function.now)) query.now.position ≡ Some query.now.candidate }
     ensures goal { IfOk result (λ v. IsGoalOf (typing_in tables.now.places.types) tables.now.places.without (view_function function.now) query.now.candidate query.now.set.now symbols.new.terms v.0) }
     ensures normal { IfOk result (λ v. IsNormal symbols.new.terms v.0) }
     ensures one { IfOk result (λ v. width_at symbols.new.terms v.0 ≡ 1) }
-    ensures goals { AreGoalsOf (typing_in tables.now.places.types) tables.now.places.without (view_function function.now) symbols.new walked.now }
+    ensures goals { AreGoalsOf (typing_in tables.now.places.types) tables.now.places.without (view_function function.now) symbols.new walk.now.walked }
     ensures stays { Keeps symbols.old.terms symbols.new.terms }
 {
     // The contract alone reads the function.
     let _ = tables;
     let _ = function;
-    let term = symbols.goal(walked, query.position, query.set)?;
+    let term = symbols.goal(walk, query.position, query.set)?;
     Ok(term)
 }
 
@@ -130,13 +129,14 @@ impl<'a> FunctionGoals<'a> {
         let kinds = kinds_of(alloc, tables.setting().keys())?;
         let mut symbols = Symbols::new(alloc, kinds.as_slice())?;
         let walked = walk_function(alloc, tables, function, candidates, &mut symbols)?;
+        let walk = IndexedWalk::new(alloc, walked)?;
         Ok(FunctionGoals {
             alloc,
             tables,
             function,
             kinds,
             symbols,
-            walked,
+            walk,
             nevers: Vec::new(alloc),
         })
     }
@@ -168,7 +168,7 @@ impl<'a> FunctionGoals<'a> {
             self.tables,
             self.function,
             &mut self.symbols,
-            &self.walked,
+            &self.walk,
             query,
         )?;
         let goal = Goal {

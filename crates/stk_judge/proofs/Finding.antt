@@ -1,6 +1,5 @@
--- Findings of candidates, one after the other.
-use Rattle.std.proofs.Common.{◌≡◌, ℕ, ◌+◌, ◌<◌, ◌≤◌, ◌^◌, List, [], ◌∷◌, ◌++◌, length, take, get_or, Option, sym, ap, subst, ◌∙◌}
-use Rattle.std.proofs.lemmas.List.{take_more}
+-- Findings of candidates by the table of their function.
+use Rattle.std.proofs.Common.{◌≡◌, ℕ, ◌≤◌, ◌^◌, List, [], length, Option, Result, Ok, Err, IfOk, sym, ap, subst, ◌∙◌}
 use Rattle.stk_tree.specs.Syntax.{FunctionTree}
 use Rattle.stk_ctype.specs.declared.kind.IntKind.{IntKind}
 use Rattle.stk_numbers.specs.declared.conditions.Candidate.{Candidate}
@@ -12,7 +11,7 @@ use Rattle.stk_meaning.specs.Keys.{KeyInfo, keys_of, input_bits}
 use Rattle.stk_meaning.specs.Lists.{conditions}
 use Rattle.stk_judge.specs.InputMaps.{bits_in}
 use Rattle.stk_meaning.specs.declared.finding.Finding.{Finding}
-use Rattle.stk_meaning.specs.Findings.{Subject, IsLawful, AreLawful}
+use Rattle.stk_meaning.specs.Findings.{IsLawful}
 use Rattle.stk_judge.specs.Tables.{Table, Describes}
 use Rattle.stk_judge.specs.Subjects.{subject_of}
 use Rattle.stk_judge.specs.PathSubjects.{path_subject, kinds_of}
@@ -20,18 +19,8 @@ use Rattle.stk_judge.proofs.KeyKinds.{bits}
 use Rattle.stk_judge.proofs.Same.{lawful_paths}
 use Rattle.stk_judge.specs.PathTables.{IsTableOf}
 
-lawful_more : (q : Subject) (cs : List Candidate) (xs : List Finding) (c : Candidate) (x : Finding) → AreLawful q cs xs → IsLawful q c x → AreLawful q (cs ++ c ∷ []) (xs ++ x ∷ [])
-lawful_more q [] [] c x p h = (h, tt)
-lawful_more q [] (y ∷ ys) c x p h = absurd p
-lawful_more q (d ∷ ds) [] c x p h = absurd p
-lawful_more q (d ∷ ds) (y ∷ ys) c x p h = (p.0, lawful_more q ds ys c x p.1 h)
-
--- the finding of one candidate more
-pub one_more : (q : Subject) (list : List Candidate) (i : ℕ) (d : Candidate) (xs new : List Finding) (x : Finding) → i < length list → AreLawful q (take i list) xs → IsLawful q (get_or list i d) x → new ≡ xs ++ x ∷ [] → AreLawful q (take (i + 1) list) new
-one_more q list i d xs new x within h lawful is = rw (take_more list i d within, is) (lawful_more q (take i list) xs (get_or list i d) x h lawful)
-
 -- what is lawful by the table of a function is lawful for the function
-pub lawful_here : (ty : Typing) (without : Kinds) (f : FunctionTree) (ks : List IntKind) (cs : List Condition) (table : Table) (c : Candidate) (x : Finding)
+lawful_here : (ty : Typing) (without : Kinds) (f : FunctionTree) (ks : List IntKind) (cs : List Condition) (table : Table) (c : Candidate) (x : Finding)
     → ks ≡ kinds_of (keys_of ty without f) → bits_in ks ≤ 16 → cs ≡ conditions ty without f → IsTableOf ty without f (2 ^ bits_in ks) table
     → ((runs : List (Option (List Entry))) → Describes runs [] table → length runs ≡ 2 ^ bits_in ks → IsLawful (subject_of ks runs cs) c x)
     → IsLawful (path_subject ty without f) c x
@@ -42,6 +31,14 @@ lawful_here ty without f ks cs table c x kinds few all h found =
     let lawful = found h.runs h.described h.count in
     lawful_paths ty without f h.runs less count h.are c x
     (subst (λ l. IsLawful (subject_of (kinds_of keys) h.runs l) c x) all (subst (λ l. IsLawful (subject_of l h.runs cs) c x) kinds lawful))
+
+-- the same of what may be missing
+pub lawful_found : {E : Type 0} (ty : Typing) (without : Kinds) (f : FunctionTree) (ks : List IntKind) (cs : List Condition) (table : Table) (c : Candidate) (result : Result Finding E)
+    → ks ≡ kinds_of (keys_of ty without f) → bits_in ks ≤ 16 → cs ≡ conditions ty without f → IsTableOf ty without f (2 ^ bits_in ks) table
+    → ((runs : List (Option (List Entry))) → Describes runs [] table → length runs ≡ 2 ^ bits_in ks → IfOk result (IsLawful (subject_of ks runs cs) c))
+    → IfOk result (IsLawful (path_subject ty without f) c)
+lawful_found ty without f ks cs table c (Ok x) kinds few all h found = lawful_here ty without f ks cs table c x kinds few all h found
+lawful_found ty without f ks cs table c (Err e) kinds few all h found = tt
 
 -- the kinds of a function's keys have few bits together
 pub few_bits : (ks : List IntKind) (own keys : List KeyInfo) → ks ≡ kinds_of own → own ≡ keys → input_bits keys ≤ 16 → bits_in ks ≤ 16

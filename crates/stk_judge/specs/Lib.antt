@@ -7,3 +7,4 @@ pub mod Subjects
 pub mod Exhaustive
 pub mod PathSubjects
 pub mod PathTables
+pub mod Tried

@@ -4,7 +4,6 @@
 
 mod condition_ids;
 mod exhaustive;
-mod findings;
 mod first_answers;
 mod hit_table;
 mod input_map_laws;
@@ -13,10 +12,11 @@ mod path_laws;
 mod path_table;
 mod queries;
 mod recording;
+mod tried;
 
 pub use exhaustive::finding_of;
-pub use findings::judge;
 pub use hit_table::{HitTable, Row};
 pub use input_map_laws::maps_by_number;
 pub use input_maps::{map_of, total_bits};
 pub use path_laws::all_path_runs_tell;
+pub use tried::TriedMaps;

@@ -19,50 +19,21 @@ use Rattle.stk_unit_lines.specs.Marks.{lines_marks}
 use Rattle.stk_unit_lines.proofs.Marked.{marks_append}
 use Rattle.stk_unit_lines.proofs.Exists.{lines_of_unit}
 use Rattle.stk_lint.specs.LawfulText.{body_of_piece, status_of, tokens_of_piece, AreUnitsLines, no_unit, then_unit, IsLawfulText}
-use Rattle.stk_lint.specs.Judged.{WroteUnit, WroteUnitPrefix, WroteUnits, WroteUnitsPrefix}
+use Rattle.stk_records.proofs.Written.{nothing_appended, appended_more, prefix_more, prefix_of, written_append, written_none, lines_more}
+use Rattle.stk_unit_lines.specs.Wrote.{WroteUnit, WroteUnitPrefix}
+use Rattle.stk_lint.specs.Judged.{WroteUnits, WroteUnitsPrefix}
 use Rattle.stk_lint.specs.Lint.{AreUnitsOf, TookText, TookPrefix}
 use Rattle.stk_type_laws.specs.Orderly.{AreOrderly}
 use Rattle.stk_type_laws.proofs.Kept.{units_keep_order}
 use Rattle.stk_unit_lines.proofs.Typed.{stays_orderly}
 use Rattle.stk_unit_lines.proofs.Counted.{AreAtMost, unit_most}
-use Rattle.stk_lint.specs.Form.{written_records, written_summary}
-use Rattle.stk_lint.proofs.Units.{piece_some, joined_up, lines_of_units, written_append, written_none}
-
--- ---- what a sink takes
-
-pub nothing_appended : (before : Option (List ℕ)) → Appended before before []
-nothing_appended None = refl
-nothing_appended (Some taken) = ap (λ (u : List ℕ). Some u) (sym (append-nil taken))
-
-pub appended_more : (before middle after : Option (List ℕ)) (a b : List ℕ) → Appended before middle a → Appended middle after b → Appended before after (a ++ b)
-appended_more None middle after a b first second = second ∙ rw first refl
-appended_more (Some taken) middle after a b first second = second ∙ rw first (ap (λ (u : List ℕ). Some u) (append_assoc taken a b))
-
--- a prefix of what comes behind, and something behind that
-pub prefix_more : (before middle after : Option (List ℕ)) (a b rest : List ℕ) → Appended before middle a → AppendedPrefix middle after b → AppendedPrefix before after (a ++ (b ++ rest))
-prefix_more before middle after a b rest first (front, back, same, second) =
-    let whole : a ++ (b ++ rest) ≡ (a ++ front) ++ (back ++ rest) =
-    ap (λ (u : List ℕ). a ++ (u ++ rest)) same ∙ ap (λ (u : List ℕ). a ++ u) (append_assoc front back rest) ∙ sym (append_assoc a front (back ++ rest)) in
-    (a ++ front, back ++ rest, whole, appended_more before middle after a front first second)
-
--- what was taken is a prefix of that and more
-pub prefix_of : (before after : Option (List ℕ)) (a rest : List ℕ) → AppendedPrefix before after a → AppendedPrefix before after (a ++ rest)
-prefix_of before after a rest (front, back, same, taken) = (front, back ++ rest, ap (λ (u : List ℕ). u ++ rest) same ∙ append_assoc front back rest, taken)
+use Rattle.stk_records.specs.Form.{written_records, written_summary}
+use Rattle.stk_lint.proofs.Units.{piece_some, joined_up, lines_of_units}
 
 -- an error has what holds
 pub on_err : {T E : Type 0} (result : Result T E) (W : Type 0) → W → OnErr result W
 on_err (Ok x) W w = tt
 on_err (Err e) W w = w
-
--- what lines print is followed by what others print
-pub lines_more : (o : Options) (before middle after : Option (List ℕ)) (xs ys : List Line) → Appended before middle (written_records o xs) → Appended middle after (written_records o ys) → Appended before after (written_records o (xs ++ ys))
-lines_more o before middle after xs ys first second = subst (Appended before after) (sym (written_append o xs ys)) (appended_more before middle after (written_records o xs) (written_records o ys) first second)
-
--- nothing is a prefix of what may be written of a unit
-pub no_prefix : (bytes : List ℕ) (o : Options) (mark : Bool) (es : List NameEntry) (body : Option ℕ) (tokens : List Token) (before : Option (List ℕ)) → AreOrderly es → 0 < length tokens → WroteUnitPrefix bytes o mark es body tokens before before
-no_prefix bytes o mark es body tokens before orderly some =
-    let unit = lines_of_unit bytes o.without o.budget mark es body orderly tokens some in
-    record { lines = unit.lines; counts = unit.counts; now = unit.now; are = unit.is; written = ([], written_records o unit.lines, refl, nothing_appended before) }
 
 -- ---- counts
 

@@ -1,7 +1,6 @@
 -- The lines of units, one after the other: each unit has lines.
-use Rattle.std.proofs.Common.{◌≡◌, ℕ, ◌-◌, ◌<◌, ◌≤◌, Bool, true, false, if◌then◌else◌, List, [], ◌∷◌, ◌++◌, length, drop, refl, sym, ap, ◌∙◌, append_assoc, arith}
+use Rattle.std.proofs.Common.{◌≡◌, ℕ, ◌-◌, ◌<◌, ◌≤◌, List, [], ◌∷◌, ◌++◌, length, drop, arith}
 use Rattle.std.proofs.lemmas.List.{length-drop, length-take}
-use Rattle.std.specs.Prelude.{is_some}
 use Rattle.stk_ctype.specs.declared.symbol.NameEntry.{NameEntry}
 use Rattle.stk_lex.specs.declared.token.Token.{Token}
 use Rattle.stk_lex.specs.declared.cutting.Piece.{Piece}
@@ -12,7 +11,6 @@ use Rattle.stk_records.specs.Counts.{nothing_counted, counts_sum}
 use Rattle.stk_type_laws.specs.Orderly.{AreOrderly}
 use Rattle.stk_unit_lines.proofs.Exists.{lines_of_unit, left_orderly}
 use Rattle.stk_records.specs.declared.line.Line.{Line}
-use Rattle.stk_lint.specs.Form.{written_line, written_lines, written_records}
 use Rattle.stk_lint.specs.LawfulText.{AreUnitsLines, body_of_piece, no_unit, then_unit, tokens_of_piece}
 
 -- ---- the lines of units
@@ -36,24 +34,3 @@ lines_of_units bytes o tokens es from (p ∷ ps) orderly h =
     let unit = lines_of_unit bytes o.without o.budget p.no_return es (body_of_piece p) orderly (tokens_of_piece tokens p) (piece_some tokens p (omega (arith, h.0, h.1)) (joined_up p.to (length tokens) ps h.3)) in
     let others = lines_of_units bytes o tokens unit.now p.to ps (left_orderly orderly unit) h.3 in
     record { lines = unit.lines ++ others.lines; counts = counts_sum unit.counts others.counts; are = then_unit unit.is others.are }
-
--- what lines print, one list behind the other
-lines_append : (json : Bool) (xs ys : List Line) → written_lines json (xs ++ ys) ≡ written_lines json xs ++ written_lines json ys
-lines_append json [] ys = refl
-lines_append json (x ∷ xs) ys = ap (λ (u : List ℕ). written_line json x ++ u) (lines_append json xs ys) ∙ sym (append_assoc (written_line json x) (written_lines json xs) (written_lines json ys))
-
--- what is written of lines
-left_out : (b : Bool) (xs ys : List ℕ) → (if b then [] else (xs ++ ys)) ≡ (if b then [] else xs) ++ (if b then [] else ys)
-left_out true xs ys = refl
-left_out false xs ys = refl
-
-pub written_append : (o : Options) (xs ys : List Line) → written_records o (xs ++ ys) ≡ written_records o xs ++ written_records o ys
-written_append o xs ys = ap (λ (u : List ℕ). if is_some o.generate then [] else u) (lines_append o.json xs ys) ∙ left_out (is_some o.generate) (written_lines o.json xs) (written_lines o.json ys)
-
--- of no lines
-none_by : (b : Bool) (xs : List ℕ) → xs ≡ [] → (if b then [] else xs) ≡ []
-none_by true xs e = refl
-none_by false xs e = e
-
-pub written_none : (o : Options) → written_records o [] ≡ []
-written_none o = none_by (is_some o.generate) [] refl

@@ -1,32 +1,15 @@
 -- What a sink takes of units.
-use Rattle.std.specs.Prelude.{ℕ, Bool, List, [], Option}
+use Rattle.std.specs.Prelude.{ℕ, List, [], Option}
 use Rattle.stk_lex.specs.declared.token.Token.{Token}
 use Rattle.stk_lex.specs.declared.cutting.Piece.{Piece}
 use Rattle.stk_base.specs.Streams.{Appended, AppendedPrefix}
-use Rattle.stk_ctype.specs.declared.symbol.NameEntry.{NameEntry}
 use Rattle.stk_records.specs.declared.options.Options.{Options}
 use Rattle.stk_records.specs.declared.counts.Counts.{Counts}
 use Rattle.stk_records.specs.declared.line.Line.{Line}
 use Rattle.stk_spent_queries.specs.Marks.{AreCounted}
-use Rattle.stk_unit_lines.specs.UnitLines.{IsUnitLines}
 use Rattle.stk_unit_lines.specs.Marks.{lines_marks}
-use Rattle.stk_lint.specs.Form.{written_records}
+use Rattle.stk_records.specs.Form.{written_records}
 use Rattle.stk_lint.specs.LawfulText.{AreUnitsLines}
-
--- a sink took the lines of a unit, which leaves these names, and a count of what was given up tells of their marks
-pub record WroteUnit (bytes : List ℕ) (o : Options) (mark : Bool) (es : List NameEntry) (body : Option ℕ) (tokens : List Token) (before after : Option (List ℕ)) (first last : ℕ) (counts : Counts) (now : List NameEntry) : Type 0 where
-  pub lines : List Line
-  pub are : IsUnitLines bytes o.without o.budget mark es body tokens lines counts now
-  pub written : Appended before after (written_records o lines)
-  pub counted : AreCounted first last (lines_marks lines)
-
--- a sink took some prefix of what may be written of a unit
-pub record WroteUnitPrefix (bytes : List ℕ) (o : Options) (mark : Bool) (es : List NameEntry) (body : Option ℕ) (tokens : List Token) (before after : Option (List ℕ)) : Type 0 where
-  pub lines : List Line
-  pub counts : Counts
-  pub now : List NameEntry
-  pub are : IsUnitLines bytes o.without o.budget mark es body tokens lines counts now
-  pub written : AppendedPrefix before after (written_records o lines)
 
 -- a sink took the lines of units
 pub record WroteUnits (bytes : List ℕ) (o : Options) (tokens : List Token) (pieces : List Piece) (before after : Option (List ℕ)) (first last : ℕ) (counts : Counts) : Type 0 where

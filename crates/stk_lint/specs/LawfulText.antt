@@ -16,7 +16,7 @@ use Rattle.stk_records.specs.declared.line.Line.{Line}
 use Rattle.stk_records.specs.Counts.{nothing_counted, counts_sum}
 use Rattle.stk_unit_lines.specs.UnitLines.{IsUnitLines}
 use Rattle.stk_unit_lines.specs.Marks.{lines_marks}
-use Rattle.stk_lint.specs.Form.{written_records, written_summary}
+use Rattle.stk_records.specs.Form.{written_records, written_summary}
 
 -- the status where so many candidates are unstable, and so many undecided
 abbrev pub status_of : ℕ → ℕ → Status

@@ -1,4 +1,3 @@
-pub mod Form
 pub mod LawfulText
 pub mod Judged
 pub mod Lint

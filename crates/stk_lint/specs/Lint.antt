@@ -1,7 +1,7 @@
 -- What the top call does: how it ends, what it wrote, and what it tells of a failure.
 use Rattle.std.specs.Prelude.{◌≡◌, ℕ, ◌≤◌, List, [], length, Option, None, Some, Result, Ok, Err, codes}
 use Rattle.stk_base.specs.declared.status.Status.{Status}
-use Rattle.stk_base.specs.declared.status.Status.TheVariants.{Stable, Found, Unsure, BadWords, ReadFault, WriteFault, TooLarge, NoMemory}
+use Rattle.stk_base.specs.declared.status.Status.TheVariants.{Stable, Found, Unsure, BadWords, ReadFault, WriteFault, TooLarge, NoMemory, NoCandidate}
 use Rattle.stk_base.specs.Streams.{Appended, AppendedPrefix, IsFlushed}
 use Rattle.stk_lex.specs.declared.token.Token.{Token}
 use Rattle.stk_lex.specs.Cut.{IsCut, AreSpans}
@@ -11,8 +11,8 @@ use Rattle.stk_lex.specs.Skimming.{kept_tokens, notes_of, ArePositions}
 use Rattle.stk_lex.specs.Units.{units_of}
 use Rattle.stk_records.specs.declared.options.Options.{Options}
 use Rattle.stk_records.specs.Words.{AreLegal}
-use Rattle.stk_lint.specs.declared.lint.Stop.{Stop}
-use Rattle.stk_lint.specs.declared.lint.Stop.TheVariants as stops
+use Rattle.stk_records.specs.declared.writing.Stop.{Stop}
+use Rattle.stk_records.specs.declared.writing.Stop.TheVariants as stops
 use Rattle.stk_spent_queries.specs.Marks.{AreCounted}
 use Rattle.stk_gen.specs.Generated.{source_of}
 use Rattle.stk_lint.specs.LawfulText.{IsLawfulText}
@@ -41,6 +41,7 @@ fault_line ReadFault = codes "stack: the input cannot be read\n"
 fault_line WriteFault = codes "stack: the output cannot be written\n"
 fault_line TooLarge = codes "stack: the input is larger than 16777216 bytes\n"
 fault_line NoMemory = codes "stack: no memory\n"
+fault_line NoCandidate = codes "stack: no such candidate\n"
 
 -- these words on the command line are legal
 pub record IsLegal (words : List (List ℕ)) : Type 0 where
@@ -59,8 +60,9 @@ abbrev pub IsInput : Option (ℕ × ℕ) → Option (List ℕ) → Option (List 
 IsInput None before after bytes = (left : List ℕ) → before ≡ Some left → (bytes ≡ left) × (after ≡ Some [])
 IsInput (Some asked) before after bytes = (bytes ≡ source_of asked.0 asked.1) × (after ≡ before)
 
--- The bytes were gathered, and the sink took a text that is lawful for them and the options that the words ask for, with
--- this status, and was flushed. A count of goals that were given up tells of what its lines say is undecided or open.
+-- The bytes were gathered, and the sink took a text that is lawful for them and the options that the words ask for,
+-- with this status, and was flushed. A count of goals that were given up tells of what its lines say is undecided or
+-- open.
 pub record HasWritten (words : List (List ℕ)) (left_before left_after taken_before taken_after : Option (List ℕ)) (flushed given_before given_after : ℕ) (status : Status) : Type 0 where
   pub options : Options
   pub legal : AreLegal words options

@@ -3,7 +3,6 @@
 
 mod lint;
 mod run;
-mod writing;
 
 pub use lint::lint_main;
 pub use run::run_checker;

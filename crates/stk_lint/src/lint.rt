@@ -3,26 +3,22 @@
 ghost use Rattle.std.specs.Prelude.{◌≡◌, ◌↔◌, ◌⊎◌, ◌≤◌, ◌<◌, ℕ, List, length, map, None, Some, Err, IfOk, IfSome, IsErrOf, OnOk, OnErr, vec_len};
 ghost use Rattle.std.specs.String.{string_bytes};
 ghost use Rattle.stk_base.specs.Limits.{most_bytes};
-ghost use Rattle.stk_base.specs.Causes.{Rose, HasCause};
+ghost use Rattle.stk_base.specs.Causes.{Rose};
 ghost use Rattle.stk_base.specs.Streams.{Came, Appended, AppendedPrefix, IsFlushed};
 ghost use Rattle.stk_lex.specs.Units.{AreJoined};
-ghost use Rattle.stk_type_laws.specs.Orderly.{AreOrderly};
-ghost use Rattle.stk_lint.specs.Form.{written_summary};
+ghost use Rattle.stk_records.specs.Form.{written_summary};
 ghost use Rattle.stk_lint.specs.LawfulText.{body_of_piece, status_of, tokens_of_piece};
-ghost use Rattle.stk_lint.specs.Judged.{WroteUnit, WroteUnitPrefix, WroteUnits, WroteUnitsPrefix};
+ghost use Rattle.stk_lint.specs.Judged.{WroteUnits, WroteUnitsPrefix};
 ghost use Rattle.stk_lint.specs.Lint.{IsWritten, IsUnread, IsLegal, AskForReading, IsInput, fault_line, HasWritten, HasWrittenPrefix, IsSkimmedFrom, AreUnitsOf, TookText, TookPrefix, status_after};
 
-use crate::writing::{records_text, summary_text};
 use std::alloc::Global;
-use stk_base::{
-    Failed, List, MOST_BYTES, NoMemory, ReadAll, Sink, Source, Status, read_all, write_all,
-};
+use stk_base::{List, MOST_BYTES, NoMemory, ReadAll, Sink, Source, Status, read_all, write_all};
 use stk_ctype::Names;
 use stk_gen::{MOST_FUNCTIONS, source_of};
 use stk_lex::{Piece, Places, Skimmed, Token, cut, lex, skim};
 use stk_query::{Decider, MOST_BUDGET};
-use stk_records::{Counts, Options, WordsFault, words as options_of};
-use stk_unit_lines::unit_lines;
+use stk_records::{Counts, Options, Stop, WordsFault, words as options_of, write_summary};
+use stk_unit_lines::{LintedFile, write_unit};
 
 // The status of a refusal to read.
 fn refused(refusal: ReadAll) -> Status
@@ -35,44 +31,6 @@ fn refused(refusal: ReadAll) -> Status
         ReadAll::ReadFault => Status::ReadFault,
         ReadAll::TooLarge => Status::TooLarge,
         ReadAll::NoMemory => Status::NoMemory,
-    }
-}
-
-// Writes a text and flushes it.
-fn deliver<K: Sink>(out: &mut K, text: &[u8]) -> Result<(), Failed>
-    ensures all { OnOk result (Appended (K.taken out.old) (K.taken out.new) text.now) }
-    ensures flushed { OnOk result (IsFlushed (K.taken out.new) (K.flushed out.new)) }
-    ensures prefix { OnErr result (AppendedPrefix (K.taken out.old) (K.taken out.new) text.now) }
-    ensures cause { HasCause (K.faults out.old) (K.faults out.new) result }
-{
-    write_all(out, text)?;
-    out.flush()
-}
-
-// Why the records end early: the output can't be written, or memory ran out.
-#[derive(Clone, Copy, Debug, PartialEq, Eq)]
-enum Stop {
-    WriteFault,
-    NoMemory,
-}
-
-impl From<Failed> for Stop {
-    ghost use Rattle.stk_lint.specs.declared.lint.Stop.TheVariants as stops;
-
-    ghost from_gives = { λ _ e. e ≡ stops.WriteFault };
-
-    fn from(_: Failed) -> Self {
-        Stop::WriteFault
-    }
-}
-
-impl From<NoMemory> for Stop {
-    ghost use Rattle.stk_lint.specs.declared.lint.Stop.TheVariants as stops;
-
-    ghost from_gives = { λ _ e. e ≡ stops.NoMemory };
-
-    fn from(_: NoMemory) -> Self {
-        Stop::NoMemory
     }
 }
 
@@ -105,36 +63,6 @@ fn cut_into_units(alloc: Global, bytes: &[u8]) -> Result<Units, NoMemory>
     Ok(Units { tokens, pieces })
 }
 
-// Judges a unit and writes its records. The answer is what it counts for.
-fn write_unit<K: Sink, D: Decider>(
-    alloc: Global,
-    input: &Places,
-    options: Options,
-    piece: Piece,
-    tokens: &[Token],
-    names: &mut Names,
-    out: &mut K,
-    decider: &mut D,
-) -> Result<Counts, Stop>
-    requires some { 0 < length tokens.now }
-    requires few { length tokens.now ≤ most_bytes }
-    requires names { AreOrderly names.old }
-    requires least { 1 ≤ options.budget }
-    requires most { options.budget ≤ MOST_BUDGET }
-    ensures written { IfOk result (λ counts. WroteUnit input.now options piece.no_return names.old (body_of_piece piece) tokens.now (K.taken out.old) (K.taken out.new) (D.given_up decider.old) (D.given_up decider.new) counts names.new) }
-    ensures prefix { OnErr result (WroteUnitPrefix input.now options piece.no_return names.old (body_of_piece piece) tokens.now (K.taken out.old) (K.taken out.new)) }
-    ensures later { K.faults out.old ≤ K.faults out.new }
-    ensures fault { result ≡ Err Stop.WriteFault → Rose (K.faults out.old) (K.faults out.new) }
-    ensures given_up { D.given_up decider.old ≤ D.given_up decider.new }
-{
-    let body = body_of_piece(piece);
-    let mark = piece.no_return;
-    let unit = unit_lines(alloc, input, options, mark, body, tokens, names, decider)?;
-    let text = records_text(alloc, options, unit.lines.as_slice())?;
-    write_all(out, text.as_slice())?;
-    Ok(unit.counts)
-}
-
 // How many tokens of a unit stand before its body, where one was found.
 fn body_of_piece(piece: Piece) -> Option<usize>
     ensures { result ≡ body_of_piece piece }
@@ -157,9 +85,7 @@ fn tokens_of(tokens: &[Token], piece: Piece) -> &[Token]
 
 // Judges units and writes their records, one after the other. The answer is what they count for together.
 fn write_units<K: Sink, D: Decider>(
-    alloc: Global,
-    input: &Places,
-    options: Options,
+    file: &LintedFile,
     tokens: &[Token],
     pieces: &[Piece],
     out: &mut K,
@@ -167,20 +93,20 @@ fn write_units<K: Sink, D: Decider>(
 ) -> Result<Counts, Stop>
     requires few { length tokens.now ≤ most_bytes }
     requires joined { AreJoined 0 (length tokens.now) pieces.now }
-    requires least { 1 ≤ options.budget }
-    requires most { options.budget ≤ MOST_BUDGET }
-    ensures written { IfOk result (WroteUnits input.now options tokens.now pieces.now (K.taken out.old) (K.taken out.new) (D.given_up decider.old) (D.given_up decider.new)) }
-    ensures prefix { OnErr result (WroteUnitsPrefix input.now options tokens.now pieces.now (K.taken out.old) (K.taken out.new)) }
+    requires least { 1 ≤ file.now.options.budget }
+    requires most { file.now.options.budget ≤ MOST_BUDGET }
+    ensures written { IfOk result (WroteUnits file.now.input.now file.now.options tokens.now pieces.now (K.taken out.old) (K.taken out.new) (D.given_up decider.old) (D.given_up decider.new)) }
+    ensures prefix { OnErr result (WroteUnitsPrefix file.now.input.now file.now.options tokens.now pieces.now (K.taken out.old) (K.taken out.new)) }
     ensures later { K.faults out.old ≤ K.faults out.new }
     ensures fault { result ≡ Err Stop.WriteFault → Rose (K.faults out.old) (K.faults out.new) }
 {
-    let mut names = Names::new(alloc);
+    let mut names = Names::new(file.alloc);
     let mut counts = Counts::nothing();
     for piece in pieces {
+        let body = body_of_piece(*piece);
         let unit = tokens_of(tokens, *piece);
-        let counted = write_unit(
-            alloc, input, options, *piece, unit, &mut names, out, decider,
-        )?;
+        let mark = piece.no_return;
+        let counted = write_unit(file, mark, body, unit, &mut names, out, decider)?;
         counts = counts.plus(counted);
     }
     Ok(counts)
@@ -194,8 +120,8 @@ fn finish<K: Sink>(alloc: Global, options: Options, counts: Counts, out: &mut K)
     ensures later { K.faults out.old ≤ K.faults out.new }
     ensures fault { result ≡ Err Stop.WriteFault → Rose (K.faults out.old) (K.faults out.new) }
 {
-    let text = summary_text(alloc, options, counts)?;
-    deliver(out, text.as_slice())?;
+    write_summary(alloc, options, counts, out)?;
+    out.flush()?;
     Ok(())
 }
 
@@ -214,32 +140,23 @@ fn status_of(unstable: u64, undecided: u64) -> Status
 
 // Writes the records of units and the summary, and flushes them.
 fn write_text<K: Sink, D: Decider>(
-    alloc: Global,
-    input: &Places,
-    options: Options,
+    file: &LintedFile,
     units: &Units,
     out: &mut K,
     decider: &mut D,
 ) -> Result<Status, Stop>
-    requires are { AreUnitsOf input.now units.now.tokens units.now.pieces.items }
+    requires are { AreUnitsOf file.now.input.now units.now.tokens units.now.pieces.items }
     requires joined { AreJoined 0 (length units.now.tokens) units.now.pieces.items }
     requires few { length units.now.tokens ≤ most_bytes }
-    requires least { 1 ≤ options.budget }
-    requires most { options.budget ≤ MOST_BUDGET }
-    ensures text { IfOk result (TookText input.now options (K.taken out.old) (K.taken out.new) (K.flushed out.new) (D.given_up decider.old) (D.given_up decider.new)) }
-    ensures prefix { OnErr result (TookPrefix input.now options (K.taken out.old) (K.taken out.new)) }
+    requires least { 1 ≤ file.now.options.budget }
+    requires most { file.now.options.budget ≤ MOST_BUDGET }
+    ensures text { IfOk result (TookText file.now.input.now file.now.options (K.taken out.old) (K.taken out.new) (K.flushed out.new) (D.given_up decider.old) (D.given_up decider.new)) }
+    ensures prefix { OnErr result (TookPrefix file.now.input.now file.now.options (K.taken out.old) (K.taken out.new)) }
     ensures fault { result ≡ Err Stop.WriteFault → Rose (K.faults out.old) (K.faults out.new) }
 {
-    let counts = write_units(
-        alloc,
-        input,
-        options,
-        units.tokens.as_slice(),
-        units.pieces.as_slice(),
-        out,
-        decider,
-    )?;
-    finish(alloc, options, counts, out)?;
+    let tokens = units.tokens.as_slice();
+    let counts = write_units(file, tokens, units.pieces.as_slice(), out, decider)?;
+    finish(file.alloc, file.options, counts, out)?;
     Ok(status_of(counts.unstable, counts.undecided))
 }
 
@@ -287,7 +204,12 @@ fn answer<K: Sink, D: Decider>(
     let Ok((units, input)) = prepared(alloc, bytes) else {
         return Status::NoMemory;
     };
-    let written = write_text(alloc, &input, options, &units, out, decider);
+    let file = LintedFile {
+        alloc,
+        input: &input,
+        options,
+    };
+    let written = write_text(&file, &units, out, decider);
     ended(written)
 }
 
@@ -356,6 +278,7 @@ fn fault_line(status: Status) -> &'static [u8]
         Status::WriteFault => b"stack: the output cannot be written\n",
         Status::TooLarge => b"stack: the input is larger than 16777216 bytes\n",
         Status::NoMemory => b"stack: no memory\n",
+        Status::NoCandidate => b"stack: no such candidate\n",
     }
 }
 

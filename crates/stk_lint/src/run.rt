@@ -1,7 +1,7 @@
 //! A run of the checker over given streams: the words of the command line, a reader, two writers, and how the run ends.
 use crate::lint::lint_main;
 use std::env;
-use std::io::{BufWriter, ErrorKind, Read, Write};
+use std::io::{ErrorKind, LineWriter, Read, Write};
 use std::rt::Env;
 use stk_base::{Sink, Status, write_all};
 use stk_query::Cdcl;
@@ -26,16 +26,16 @@ fn words_of<R: Env + AllocGlobal>(rt: &R) -> Result<Vec<String>, Status> {
     Ok(words)
 }
 
-/// Runs the checker on the words of the command line: C comes from `input`, records go to `output` through a buffer,
-/// and what failed is told on `errors`. The answer is that of the top call; it is `BadWords` also where a word isn't
-/// UTF-8, and `NoMemory` may come before anything is read. What was written before `NoMemory` is flushed.
+/// Runs the checker on the words of the command line: C comes from `input`, each record goes to `output` as soon as its
+/// line is whole, and what failed is told on `errors`. The answer is that of the top call; it is `BadWords` also where a
+/// word isn't UTF-8, and `NoMemory` may come before anything is read. What was written before `NoMemory` is flushed.
 pub fn run_checker<R: Env + AllocGlobal, I: Read + Drop, O: Write + Drop, E: Write + Drop>(
     rt: &R,
     input: I,
     output: O,
     errors: E,
 ) -> Status {
-    let Ok(writer) = BufWriter::new(rt.alloc(), output) else {
+    let Ok(writer) = LineWriter::new(rt.alloc(), output) else {
         return Status::NoMemory;
     };
     let mut source = RealSource::new(input);

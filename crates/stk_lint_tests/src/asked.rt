@@ -8,7 +8,8 @@ ghost use Rattle.stk_rewrite.specs.Normal.{IsNormal};
 ghost use Rattle.stk_query.specs.Laws.{IsNever};
 ghost use Rattle.stk_query.specs.Verdicts.{is_undecided, is_no, IsVerdict};
 
-use crate::running::ran;
+use crate::running::{ran, ran_with};
+use std::alloc::Global;
 use std::test::Fail;
 use stk_base::{NoMemory, Status};
 use stk_query::{Cdcl, Decider, MOST_BUDGET, Verdict};
@@ -76,13 +77,14 @@ static ROWS: [Row; 5] = [
         asked: 0,
         given_up: 0,
     },
-    // Two candidates that no known start hits: each guess is asked of, and then each free query.
+    // Two candidates that no known start hits, of a function without conditions: the guess is the free query, which is
+    // asked once.
     Row {
         words: &["--budget", "1"],
         input: "int f(unsigned long x, unsigned long y) { if ((x + y) * (x - y) != x * x - y * y) return 1; return 0; }",
         status: Status::Unsure,
-        asked: 4,
-        given_up: 4,
+        asked: 2,
+        given_up: 2,
     },
     // A test that is never true, and its branch: one question finds that no run hits either.
     Row {
@@ -110,5 +112,29 @@ fn questions_are_few(rt: HostRuntime) -> Result<(), Fail> {
             row.input
         );
     }
+    Ok(())
+}
+
+// How many goals the decider is asked of a function with two divisions and the tests of their divisors, where these
+// calls of the output fail, and whether all records were written.
+fn asked_where(alloc: Global, failing: &[u64]) -> Result<(u64, bool), Fail> {
+    let input =
+        "int f(int x, int y) { int a = 10 / x; int b = 10 / y; if (x == 0) return 1; if (y == 0) return 2; return a + b; }";
+    let mut decider = Counted {
+        decider: Cdcl::new(alloc),
+        asked: 0,
+    };
+    let run = ran_with(alloc, &[], input, &mut decider, failing)?;
+    Ok((decider.asked, run.status == Status::Found))
+}
+
+// Where the record of the first candidate can't be written, nothing is asked of the others.
+#[test]
+fn a_record_is_written_before_the_next_question(rt: HostRuntime) -> Result<(), Fail> {
+    let (all, written) = asked_where(rt.alloc(), &[])?;
+    assert!(rt; written, "the records are written");
+    let (first, written) = asked_where(rt.alloc(), &[0])?;
+    assert!(rt; !written, "the first record isn't written");
+    assert!(rt; 1 <= first && first < all, "{first} of {all}");
     Ok(())
 }

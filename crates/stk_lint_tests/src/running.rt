@@ -24,13 +24,24 @@ pub(crate) fn ran<D: Decider>(
     input: &str,
     decider: &mut D,
 ) -> Result<Outcome, Fail> {
+    ran_with(alloc, words, input, decider, &[])
+}
+
+/// The same where these calls of the output fail, counted from 0.
+pub(crate) fn ran_with<D: Decider>(
+    alloc: Global,
+    words: &[&'static str],
+    input: &str,
+    decider: &mut D,
+    failing: &[u64],
+) -> Result<Outcome, Fail> {
     let mut owned = Vec::new(alloc);
     for word in words {
         owned.push(String::from_str(alloc, word)?)?;
     }
     let bytes = Vec::from_slice(alloc, input.as_bytes())?;
     let mut source = MemSource::new(bytes, MOST, Vec::new(alloc));
-    let mut out = MemSink::new(alloc, MOST, Vec::new(alloc));
+    let mut out = MemSink::new(alloc, MOST, Vec::from_slice(alloc, failing)?);
     let mut fault = MemSink::new(alloc, MOST, Vec::new(alloc));
     let words = owned.as_slice();
     let status = lint_main(alloc, words, &mut source, &mut out, &mut fault, decider);

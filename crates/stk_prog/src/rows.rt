@@ -412,7 +412,7 @@ pub(crate) fn of_outside(
 
 #[test]
 fn each_failure_has_its_status(rt: HostRuntime) -> Result<(), Fail> {
-    let table: [(Outside, Status, &[u8], &[u8]); 9] = [
+    let table: [(Outside, Status, &[u8], &[u8]); 10] = [
         (
             of_outside(&["--help"], 9, None, None, None),
             Status::BadWords,
@@ -444,7 +444,13 @@ fn each_failure_has_its_status(rt: HostRuntime) -> Result<(), Fail> {
             UNWRITTEN,
         ),
         (
-            of_outside(&[], 999, None, Some(2), None),
+            of_outside(&[], 999, None, Some(1), None),
+            Status::WriteFault,
+            b"-:1:46: unstable: always false in f\n  hit: x=0\n  needs division by zero at -:1:34; without it: x=0\n",
+            UNWRITTEN,
+        ),
+        (
+            of_outside(&[], 999, None, Some(3), None),
             Status::WriteFault,
             RECORDS,
             UNWRITTEN,

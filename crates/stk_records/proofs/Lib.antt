@@ -5,3 +5,4 @@ pub mod Wholes
 pub mod Joined
 pub mod Floats
 pub mod Budgets
+pub mod Written

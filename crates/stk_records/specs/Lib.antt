@@ -3,3 +3,4 @@ pub mod Words
 pub mod Counts
 pub mod Text
 pub mod Json
+pub mod Form

@@ -1,4 +1,4 @@
-//! What is read from the command line, and the lines of records as data, as text and as JSON.
+//! What is read from the command line, the lines of records as data, as text and as JSON, and their writing.
 #![tactic(auto)]
 
 mod counts;
@@ -11,6 +11,7 @@ mod options;
 mod parts;
 mod reading;
 mod text;
+mod writing;
 
 pub use counts::Counts;
 pub use json::add_json_line;
@@ -18,3 +19,4 @@ pub use line::{Cause, Claim, Fragment, Input, Line, Needed, Spot, StartInputs};
 pub use options::{Options, WordsFault};
 pub use reading::words;
 pub use text::add_line;
+pub use writing::{Stop, write_record, write_summary};

@@ -90,13 +90,13 @@ bv_is (b ∷ c ∷ bs) n e = elim (chosen_way (same_text (b ∷ c ∷ []) (codes
 
 -- Terms
 
-abbrev Told : ℕ → List Token → Expr × List Token → Type 0
+abbrev pub Told : ℕ → List Token → Expr × List Token → Type 0
 Told n ts y = (ts ≡ expr_tokens y.0 ++ y.1) × (depth y.0 ≤ n)
 
-abbrev Prints : ℕ → (List Token → Front Expr) → Type 0
+abbrev pub Prints : ℕ → (List Token → Front Expr) → Type 0
 Prints n r = (ts : List Token) (y : Expr × List Token) → r ts ≡ Some y → Told n ts y
 
-abbrev PrintsTest : ℕ → (List Token → Front Test) → Type 0
+abbrev pub PrintsTest : ℕ → (List Token → Front Test) → Type 0
 PrintsTest n q = (ts : List Token) (y : Test × List Token) → q ts ≡ Some y → (ts ≡ test_tokens y.0.op y.0.left y.0.right y.1) × (depth y.0.left < n) × (depth y.0.right < n)
 
 told_of : (n : ℕ) (ts : List Token) (y : Expr × List Token) (e : Expr) → y.0 ≡ e → ts ≡ expr_tokens e ++ y.1 → depth e ≤ n → Told n ts y
@@ -226,7 +226,8 @@ more_term n r p ts y e = let k = p ts y e in (k.0, omega (arith, k.1))
 more_test : (n : ℕ) (q : List Token → Front Test) → PrintsTest (n + 1) q → PrintsTest (suc n) q
 more_test n q p ts y e = let k = p ts y e in (k.0, omega (arith, k.1), omega (arith, k.2))
 
-both_print : (n : ℕ) → Prints n (read_term n) × PrintsTest n (read_test n)
+-- terms and comparisons
+pub both_print : (n : ℕ) → Prints n (read_term n) × PrintsTest n (read_test n)
 both_print zero = (λ ts y e. absurd cc, λ ts y e. absurd cc)
 both_print (suc n) = let k = both_print n in (more_term n (read_term (suc n)) (term_told n (read_test n) (read_term n) k.1 k.0), more_test n (read_test (suc n)) (test_told n (read_term n) k.0))
 

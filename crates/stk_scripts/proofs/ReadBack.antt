@@ -44,7 +44,7 @@ test_spelled test.Below = refl
 test_spelled test.SignedBelow = refl
 
 -- a reader of terms that reads this one, whatever follows it
-abbrev Reads : (List Token → Front Expr) → Expr → Type 0
+abbrev pub Reads : (List Token → Front Expr) → Expr → Type 0
 Reads r e = (rest : List Token) → r (expr_tokens e ++ rest) ≡ Some (e, rest)
 
 one_read : (r : List Token → Front Expr) (f : Expr → Expr) (a : Expr) (rest : List Token) → Reads r a → one_operand r f ((expr_tokens a ++ closing ∷ []) ++ rest) ≡ Some (f a, rest)
@@ -65,7 +65,7 @@ literal_read w n rest h k =
     ∙ ap (λ (o : Option ℕ). with_rest (closing ∷ rest) o >>= λ w. closed (literal w.0 n) w.1) (numeral_of w h)
 
 -- a comparison
-test_read : (t : TestOp) (a b : Expr) (n : ℕ) (rest : List Token) → Reads (read_term n) a → Reads (read_term n) b
+pub test_read : (t : TestOp) (a b : Expr) (n : ℕ) (rest : List Token) → Reads (read_term n) a → Reads (read_term n) b
     → read_test (suc n) (opening ∷ word (test_name t) ∷ (expr_tokens a ++ (expr_tokens b ++ closing ∷ rest))) ≡ Some (test_of t a b, rest)
 test_read t a b n rest h k =
     ap (λ (o : Option TestOp). with_rest (expr_tokens a ++ (expr_tokens b ++ closing ∷ rest)) o >>= λ op. two_operands (read_term n) (test_of op.0) op.1) (test_spelled t)
@@ -85,7 +85,8 @@ widened_read op k a n rest h r =
     ∙ ap (λ (o : Option ℕ). with_rest (closing ∷ ts) o >>= λ k. closed zero k.1 >>= λ behind. one_operand (read_term n) (widened op k.0) behind.1) (numeral_of k h)
     ∙ one_read (read_term n) (widened op k) a rest r
 
-term_read : (e : Expr) (n : ℕ) → AreSmall e → depth e ≤ n → Reads (read_term n) e
+-- a term
+pub term_read : (e : Expr) (n : ℕ) → AreSmall e → depth e ≤ n → Reads (read_term n) e
 term_read (named m) zero s d rest = absurd (omega arith)
 term_read (named m) (suc n) s d rest = refl
 term_read (literal w v) zero s d rest = absurd (omega arith)

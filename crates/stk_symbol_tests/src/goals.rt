@@ -10,7 +10,7 @@ use std::process::Abort;
 use std::test::Fail;
 use stk_base::{List, NoMemory};
 use stk_numbers::{ArithOp, CompareOp, Condition, IntKind, UbKind};
-use stk_symbols::Symbols;
+use stk_symbols::{IndexedWalk, Symbols};
 use stk_terms::{Residues, TermId};
 use stk_values::{Step, Values, Walked};
 
@@ -139,7 +139,8 @@ fn goal_of_division(
     requires { HasKey values.old 0 UChar }
 {
     let walked = division(alloc, values)?;
-    let goal = values.goal(&walked, candidate, set)?;
+    let walk = IndexedWalk::new(alloc, walked)?;
+    let goal = values.goal(&walk, candidate, set)?;
     Ok(goal)
 }
 
@@ -158,7 +159,8 @@ fn goal_of_bits(
     requires sixth { HasKey values.old 5 Bool }
 {
     let walked = bits(alloc, values)?;
-    let goal = values.goal(&walked, candidate, set)?;
+    let walk = IndexedWalk::new(alloc, walked)?;
+    let goal = values.goal(&walk, candidate, set)?;
     Ok(goal)
 }
 

@@ -18,3 +18,7 @@ pub mod Sizes
 pub mod Truths
 pub mod Growing
 pub mod Answering
+pub mod Mattering
+pub mod Placed
+pub mod Chained
+pub mod Picking

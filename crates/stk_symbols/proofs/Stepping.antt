@@ -1,19 +1,18 @@
--- A goal while the steps of a walk are gone over.
-use Rattle.std.proofs.Common.{◌≡◌, ℕ, ◌+◌, ◌<◌, ◌≤◌, Bool, true, false, not, ◌&&◌, ◌||◌, List, [], ◌∷◌, length, refl, sym, ap, subst, ◌∙◌, arith, nat_eq, if◌then◌else◌}
+-- A goal while the steps on which it depends are gone over.
+use Rattle.std.proofs.Common.{◌≡◌, ℕ, ◌+◌, ◌<◌, ◌≤◌, Bool, true, false, ◌&&◌, ◌||◌, List, [], ◌∷◌, length, refl, sym, ap, subst, ◌∙◌, arith, if◌then◌else◌}
 use Rattle.std.specs.declared.option.Option.{Option}
 use Rattle.std.specs.declared.option.Option.TheVariants.{None, Some}
 use Rattle.stk_numbers.specs.declared.conditions.Condition.{Condition}
-use Rattle.stk_meaning.specs.Hits.{has}
 use Rattle.stk_terms.specs.declared.term.TermId.{TermId}
 use Rattle.stk_terms.specs.Terms.{Stored}
 use Rattle.stk_terms.specs.Values.{bit}
-use Rattle.stk_terms.specs.Cost.{IsClosed, weight, Grows}
+use Rattle.stk_terms.specs.Cost.{IsClosed, Grows}
 use Rattle.stk_values.specs.declared.walked.Step.{Step}
 use Rattle.stk_values.specs.declared.walked.Step.TheVariants.{Broken, Hit}
 use Rattle.stk_values.specs.Walks.{ListedEvent, is_violated, is_hit, event_of, test_of, EachTest, Says}
 use Rattle.stk_symbols.specs.declared.goals.GoalState.{GoalState}
 use Rattle.stk_symbols.specs.Valued.{IsTerm, Obeys, Grown}
-use Rattle.stk_symbols.specs.Goals.{is_hit_free, step_charge, goal_charge, MaybeTerm, MaybeChosen, MaybeIs, joining, Truths, no_state, IsState, StateIs, HasState, when_violated, when_hit, next, Spends}
+use Rattle.stk_symbols.specs.Goals.{is_hit_first, full_charge, full_charges, MaybeTerm, MaybeChosen, MaybeIs, joining, Truths, no_state, IsState, StateIs, HasState, when_violated, when_hit, next, Spends}
 use Rattle.stk_symbols.proofs.Made.{term_kept, obeys_before, grown_same, grown_then}
 
 -- ---- growth of choices
@@ -65,37 +64,30 @@ and_none false y e = refl
 abbrev truths : Bool → Bool → Truths
 truths g f = record { clear = g; found = f }
 
-violated_step : (f g b m h : Bool) → (f || (g && (if b then not m && h else h))) ≡ ((if m then when_violated (truths g f) b else truths g f).found || ((if m then when_violated (truths g f) b else truths g f).clear && h))
-violated_step f true true true h = refl
-violated_step f false true true h = refl
-violated_step f g true false h = refl
-violated_step f true false true h = refl
-violated_step f false false true h = refl
-violated_step f g false false h = refl
+violated_step : (f g b h : Bool) → (f || (g && (if b then false else h))) ≡ ((when_violated (truths g f) b).found || ((when_violated (truths g f) b).clear && h))
+violated_step f true true h = refl
+violated_step f false true h = refl
+violated_step f true false h = refl
+violated_step f false false h = refl
 
-hit_step : (f g b m h : Bool) → (f || (g && (if b then m || h else h))) ≡ ((if m then when_hit (truths g f) b else truths g f).found || ((if m then when_hit (truths g f) b else truths g f).clear && h))
-hit_step true g true true h = refl
-hit_step false true true true h = refl
-hit_step false false true true h = refl
-hit_step f g true false h = refl
-hit_step true g false true h = refl
-hit_step false true false true h = refl
-hit_step false false false true h = refl
-hit_step f g false false h = refl
+hit_step : (f g b h : Bool) → (f || (g && (if b then true else h))) ≡ ((when_hit (truths g f) b).found || ((when_hit (truths g f) b).clear && h))
+hit_step true g b h = refl
+hit_step false true true h = refl
+hit_step false true false h = refl
+hit_step false false b h = refl
 
-module _ (set : List Condition) (c : ℕ) where
-  first_violated : (k : Condition) (b : Bool) (u : List ListedEvent) → is_hit_free set c (if b then is_violated k ∷ u else u) ≡ (if b then not (has set k) && is_hit_free set c u else is_hit_free set c u)
-  first_violated k true u = refl
-  first_violated k false u = refl
+first_violated : (k : Condition) (b : Bool) (u : List ListedEvent) → is_hit_first (if b then is_violated k ∷ u else u) ≡ (if b then false else is_hit_first u)
+first_violated k true u = refl
+first_violated k false u = refl
 
-  first_hit : (j : ℕ) (b : Bool) (u : List ListedEvent) → is_hit_free set c (if b then is_hit j ∷ u else u) ≡ (if b then nat_eq j c || is_hit_free set c u else is_hit_free set c u)
-  first_hit j true u = refl
-  first_hit j false u = refl
+first_hit : (j : ℕ) (b : Bool) (u : List ListedEvent) → is_hit_first (if b then is_hit j ∷ u else u) ≡ (if b then true else is_hit_first u)
+first_hit j true u = refl
+first_hit j false u = refl
 
-  -- a step takes what is left along
-  pub goes_along : (t : Truths) (s : Step TermId) (b : Bool) (u : List ListedEvent) → (t.found || (t.clear && is_hit_free set c (if b then event_of s ∷ u else u))) ≡ ((next set c t s b).found || ((next set c t s b).clear && is_hit_free set c u))
-  goes_along t (Broken k v) b u = ap (λ h. t.found || (t.clear && h)) (first_violated k b u) ∙ violated_step t.found t.clear b (has set k) (is_hit_free set c u)
-  goes_along t (Hit j v) b u = ap (λ h. t.found || (t.clear && h)) (first_hit j b u) ∙ hit_step t.found t.clear b (nat_eq j c) (is_hit_free set c u)
+-- a step takes what is left along
+pub goes_along : (t : Truths) (s : Step TermId) (b : Bool) (u : List ListedEvent) → (t.found || (t.clear && is_hit_first (if b then event_of s ∷ u else u))) ≡ ((next t s b).found || ((next t s b).clear && is_hit_first u))
+goes_along t (Broken k v) b u = ap (λ h. t.found || (t.clear && h)) (first_violated k b u) ∙ violated_step t.found t.clear b (is_hit_first u)
+goes_along t (Hit j v) b u = ap (λ h. t.found || (t.clear && h)) (first_hit j b u) ∙ hit_step t.found t.clear b (is_hit_first u)
 
 -- ---- steps
 
@@ -116,26 +108,26 @@ abbrev pub Bits : (ℕ → ℕ) → TermId → Bool → Type 0
 Bits numbers v b = numbers v.0 ≡ bit b
 
 -- what is left of the events, and what was found before them
-pub record Ahead (set : List Condition) (c : ℕ) (numbers : ℕ → ℕ) (events : List ListedEvent) (rest : List (Step TermId)) (x : GoalState) : Type 0 where
+pub record Ahead (numbers : ℕ → ℕ) (events : List ListedEvent) (rest : List (Step TermId)) (x : GoalState) : Type 0 where
   pub truths_so_far : Truths
   pub left : List ListedEvent
   pub state : StateIs numbers x truths_so_far
   pub says : Says (λ v b. numbers v.0 ≡ bit b) rest left
-  pub whole : is_hit_free set c events ≡ (truths_so_far.found || (truths_so_far.clear && is_hit_free set c left))
+  pub whole : is_hit_first events ≡ (truths_so_far.found || (truths_so_far.clear && is_hit_first left))
 
 -- a choice that has grown by the state has the tests of what is left
 pub record Along (first now : Stored) (chosen : ℕ → Bool) (rest : List (Step TermId)) (x : GoalState) (n : ℕ) : Type 0 where
   pub spends : Spends first now chosen no_state x n
   pub tests : EachTest (λ v. spends.more v.0 ≡ true) rest
 
-module _ (set : List Condition) (c : ℕ) (all : List (Step TermId)) (first : Stored) where
+module _ (all : List (Step TermId)) (first : Stored) where
   pub record SoFar (now : Stored) (rest : List (Step TermId)) (x : GoalState) : Type 0 where
     pub made : IsState now x
     pub tests : EachTest (λ v. IsTerm now 32 v.0) rest
     pub spent : ℕ
-    pub sum : spent + goal_charge set c rest ≡ goal_charge set c all
+    pub sum : spent + full_charges rest ≡ full_charges all
     pub grown : Grown first now spent
-    pub value : (numbers : ℕ → ℕ) (events : List ListedEvent) → Obeys now numbers → Says (λ v b. numbers v.0 ≡ bit b) all events → Ahead set c numbers events rest x
+    pub value : (numbers : ℕ → ℕ) (events : List ListedEvent) → Obeys now numbers → Says (λ v b. numbers v.0 ≡ bit b) all events → Ahead numbers events rest x
     pub along : (chosen : ℕ → Bool) → IsClosed first chosen → EachTest (λ v. chosen v.0 ≡ true) all → Along first now chosen rest x spent
 
   pub begins : EachTest (λ v. IsTerm first 32 v.0) all → SoFar first all no_state
@@ -154,22 +146,22 @@ module _ (set : List Condition) (c : ℕ) (all : List (Step TermId)) (first : St
 
   module _ (now new : Stored) (s : Step TermId) (rest : List (Step TermId)) (x y : GoalState) (f : SoFar now (s ∷ rest) x)
       (made : IsState new y)
-      (value : (numbers : ℕ → ℕ) (t : Truths) (b : Bool) → Obeys new numbers → StateIs numbers x t → numbers (test_of s).0 ≡ bit b → StateIs numbers y (next set c t s b))
-      (spends : (chosen : ℕ → Bool) → IsClosed now chosen → HasState chosen x → chosen (test_of s).0 ≡ true → Spends now new chosen x y (step_charge set c s))
-      (grown : Grown now new (step_charge set c s)) where
-    ahead : (numbers : ℕ → ℕ) (events : List ListedEvent) → Obeys new numbers → Ahead set c numbers events (s ∷ rest) x → Ahead set c numbers events rest y
+      (value : (numbers : ℕ → ℕ) (t : Truths) (b : Bool) → Obeys new numbers → StateIs numbers x t → numbers (test_of s).0 ≡ bit b → StateIs numbers y (next t s b))
+      (spends : (chosen : ℕ → Bool) → IsClosed now chosen → HasState chosen x → chosen (test_of s).0 ≡ true → Spends now new chosen x y (full_charge s))
+      (grown : Grown now new (full_charge s)) where
+    ahead : (numbers : ℕ → ℕ) (events : List ListedEvent) → Obeys new numbers → Ahead numbers events (s ∷ rest) x → Ahead numbers events rest y
     ahead numbers events o a =
         let b = a.says.0 in
         let u = a.says.1 in
         record {
-          truths_so_far = next set c a.truths_so_far s b;
+          truths_so_far = next a.truths_so_far s b;
           left = u;
           state = value numbers a.truths_so_far b o a.state a.says.2;
           says = a.says.3;
-          whole = a.whole ∙ (ap (λ l. a.truths_so_far.found || (a.truths_so_far.clear && is_hit_free set c l)) a.says.4 ∙ goes_along set c a.truths_so_far s b u);
+          whole = a.whole ∙ (ap (λ l. a.truths_so_far.found || (a.truths_so_far.clear && is_hit_first l)) a.says.4 ∙ goes_along a.truths_so_far s b u);
         }
 
-    further : (chosen : ℕ → Bool) → Along first now chosen (s ∷ rest) x f.spent → Along first new chosen rest y (f.spent + step_charge set c s)
+    further : (chosen : ℕ → Bool) → Along first now chosen (s ∷ rest) x f.spent → Along first new chosen rest y (f.spent + full_charge s)
     further chosen a =
         let g = spends a.spends.more a.spends.closed a.spends.has_state a.tests.0 in
         record {
@@ -186,27 +178,27 @@ module _ (set : List Condition) (c : ℕ) (all : List (Step TermId)) (first : St
     pub goes_on : SoFar new rest y
     goes_on = record {
       made = made;
-      tests = tests_later _ _ rest (λ v t. term_kept now new (step_charge set c s) 32 v.0 grown t) f.tests.1;
-      spent = f.spent + step_charge set c s;
+      tests = tests_later _ _ rest (λ v t. term_kept now new (full_charge s) 32 v.0 grown t) f.tests.1;
+      spent = f.spent + full_charge s;
       sum = omega (arith, f.sum);
-      grown = grown_then first now new f.spent (step_charge set c s) (f.spent + step_charge set c s) f.grown grown (omega arith);
-      value = λ numbers events o h. ahead numbers events o (f.value numbers events (obeys_before now new (step_charge set c s) numbers grown o) h);
+      grown = grown_then first now new f.spent (full_charge s) (f.spent + full_charge s) f.grown grown (omega arith);
+      value = λ numbers events o h. ahead numbers events o (f.value numbers events (obeys_before now new (full_charge s) numbers grown o) h);
       along = λ chosen closed h. further chosen (f.along chosen closed h);
     }
 
   module _ (now : Stored) (x : GoalState) (f : SoFar now [] x) where
-    total : f.spent ≡ goal_charge set c all
-    total = let e : f.spent + 0 ≡ goal_charge set c all = f.sum in omega (arith, e)
+    total : f.spent ≡ full_charges all
+    total = let e : f.spent + 0 ≡ full_charges all = f.sum in omega (arith, e)
 
-    pub ends_grown : Grown first now (goal_charge set c all)
+    pub ends_grown : Grown first now (full_charges all)
     ends_grown = subst (Grown first now) total f.grown
 
-    pub ends_value : (numbers : ℕ → ℕ) (events : List ListedEvent) → Obeys now numbers → Says (λ v b. numbers v.0 ≡ bit b) all events → MaybeIs numbers false x.found (is_hit_free set c events)
+    pub ends_value : (numbers : ℕ → ℕ) (events : List ListedEvent) → Obeys now numbers → Says (λ v b. numbers v.0 ≡ bit b) all events → MaybeIs numbers false x.found (is_hit_first events)
     ends_value numbers events o h =
         let a = f.value numbers events o h in
         let t = a.truths_so_far in
-        let e : is_hit_free set c events ≡ t.found = a.whole ∙ (ap (λ l. t.found || (t.clear && is_hit_free set c l)) a.says ∙ (ap (λ b. t.found || b) (and_none t.clear false refl) ∙ or_none t.found)) in
+        let e : is_hit_first events ≡ t.found = a.whole ∙ (ap (λ l. t.found || (t.clear && is_hit_first l)) a.says ∙ (ap (λ b. t.found || b) (and_none t.clear false refl) ∙ or_none t.found)) in
         subst (MaybeIs numbers false x.found) (sym e) a.state.found
 
-    pub ends_spends : (chosen : ℕ → Bool) → IsClosed first chosen → EachTest (λ v. chosen v.0 ≡ true) all → Spends first now chosen no_state x (goal_charge set c all)
+    pub ends_spends : (chosen : ℕ → Bool) → IsClosed first chosen → EachTest (λ v. chosen v.0 ≡ true) all → Spends first now chosen no_state x (full_charges all)
     ends_spends chosen closed h = subst (Spends first now chosen no_state x) total (f.along chosen closed h).spends

@@ -30,7 +30,7 @@ abbrev pub goal_charge : {V : Type 0} → List Condition → ℕ → List (Step 
 goal_charge set c [] = 0
 goal_charge set c (x ∷ xs) = step_charge set c x + goal_charge set c xs
 
--- ---- while the steps are gone over
+-- ---- while the steps on which a goal depends are gone over
 
 -- a bit that may be missing: it is a term; it is chosen; it has this truth, and d where it is missing
 abbrev pub MaybeTerm : Stored → Option TermId → Type 0
@@ -77,10 +77,25 @@ when_violated t b = record { clear = t.clear && not b; found = t.found }
 abbrev pub when_hit : Truths → Bool → Truths
 when_hit t b = record { clear = t.clear; found = t.found || (t.clear && b) }
 
--- after a step whose test is b
-abbrev pub next : {V : Type 0} → List Condition → ℕ → Truths → Step V → Bool → Truths
-next set c t (Broken k v) b = if has set k then when_violated t b else t
-next set c t (Hit j v) b = if nat_eq j c then when_hit t b else t
+-- after a step on which the goal depends, whose test is b
+abbrev pub next : {V : Type 0} → Truths → Step V → Bool → Truths
+next t (Broken k v) b = when_violated t b
+next t (Hit j v) b = when_hit t b
+
+-- whether the first event is a hit: where goals depend on each event, no violation stands before it
+abbrev pub is_hit_first : List ListedEvent → Bool
+is_hit_first [] = false
+is_hit_first (is_violated k ∷ t) = false
+is_hit_first (is_hit j ∷ t) = true
+
+-- what the steps on which a goal depends may add to its cost
+abbrev pub full_charge : {V : Type 0} → Step V → ℕ
+full_charge (Broken k v) = 3
+full_charge (Hit j v) = 6
+
+abbrev pub full_charges : {V : Type 0} → List (Step V) → ℕ
+full_charges [] = 0
+full_charges (x ∷ xs) = full_charge x + full_charges xs
 
 -- a choice of the old store grows by a state of the new one, for at most n more; the operator that will join what was
 -- found is counted with it

@@ -5,3 +5,4 @@ pub mod Laws
 pub mod Goals
 pub mod Earlier
 pub mod Maps
+pub mod Matters

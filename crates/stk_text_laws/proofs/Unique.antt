@@ -30,7 +30,7 @@ use Rattle.stk_spent_queries.specs.Spent.{spent_at}
 use Rattle.stk_unit_lines.specs.UnitLines.{one_judged, skip_line, function_lines, AreFindingsOf, IsUnitLines, accepted, refused, unjudged, judged}
 use Rattle.stk_unit_lines.specs.Marks.{lines_marks}
 use Rattle.stk_text_laws.specs.Texts.{AreNarrow, HasNarrowFunctions}
-use Rattle.stk_lint.specs.Form.{written_records, written_summary}
+use Rattle.stk_records.specs.Form.{written_records, written_summary}
 use Rattle.stk_lint.specs.LawfulText.{body_of_piece, tokens_of_piece, AreUnitsLines, no_unit, then_unit, status_of, IsLawfulText}
 use Rattle.stk_text_laws.proofs.Accepted.{one_tree, one_left, not_both, one_accepted, one_cause}
 

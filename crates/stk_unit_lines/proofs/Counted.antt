@@ -23,19 +23,19 @@ pub record AreAtMost (n : ℕ) (counts : Counts) : Type 0 where
   pub undecided : counts.undecided ≤ n
   pub skipped : counts.skipped ≤ n
 
-length_same : (q : Subject) (cs : List Candidate) (xs : List Finding) → AreLawful q cs xs → length xs ≡ length cs
+pub length_same : (q : Subject) (cs : List Candidate) (xs : List Finding) → AreLawful q cs xs → length xs ≡ length cs
 length_same q [] [] p = refl
 length_same q [] (y ∷ ys) p = absurd p
 length_same q (d ∷ ds) [] p = absurd p
 length_same q (d ∷ ds) (y ∷ ys) p = ap suc (length_same q ds ys p.1)
 
-few_reports : (xs : List Finding) → unstable_count xs ≤ length xs
+pub few_reports : (xs : List Finding) → unstable_count xs ≤ length xs
 few_reports [] = omega arith
 few_reports (Clear ∷ xs) = omega (arith, few_reports xs)
 few_reports (Unstable start needs ∷ xs) = omega (arith, few_reports xs)
 few_reports (Undecided phase ∷ xs) = omega (arith, few_reports xs)
 
-few_open : (xs : List Finding) → undecided_count xs ≤ length xs
+pub few_open : (xs : List Finding) → undecided_count xs ≤ length xs
 few_open [] = omega arith
 few_open (Clear ∷ xs) = omega (arith, few_open xs)
 few_open (Unstable start needs ∷ xs) = omega (arith, few_open xs)

@@ -1,5 +1,6 @@
 -- Each unit has lines.
-use Rattle.std.proofs.Common.{◌≡◌, ℕ, ◌<◌, Bool, List, [], ◌∷◌, length, Option, Some, None, refl, arith}
+use Rattle.std.proofs.Common.{◌≡◌, ℕ, ◌<◌, ◌⊎◌, inl, inr, Bool, List, [], ◌∷◌, length, Option, Some, None, Result, Ok, Err, refl, sym, subst, arith}
+use Rattle.std.specs.Prelude.{OnErr}
 use Rattle.stk_lex.specs.declared.token.Token.{Token}
 use Rattle.stk_ctype.specs.declared.symbol.NameEntry.{NameEntry}
 use Rattle.stk_tree.specs.Syntax.{UnitTree}
@@ -12,6 +13,9 @@ use Rattle.stk_records.specs.declared.counts.Counts.{Counts}
 use Rattle.stk_records.specs.declared.line.Cause.{Cause}
 use Rattle.stk_records.specs.declared.line.Line.{Line}
 use Rattle.stk_records.specs.Counts.{nothing_counted}
+use Rattle.stk_records.specs.declared.options.Options.{Options}
+use Rattle.stk_records.specs.Form.{written_records}
+use Rattle.stk_records.proofs.Written.{no_prefix}
 use Rattle.stk_type_laws.specs.Orderly.{AreOrderly}
 use Rattle.stk_run_laws.proofs.GatheredLaws.{what_suffices_in_paths_suffices}
 use Rattle.stk_finding_laws.proofs.Paths.{function_findings}
@@ -19,6 +23,7 @@ use Rattle.stk_spent_queries.specs.Spent.{spent_at}
 use Rattle.stk_unit_lines.specs.Functions.{unit_typing}
 use Rattle.stk_unit_lines.specs.Causes.{cause_of, body_cause}
 use Rattle.stk_unit_lines.specs.UnitLines.{one_skipped, one_judged, skip_line, function_lines, IsUnitLines, accepted, refused, unjudged, judged}
+use Rattle.stk_unit_lines.specs.Wrote.{HasStopped, WroteUnitPrefix}
 use Rattle.stk_unit_lines.proofs.Measures.{small}
 use Rattle.stk_unit_lines.proofs.Typed.{stays_orderly, typed_well}
 
@@ -53,3 +58,18 @@ module _ (bytes : List ℕ) (without : Kinds) (budget : ℕ) (mark : Bool) (es :
         | is_accepted u now h ↦ lines_of_tree t ts u now h
         | is_refused cause now h ↦ record { lines = skip_line bytes t.span.from (cause_of bytes cause) ∷ []; counts = one_skipped; now = now; is = refused cause h }
       ]
+
+-- ---- what a sink took where the writing of a unit stopped
+
+module _ (bytes : List ℕ) (o : Options) (mark : Bool) (es : List NameEntry) (body : Option ℕ) (tokens : List Token) where
+  -- nothing is a prefix of what may be written of a unit
+  pub no_unit_prefix : (before : Option (List ℕ)) → AreOrderly es → 0 < length tokens → WroteUnitPrefix bytes o mark es body tokens before before
+  no_unit_prefix before orderly some =
+      let unit = lines_of_unit bytes o.without o.budget mark es body orderly tokens some in
+      record { lines = unit.lines; counts = unit.counts; now = unit.now; are = unit.is; written = no_prefix before (written_records o unit.lines) }
+
+  pub unit_stopped : {T E : Type 0} (before after : Option (List ℕ)) (now : List NameEntry) → AreOrderly es → 0 < length tokens → (r : Result T E)
+      → OnErr r (HasStopped (λ lines counts. IsUnitLines bytes o.without o.budget mark es body tokens lines counts now) o before after) → OnErr r (WroteUnitPrefix bytes o mark es body tokens before after)
+  unit_stopped before after now orderly some (Ok x) h = tt
+  unit_stopped before after now orderly some (Err e) (inl same) = subst (λ (u : Option (List ℕ)). WroteUnitPrefix bytes o mark es body tokens before u) (sym same) (no_unit_prefix before orderly some)
+  unit_stopped before after now orderly some (Err e) (inr w) = record { lines = w.lines; counts = w.counts; now = now; are = w.are; written = w.written }

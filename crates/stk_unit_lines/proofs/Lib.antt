@@ -6,3 +6,5 @@ pub mod Made
 pub mod Exists
 pub mod Counted
 pub mod Marked
+pub mod Taking
+pub mod Judging

@@ -2,7 +2,7 @@
 use Rattle.std.proofs.Common.{◌≡◌, ℕ, ◌<◌, ◌≤◌, ◌+◌, ◌^◌, Bool, false, List, [], ◌∷◌, ◌++◌, length, take, drop, get_or, Option, Some, None, Result, Ok, Err, IfOk, refl, sym, ap, subst, ◌∙◌, arith}
 use Rattle.stk_lex.specs.declared.token.Token.{Token}
 use Rattle.stk_grammar.specs.Lexemes.{lexeme_of, spans_of}
-use Rattle.std.proofs.lemmas.List.{length-map, take_more}
+use Rattle.std.proofs.lemmas.List.{length-append, length-map}
 use Rattle.stk_ctype.specs.declared.symbol.NameEntry.{NameEntry}
 use Rattle.stk_tree.specs.declared.node.Node.{Node}
 use Rattle.stk_tree.specs.Syntax.{UnitTree, FunctionTree}
@@ -27,12 +27,16 @@ use Rattle.std.proofs.lemmas.List.{append-nil}
 use Rattle.stk_numbers.specs.declared.conditions.Candidate.{Candidate}
 use Rattle.stk_meaning.specs.Typings.{Typing}
 use Rattle.stk_function_types.specs.Units.{TypedUnit}
-use Rattle.stk_function_env.specs.Settings.{FunctionPlaces}
+use Rattle.stk_function_types.specs.Nodes.{typing_in}
+use Rattle.stk_function_env.specs.Settings.{FunctionPlaces, setting_in}
+use Rattle.stk_meaning.specs.Keys.{setting_of}
+use Rattle.stk_meaning.specs.Weights.{weight}
 use Rattle.stk_unit_lines.specs.Placed.{Placed}
 use Rattle.stk_unit_lines.specs.Lines.{finding_lines, findings_lines}
 use Rattle.stk_unit_lines.specs.Functions.{is_definition, IsDefinition}
-use Rattle.stk_unit_lines.specs.Causes.{cause_of, body_cause}
-use Rattle.stk_unit_lines.specs.UnitLines.{unstable_count, undecided_count, one_skipped, skip_line, IsUnitLines, accepted, refused, unjudged, judged}
+use Rattle.stk_unit_lines.specs.Causes.{cause_of, weight_cause, measured_cause, body_cause}
+use Rattle.stk_unit_lines.proofs.Measures.{measured_here}
+use Rattle.stk_unit_lines.specs.UnitLines.{unstable_count, undecided_count, one_judged, one_skipped, skip_line, IsUnitLines, accepted, refused, unjudged, judged}
 use Rattle.stk_unit_lines.specs.Parts.{IsSkipLine, IsFunctionLines, IsJudged, AreReadWell, WasAnswered}
 use Rattle.stk_type_laws.specs.Orderly.{AreOrderly}
 
@@ -105,39 +109,16 @@ undecided_more (Clear ∷ ys) x = undecided_more ys x
 undecided_more (Unstable start needs ∷ ys) x = undecided_more ys x
 undecided_more (Undecided phase ∷ ys) x = omega (arith, undecided_more ys x)
 
--- the same at a place of a list
-pub unstable_at : (xs : List Finding) (i : ℕ) (d : Finding) (n r : ℕ) → i < length xs → n ≡ unstable_count (take i xs) → r ≡ unstable_count (get_or xs i d ∷ []) → n + r ≡ unstable_count (take (i + 1) xs)
-unstable_at xs i d n r within so_far one = ap (λ k. k + r) so_far ∙ ap (λ k. unstable_count (take i xs) + k) one ∙ sym (unstable_more (take i xs) (get_or xs i d)) ∙ ap unstable_count (sym (take_more xs i d within))
-
-pub undecided_at : (xs : List Finding) (i : ℕ) (d : Finding) (n r : ℕ) → i < length xs → n ≡ undecided_count (take i xs) → r ≡ undecided_count (get_or xs i d ∷ []) → n + r ≡ undecided_count (take (i + 1) xs)
-undecided_at xs i d n r within so_far one = ap (λ k. k + r) so_far ∙ ap (λ k. undecided_count (take i xs) + k) one ∙ sym (undecided_more (take i xs) (get_or xs i d)) ∙ ap undecided_count (sym (take_more xs i d within))
-
--- ---- findings and their lines
-
-module _ (q : Placed) (ty : Typing) (f : FunctionTree) (keys : List (List ℕ)) where
-  -- the lines of one finding more
-  pub next_lines : (cs : List Candidate) (i : ℕ) (d : Candidate) (made now : List Line) (x : Finding) (xs rest : List Finding) (all : List Line) → i < length cs → made ++ findings_lines q ty f keys (drop i cs) rest ≡ all → rest ≡ x ∷ xs
-      → now ≡ made ++ finding_lines q ty f keys (get_or cs i d) x → now ++ findings_lines q ty f keys (drop (i + 1) cs) xs ≡ all
-  next_lines cs i d made now x xs rest all within h is more =
-      let e : suc i ≡ i + 1 = omega arith in
-      let here : drop i cs ≡ get_or cs i d ∷ drop (i + 1) cs = drop-cons cs i d within ∙ ap (λ n. get_or cs i d ∷ drop n cs) e in
-      ap (λ l. l ++ findings_lines q ty f keys (drop (i + 1) cs) xs) more
-      ∙ append_assoc made (finding_lines q ty f keys (get_or cs i d) x) (findings_lines q ty f keys (drop (i + 1) cs) xs)
-      ∙ ap (λ l. made ++ findings_lines q ty f keys l (x ∷ xs)) (sym here)
-      ∙ ap (λ l. made ++ findings_lines q ty f keys (drop i cs) l) (sym is)
-      ∙ h
-
-  no_lines : (cs : List Candidate) → findings_lines q ty f keys cs [] ≡ []
-  no_lines [] = refl
-  no_lines (c ∷ cs) = refl
-
-  length-zero : (xs : List Finding) → length xs ≡ 0 → xs ≡ []
-  length-zero [] e = refl
-  length-zero (x ∷ xs) e = absurd (omega (arith, e))
-
-  -- no finding is left
-  pub last_lines : (cs : List Candidate) (i : ℕ) (made : List Line) (rest : List Finding) (all : List Line) → made ++ findings_lines q ty f keys (drop i cs) rest ≡ all → length rest ≡ 0 → made ≡ all
-  last_lines cs i made rest all h empty = sym (append-nil made) ∙ ap (λ l. made ++ l) (sym (no_lines (drop i cs))) ∙ ap (λ l. made ++ findings_lines q ty f keys (drop i cs) l) (sym (length-zero rest empty)) ∙ h
+-- what findings count for, with one more
+pub one_more_counted : (counts : Counts) (xs : List Finding) (x : Finding) (r o : ℕ) → counts ≡ one_judged xs → r ≡ unstable_count (x ∷ []) → o ≡ undecided_count (x ∷ [])
+    → record { functions = counts.functions; candidates = counts.candidates + 1; unstable = counts.unstable + r; undecided = counts.undecided + o; skipped = counts.skipped } ≡ one_judged (xs ++ x ∷ [])
+one_more_counted counts xs x r o same reports undecided =
+    let a : counts.functions ≡ 1 = ap (λ k. k.functions) same in
+    let b : counts.candidates + 1 ≡ length (xs ++ x ∷ []) = omega (arith, ap (λ k. k.candidates) same, length-append xs (x ∷ [])) in
+    let d : counts.unstable + r ≡ unstable_count (xs ++ x ∷ []) = omega (arith, ap (λ k. k.unstable) same, reports, unstable_more xs x) in
+    let f : counts.undecided + o ≡ undecided_count (xs ++ x ∷ []) = omega (arith, ap (λ k. k.undecided) same, undecided, undecided_more xs x) in
+    let h : counts.skipped ≡ 0 = ap (λ k. k.skipped) same in
+    λ i. record { functions = a i; candidates = b i; unstable = d i; undecided = f i; skipped = h i }
 
 -- a line with the cause, where there is one
 pub cause_line : (bytes b : List ℕ) (without : Kinds) (budget : ℕ) (now : List NameEntry) (tokens : List Token) (u : UnitTree) (f : FunctionTree) (o : Option Cause) (cause : Cause) (lines : List Line) (counts : Counts) → b ≡ bytes → o ≡ Some cause
@@ -150,3 +131,15 @@ pub judged_lines : (f : FunctionTree) (p : FunctionPlaces) (t : TypedUnit) (with
 judged_lines f p t without budget tokens o lines counts same kinds none j =
     subst (λ m. IsFunctionLines t.bytes without budget t.entries tokens (view_unit t.unit) f m lines counts) (sym none)
     (subst (λ w. IsJudged t.bytes w budget t.entries (view_unit t.unit) f lines counts) kinds (subst (λ (x : TypedUnit). IsJudged x.bytes p.without budget x.entries (view_unit x.unit) f lines counts) same j))
+
+module _ (f : FunctionTree) (p : FunctionPlaces) (t : TypedUnit) (without : Kinds) (budget : ℕ) where
+  -- the same at a weight that has a cause, and at one that has none
+  pub skip_lines : (bytes : List ℕ) (tokens : List Token) (found : Option Cause) (cause : Cause) → IsDefinition (view_unit t.unit) f → bytes ≡ t.bytes → setting_in p ≡ setting_of (typing_in t) without f → p.types ≡ t → found ≡ weight_cause (weight (typing_in p.types) p.without f) → found ≡ Some cause
+      → (lines : List Line) (counts : Counts) → IsSkipLine bytes tokens cause lines counts → IsFunctionLines t.bytes without budget t.entries tokens (view_unit t.unit) f (measured_cause (typing_in t) without (view_unit t.unit)) lines counts
+  skip_lines bytes tokens found cause is same setting types here because lines counts line =
+      cause_line t.bytes bytes without budget t.entries tokens (view_unit t.unit) f (measured_cause (typing_in t) without (view_unit t.unit)) cause lines counts same (measured_here f p t without found is setting types here ∙ because) line
+
+  pub judged_here : (tokens : List Token) (found : Option Cause) → IsDefinition (view_unit t.unit) f → setting_in p ≡ setting_of (typing_in t) without f → p.types ≡ t → found ≡ weight_cause (weight (typing_in p.types) p.without f) → found ≡ None
+      → (lines : List Line) (counts : Counts) → IsJudged p.types.bytes p.without budget p.types.entries (view_unit p.types.unit) f lines counts → IsFunctionLines t.bytes without budget t.entries tokens (view_unit t.unit) f (measured_cause (typing_in t) without (view_unit t.unit)) lines counts
+  judged_here tokens found is setting types here none lines counts j =
+      judged_lines f p t without budget tokens (measured_cause (typing_in t) without (view_unit t.unit)) lines counts types (ap (λ g. g.without) setting) (measured_here f p t without found is setting types here ∙ none) j

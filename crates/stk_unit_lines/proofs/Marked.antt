@@ -33,7 +33,7 @@ module _ (q : Placed) (ty : Typing) (f : FunctionTree) (keys : List (List ℕ)) 
   needed_same [] = refl
   needed_same (n ∷ ns) = omega (arith, shown_same n.shown, needed_same ns)
 
-  finding_same : (c : Candidate) (x : Finding) → lines_marks (finding_lines q ty f keys c x) ≡ marks x
+  pub finding_same : (c : Candidate) (x : Finding) → lines_marks (finding_lines q ty f keys c x) ≡ marks x
   finding_same c finding.Clear = refl
   finding_same c (finding.Unstable start needs) = omega (arith, needed_same needs)
   finding_same c (finding.Undecided phase) = refl

@@ -74,6 +74,11 @@ measured_here f p t without o d e same is =
     ∙ (λ i. weight_cause (weight (typing_in (sym same i)) (kinds i) f))
     ∙ sym is
 
+-- the cause is that of the function's weight, by the weight that was found
+pub weighed : (f : FunctionTree) (p : FunctionPlaces) (t : TypedUnit) (w : ℕ) (o : Option Cause) → IsDefinition (view_unit t.unit) f → p.types ≡ t → o ≡ weight_cause w
+    → ((other : FunctionTree) → IsDefinition (view_unit p.types.unit) other → w ≡ weight (typing_in p.types) p.without other) → o ≡ weight_cause (weight (typing_in p.types) p.without f)
+weighed f p t w o d same is known = is ∙ ap weight_cause (known f (subst (λ (x : TypedUnit). IsDefinition (view_unit x.unit) f) (sym same) d))
+
 -- a function without a cause isn't too heavy
 pub light : (w : ℕ) → weight_cause w ≡ None → w ≤ most_weight
 light w = on (nat_lt most_weight w) _ refl where

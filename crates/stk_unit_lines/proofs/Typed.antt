@@ -1,5 +1,5 @@
--- The trees of accepted functions are typed and kinded, and their numbers have the bits of their types, so what suffices
--- in path runs suffices in every execution; and units leave orderly names.
+-- The trees of accepted functions are typed and kinded, and their numbers have the bits of their types, so what
+-- suffices in path runs suffices in every execution; and units leave orderly names.
 use Rattle.std.proofs.Common.{◌≡◌, ℕ, Bool, List, [], ◌∷◌, take, Option, Some, None, refl, sym, ap, subst}
 use Rattle.stk_lex.specs.declared.token.Token.{Token}
 use Rattle.stk_grammar.specs.Lexemes.{spans_of}
@@ -18,6 +18,7 @@ use Rattle.stk_meaning.specs.Keys.{setting_of, function_visits}
 use Rattle.stk_run_laws.specs.Visits.{EachVisit}
 use Rattle.stk_run_laws.specs.TypedTree.{IsTypedTree}
 use Rattle.stk_run_laws.proofs.GatheredLaws.{what_suffices_in_paths_suffices}
+use Rattle.stk_finding_laws.proofs.Paths.{function_findings}
 use Rattle.stk_type_laws.proofs.Whole.{accepted_trees_are_typed}
 use Rattle.stk_type_rules.specs.Facts.{Fact}
 use Rattle.stk_type_rules.specs.Outcome.{Good}
@@ -65,6 +66,29 @@ module _ (ty : Typing) (without : Kinds) (f : FunctionTree) (budget : ℕ) (type
   all_whole [] (x ∷ xs) h = absurd h
   all_whole (c ∷ cs) [] h = absurd h
   all_whole (c ∷ cs) (x ∷ xs) h = (whole c x h.0, all_whole cs xs h.1)
+
+  partly : Agrees (function_subject ty without f (spent_at ty without f budget)) (searched_subject ty without f budget)
+  partly = record {
+    maps = λ xs v. v;
+    back = λ xs v. v;
+    before = λ xs ys q p b. b;
+    run = λ xs v. refl;
+    conditions = refl;
+    all = refl;
+    spent = λ c set h. h;
+  }
+
+  all_parts : (cs : List Candidate) (xs : List Finding) → AreLawful (function_subject ty without f (spent_at ty without f budget)) cs xs → AreLawful (searched_subject ty without f budget) cs xs
+  all_parts [] [] h = tt
+  all_parts [] (x ∷ xs) h = absurd h
+  all_parts (c ∷ cs) [] h = absurd h
+  all_parts (c ∷ cs) (x ∷ xs) h = (lawful (function_subject ty without f (spent_at ty without f budget)) (searched_subject ty without f budget) partly c (λ set u never. tt) x h.0, all_parts cs xs h.1)
+
+  -- candidates have findings that are lawful by path runs
+  pub have_findings : (cs : List Candidate) → (xs : List Finding) × AreLawful (searched_subject ty without f budget) cs xs
+  have_findings cs =
+      let found = function_findings ty without f (spent_at ty without f budget) (λ c set. what_suffices_in_paths_suffices ty without f typed c set) cs in
+      (found.0, all_parts cs found.0 found.1)
 
 -- ---- names
 

@@ -9,3 +9,4 @@ pub mod Causes
 pub mod UnitLines
 pub mod Parts
 pub mod Marks
+pub mod Wrote

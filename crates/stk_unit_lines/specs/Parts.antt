@@ -5,6 +5,7 @@ use Rattle.stk_ctype.specs.declared.symbol.NameEntry.{NameEntry}
 use Rattle.stk_tree.specs.Syntax.{UnitTree, FunctionTree}
 use Rattle.stk_tree.specs.Nodes.{unit_nodes}
 use Rattle.stk_tree.specs.View.{view_unit}
+use Rattle.stk_numbers.specs.declared.conditions.Candidate.{Candidate}
 use Rattle.stk_numbers.specs.declared.conditions.Kinds.{Kinds}
 use Rattle.stk_type_rules.specs.Facts.{Fact}
 use Rattle.stk_type_rules.specs.Outcome.{Good}
@@ -16,6 +17,7 @@ use Rattle.stk_meaning.specs.Typings.{Typing}
 use Rattle.stk_meaning.specs.Keys.{setting_of, function_visits}
 use Rattle.stk_type_laws.specs.Orderly.{AreOrderly}
 use Rattle.stk_meaning.specs.declared.finding.Finding.{Finding}
+use Rattle.stk_meaning.specs.Findings.{Subject, AreLawful}
 use Rattle.stk_function_types.specs.Units.{unit_typed}
 use Rattle.stk_accept.specs.declared.accepting.Accepted.{Accepted}
 use Rattle.stk_accept.specs.declared.accepting.Accepted.TheVariants as accepted
@@ -23,7 +25,8 @@ use Rattle.stk_accept.specs.Accepting.{beginning, Accepts}
 use Rattle.stk_nodes.specs.Rows.{unit_row}
 use Rattle.stk_typed.specs.declared.untyped.Untyped.{Untyped}
 use Rattle.stk_typed.specs.declared.untyped.Untyped.TheVariants as untyped
-use Rattle.stk_unit_lines.specs.Lines.{spot_at}
+use Rattle.stk_unit_lines.specs.Lines.{spot_at, findings_lines}
+use Rattle.stk_unit_lines.specs.Placed.{Placed}
 use Rattle.stk_records.specs.declared.counts.Counts.{Counts}
 use Rattle.stk_records.specs.declared.line.Cause.{Cause}
 use Rattle.stk_records.specs.declared.line.Cause.TheVariants.{Rule, Nodes}
@@ -41,6 +44,13 @@ pub record IsJudged (bytes : List ℕ) (without : Kinds) (budget : ℕ) (now : L
   pub findings : List Finding
   pub lawful : AreFindingsOf bytes without budget now u f findings
   pub same_lines : lines ≡ function_lines bytes without now u f findings
+  pub same_counts : counts ≡ one_judged findings
+
+-- the lines and the counts of lawful findings for candidates, by what findings speak of
+pub record AreFindingLines (subject : Subject) (q : Placed) (ty : Typing) (f : FunctionTree) (keys : List (List ℕ)) (cs : List Candidate) (lines : List Line) (counts : Counts) : Type 0 where
+  pub findings : List Finding
+  pub lawful : AreLawful subject cs findings
+  pub same_lines : lines ≡ findings_lines q ty f keys cs findings
   pub same_counts : counts ≡ one_judged findings
 
 -- the lines and the counts of a function: a line with the cause, where it has one, and else those of lawful findings

@@ -1,7 +1,10 @@
-//! The lines of a unit: how its keys are spelled, the lines of its findings, and the lines of a unit that is skipped.
+//! The lines of a unit: how its keys are spelled, the lines of its findings, each written as soon as its candidate is
+//! judged, and the lines of a unit that is skipped.
 #![tactic(auto)]
 
 mod causes;
+mod counting;
+mod file;
 mod functions;
 mod lines;
 mod names;
@@ -9,6 +12,7 @@ mod replaced;
 mod texts;
 mod units;
 
+pub use file::LintedFile;
 pub use names::{Named, names_of};
 pub use texts::key_texts;
-pub use units::{UnitLines, unit_lines};
+pub use units::write_unit;

@@ -1,8 +1,11 @@
 //! The lines of findings.
 
-ghost use Rattle.std.specs.Prelude.{◌≡◌, ◌++◌, ◌∷◌, [], IfOk, OnOk, map, true};
+ghost use Rattle.std.specs.Prelude.{◌≡◌, ◌≤◌, Err, IfOk, OnOk, OnErr, map, true};
 ghost use Rattle.std.specs.Option.{option_map};
+ghost use Rattle.stk_base.specs.Causes.{Rose};
+ghost use Rattle.stk_base.specs.Streams.{Appended, AppendedPrefix};
 ghost use Rattle.stk_base.specs.Text.{text_of};
+ghost use Rattle.stk_records.specs.Form.{written_records};
 ghost use Rattle.stk_records.specs.declared.line.Line.TheVariants as lines;
 ghost use Rattle.stk_tree.specs.View.{view_declarator, view_function};
 ghost use Rattle.stk_meaning.specs.Keys.{function_visits};
@@ -11,14 +14,15 @@ ghost use Rattle.stk_function_types.specs.Visits.{marked_visit, marked_visits};
 ghost use Rattle.stk_unit_lines.specs.Placed.{placed_in};
 ghost use Rattle.stk_unit_lines.specs.Lines.{spot_at, node_spot, claim_by, declarator_name, fragment_of, inputs_of, start_of, needed_of, finding_lines};
 
+use crate::LintedFile;
 use crate::replaced::replaced_at;
 use std::alloc::Global;
-use stk_base::{List, NoMemory, Span};
+use stk_base::{List, NoMemory, Sink, Span};
 use stk_function_types::{FunctionTypes, Visit};
 use stk_lex::Places;
 use stk_meaning::{Finding, Need};
 use stk_numbers::{CandKind, Candidate, Inputs};
-use stk_records::{Claim, Fragment, Input, Line, Needed, Spot, StartInputs};
+use stk_records::{Claim, Fragment, Input, Line, Needed, Spot, StartInputs, Stop, write_record};
 use stk_tree::{Declr, Function};
 
 /// What the lines of a function's findings tell of it: its input, its types, itself, its visits, and how its keys are
@@ -223,33 +227,35 @@ fn report_of(
     })
 }
 
-/// Puts the line of a finding for a candidate behind others: none of a clear one. The input is the one that the types
-/// speak of, and the visits are the function's.
-pub(crate) fn push_finding(
-    alloc: Global,
+/// Writes the record of a finding for a candidate: none of a clear one. The input is the one that the types speak of,
+/// and the visits are the function's.
+pub(crate) fn write_finding<K: Sink>(
+    file: &LintedFile,
     told: &Told,
     candidate: Candidate,
     finding: &Finding,
-    out: &mut Vec<Line>,
-) -> Result<(), NoMemory>
+    out: &mut K,
+) -> Result<(), Stop>
     requires input { told.now.input.now ≡ told.now.types.now.bytes }
     requires visits { map marked_visit told.now.visits.now ≡ marked_visits true (function_visits (typing_in told.now.types.now) (view_function told.now.function.now)) }
-    ensures { OnOk result (out.new.items ≡ out.old.items ++ finding_lines (placed_in told.now.types.now) (typing_in told.now.types.now) (view_function told.now.function.now) told.now.keys.now candidate finding.now) }
+    ensures all { OnOk result (Appended (K.taken out.old) (K.taken out.new) (written_records file.now.options (finding_lines (placed_in told.now.types.now) (typing_in told.now.types.now) (view_function told.now.function.now) told.now.keys.now candidate finding.now))) }
+    ensures prefix { OnErr result (AppendedPrefix (K.taken out.old) (K.taken out.new) (written_records file.now.options (finding_lines (placed_in told.now.types.now) (typing_in told.now.types.now) (view_function told.now.function.now) told.now.keys.now candidate finding.now))) }
+    ensures later { K.faults out.old ≤ K.faults out.new }
+    ensures fault { result ≡ Err Stop.WriteFault → Rose (K.faults out.old) (K.faults out.new) }
 {
     match finding {
         Finding::Clear => Ok(()),
         Finding::Unstable { start, needs } => {
-            let line = report_of(alloc, told, candidate, start, needs.as_slice())?;
-            out.push(line)?;
-            Ok(())
+            let line = report_of(file.alloc, told, candidate, start, needs.as_slice())?;
+            write_record(file.alloc, file.options, &line, out)
         }
         Finding::Undecided { phase } => {
-            let fragment = fragment_of(alloc, told, candidate)?;
-            out.push(Line::Undecided {
+            let fragment = fragment_of(file.alloc, told, candidate)?;
+            let line = Line::Undecided {
                 fragment,
                 phase: *phase,
-            })?;
-            Ok(())
+            };
+            write_record(file.alloc, file.options, &line, out)
         }
     }
 }

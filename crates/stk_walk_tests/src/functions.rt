@@ -72,6 +72,7 @@ fn visit_function<V: Visitor>(
         function: f,
         candidates: list.as_slice(),
         conditions: all.as_slice(),
+        budget: 20_000,
     };
     visitor.visit(alloc, &searched)
 }

@@ -32,8 +32,9 @@ pub record IsSearched (t : Tables) (f : FunctionTree) : Type 0 where
   pub cheap : function_spent (typing_in t.places.types) t.places.without f + 16 * (function_nodes f + 1) ≤ weight (typing_in t.places.types) t.places.without f
   pub light : weight (typing_in t.places.types) t.places.without f ≤ most_weight
 
--- What is known of a function that is judged: its tree is typed and kinded, whichever kinds of conditions are taken out,
--- and numbers have the bits of their types; the tables are the function's, and know its loops; and it isn't too heavy.
+-- What is known of a function that is judged: its tree is typed and kinded, whichever kinds of conditions are taken
+-- out, and numbers have the bits of their types; the tables are the function's, and know its loops; and it isn't too
+-- heavy.
 pub record IsTypedFunction (t : Tables) (f : FunctionTree) : Type 0 where
   pub typed : IsTypedTree (typing_in t.places.types) t.places.without f
   pub kinded : KindedFunction (setting_of (typing_in t.places.types) t.places.without f) f

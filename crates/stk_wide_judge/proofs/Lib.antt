@@ -5,3 +5,4 @@ pub mod Deleting
 pub mod Settling
 pub mod Skipping
 pub mod Tracing
+pub mod Undecided

@@ -37,7 +37,7 @@ fn nth_round<Q: Questions, D: Decider>(
     requires about { Q.about questions.old ≡ asked_in function.now.tables.now (view_function function.now.f.now) }
     requires placed { IsPlaced (asked_in function.now.tables.now (view_function function.now.f.now)) asked.position asked.candidate }
     requires known { AreKnown (asked_in function.now.tables.now (view_function function.now.f.now)) known.old.starts.items known.old.table }
-    ensures found { IfOk result (IsRound (asked_in function.now.tables.now (view_function function.now.f.now)) asked.candidate) }
+    ensures found { IfOk result (IsRound (asked_in function.now.tables.now (view_function function.now.f.now)) (Q.spent questions.old) (D.given_up decider.old) (D.given_up decider.new) asked.candidate) }
     ensures known { OnOk result (AreKnown (asked_in function.now.tables.now (view_function function.now.f.now)) known.new.starts.items known.new.table) }
     ensures later { IsLater (Q.about questions.old) (Q.about questions.new) (Q.spent questions.old) (Q.spent questions.new) (D.given_up decider.old) (D.given_up decider.new) }
 {
@@ -61,7 +61,7 @@ fn by_guesses<Q: Questions, D: Decider>(
     requires about { Q.about questions.old ≡ asked_in function.now.tables.now (view_function function.now.f.now) }
     requires placed { IsPlaced (asked_in function.now.tables.now (view_function function.now.f.now)) asked.position asked.candidate }
     requires known { AreKnown (asked_in function.now.tables.now (view_function function.now.f.now)) known.old.starts.items known.old.table }
-    ensures found { IfOk result (IsFoundOr (asked_in function.now.tables.now (view_function function.now.f.now)) asked.candidate) }
+    ensures found { IfOk result (IsFoundOr (asked_in function.now.tables.now (view_function function.now.f.now)) (Q.spent questions.old) (D.given_up decider.old) (D.given_up decider.new) asked.candidate) }
     ensures known { OnOk result (AreKnown (asked_in function.now.tables.now (view_function function.now.f.now)) known.new.starts.items known.new.table) }
     ensures later { IsLater (Q.about questions.old) (Q.about questions.new) (Q.spent questions.old) (Q.spent questions.new) (D.given_up decider.old) (D.given_up decider.new) }
 {
@@ -80,9 +80,10 @@ fn by_guesses<Q: Questions, D: Decider>(
 /// condition to the least. Where a known start hits the candidate free of all conditions, nothing is asked. Else the
 /// set is guessed from the known starts, and one query says whether the guess is right; a start that refutes it joins
 /// the known ones, up to 32 times, and the fourth query asks for one that is free of all conditions. Where that doesn't
-/// lead to a finding, the queries of the definition are asked that no known start answers. Queries that the finding
-/// says were given up are at most as many as those that were counted as given up, or the count stands at its last
-/// value. The only refusal is want of memory, after which nothing is known.
+/// lead to a finding, the queries of the definition are asked that no known start answers. Where the query for all
+/// conditions, or for none, was given up once, it isn't asked again. Queries that the finding says were given up are at
+/// most as many as those that were counted as given up, or the count stands at its last value. The only refusal is want
+/// of memory, after which nothing is known.
 pub fn judge_candidate<Q: Questions, D: Decider>(
     function: &JudgedFunction,
     questions: &mut Q,

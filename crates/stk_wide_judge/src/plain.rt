@@ -17,8 +17,8 @@ use stk_meaning::{Finding, Need, Phase};
 use stk_numbers::{Condition, Inputs};
 use stk_query::Decider;
 
-// A query: looked up among the known starts, and else asked. A start that is found joins them.
-fn answered<Q: Questions, D: Decider>(
+/// A query: looked up among the known starts, and else asked. A start that is found joins them.
+pub(crate) fn answered<Q: Questions, D: Decider>(
     function: &JudgedFunction,
     questions: &mut Q,
     decider: &mut D,

@@ -10,24 +10,26 @@ ghost use Rattle.stk_judge.specs.PathTables.{AreTablesOf};
 ghost use Rattle.stk_wide_judge.specs.Wide.{AskedFunction, asked_in, asked_subject, never_spent, IsPlaced};
 ghost use Rattle.stk_wide_judge.specs.Answers.{IsLater};
 ghost use Rattle.stk_wide_judge.specs.Starts.{AreKnown};
-ghost use Rattle.stk_wide_judge.specs.Rounds.{IsDecided, IsRound};
+ghost use Rattle.stk_wide_judge.specs.Rounds.{IsDecided, IsRound, finding_after};
 
 use crate::guessing::{guess, members_of};
+use crate::plain::answered;
 use crate::{AskedCandidate, JudgedFunction, Known, QueryAnswer, Questions};
 use std::alloc::Global;
 use stk_base::{List, NoMemory};
 use stk_judge::Row;
-use stk_meaning::{Finding, Need};
+use stk_meaning::{Finding, Need, Phase};
 use stk_query::Decider;
 
 /// What the question of a round leads to.
 #[derive(Drop)]
 pub(crate) enum Round {
-    /// The guess is right, or the known starts decide by themselves.
+    /// The guess is right, the known starts decide by themselves, or what was given up is a query of the definition,
+    /// for all conditions or for none, that decides.
     Found(Finding),
     /// A start that was found refutes the guess, or no start is free of all conditions: there is another round.
     Refuted,
-    /// Its query was given up, or no further start is kept.
+    /// Its query was given up and is for some of the conditions, or no further start is kept.
     Stopped,
 }
 
@@ -47,8 +49,20 @@ fn settled(
     }
 }
 
+// The finding where the query whether any start hits the candidate was given up, by the answer to that for all
+// conditions.
+fn after_hit(answer: &QueryAnswer) -> Finding
+    ensures { result ≡ finding_after answer.now }
+{
+    match answer {
+        QueryAnswer::Start(_) => Finding::Clear,
+        QueryAnswer::Never => Finding::Undecided { phase: Phase::Hit },
+        QueryAnswer::GivenUp => Finding::Undecided { phase: Phase::Free },
+    }
+}
+
 /// The question whether some start hits the candidate with nothing violated before. Where there is one it is kept, and
-/// shows in the next round that the candidate is clear.
+/// shows in the next round that the candidate is clear. Where it is given up, the candidate is undecided.
 pub(crate) fn free_round<Q: Questions, D: Decider>(
     function: &JudgedFunction,
     questions: &mut Q,
@@ -60,7 +74,7 @@ pub(crate) fn free_round<Q: Questions, D: Decider>(
     requires about { Q.about questions.old ≡ asked_in function.now.tables.now (view_function function.now.f.now) }
     requires placed { IsPlaced (asked_in function.now.tables.now (view_function function.now.f.now)) asked.position asked.candidate }
     requires known { AreKnown (asked_in function.now.tables.now (view_function function.now.f.now)) known.old.starts.items known.old.table }
-    ensures found { IfOk result (IsRound (asked_in function.now.tables.now (view_function function.now.f.now)) asked.candidate) }
+    ensures found { IfOk result (IsRound (asked_in function.now.tables.now (view_function function.now.f.now)) (Q.spent questions.old) (D.given_up decider.old) (D.given_up decider.new) asked.candidate) }
     ensures known { OnOk result (AreKnown (asked_in function.now.tables.now (view_function function.now.f.now)) known.new.starts.items known.new.table) }
     ensures later { IsLater (Q.about questions.old) (Q.about questions.new) (Q.spent questions.old) (Q.spent questions.new) (D.given_up decider.old) (D.given_up decider.new) }
 {
@@ -79,11 +93,12 @@ pub(crate) fn free_round<Q: Questions, D: Decider>(
             Ok(Round::Refuted)
         }
         QueryAnswer::Never => Ok(Round::Refuted),
-        QueryAnswer::GivenUp => Ok(Round::Stopped),
+        QueryAnswer::GivenUp => Ok(Round::Found(Finding::Undecided { phase: Phase::Free })),
     }
 }
 
-/// One guess, and the question whether it is right.
+/// One guess, and the question whether it is right. Where it is given up and the guess is all conditions, the candidate
+/// is undecided; where the guess is none of them, what is left is the question for all of them.
 pub(crate) fn one_round<Q: Questions, D: Decider>(
     function: &JudgedFunction,
     questions: &mut Q,
@@ -95,7 +110,7 @@ pub(crate) fn one_round<Q: Questions, D: Decider>(
     requires about { Q.about questions.old ≡ asked_in function.now.tables.now (view_function function.now.f.now) }
     requires placed { IsPlaced (asked_in function.now.tables.now (view_function function.now.f.now)) asked.position asked.candidate }
     requires known { AreKnown (asked_in function.now.tables.now (view_function function.now.f.now)) known.old.starts.items known.old.table }
-    ensures found { IfOk result (IsRound (asked_in function.now.tables.now (view_function function.now.f.now)) asked.candidate) }
+    ensures found { IfOk result (IsRound (asked_in function.now.tables.now (view_function function.now.f.now)) (Q.spent questions.old) (D.given_up decider.old) (D.given_up decider.new) asked.candidate) }
     ensures known { OnOk result (AreKnown (asked_in function.now.tables.now (view_function function.now.f.now)) known.new.starts.items known.new.table) }
     ensures later { IsLater (Q.about questions.old) (Q.about questions.new) (Q.spent questions.old) (Q.spent questions.new) (D.given_up decider.old) (D.given_up decider.new) }
 {
@@ -119,6 +134,16 @@ pub(crate) fn one_round<Q: Questions, D: Decider>(
             let finding = settled(alloc, known, rows.as_slice(), needs)?;
             Ok(Round::Found(finding))
         }
-        QueryAnswer::GivenUp => Ok(Round::Stopped),
+        QueryAnswer::GivenUp => {
+            if set.len() == function.conditions.len() {
+                return Ok(Round::Found(Finding::Undecided { phase: Phase::Free }));
+            }
+            if set.is_empty() {
+                let all = function.conditions;
+                let answer = answered(function, questions, decider, known, asked, all)?;
+                return Ok(Round::Found(after_hit(&answer)));
+            }
+            Ok(Round::Stopped)
+        }
     }
 }

@@ -14,18 +14,18 @@ pub returns-in_err-term-clause-goals : goal.returns-in_err-term-clause-goals
 returns-in_err-term-clause-goals c =
     let places = c.args.tables.now.places in
     let e = c.in_err-term.ensures in
-    goals_stay (typing_in places.types) places.without (view_function c.args.function.now) c.args.symbols.now c.goal.new.self c.args.walked.now c.requires.goals e.kinds e.stays e.keeps
+    goals_stay (typing_in places.types) places.without (view_function c.args.function.now) c.args.symbols.now c.goal.new.self c.args.walk.now.walked c.requires.goals e.kinds e.stays e.keeps
 
 pub returns-clause-goal : goal.returns-clause-goal
 returns-clause-goal c =
     let places = c.args.tables.now.places in
     let q = c.args.query.now in
     let e = c.in_ok-term.ensures in
-    is_goal (typing_in places.types) places.without (view_function c.args.function.now) q.candidate q.set.now c.args.symbols.now c.goal.new.self c.args.walked.now q.position c.in_ok-term.term.0 c.requires.goals c.requires.at e.stays
+    is_goal (typing_in places.types) places.without (view_function c.args.function.now) q.candidate q.set.now c.args.symbols.now c.goal.new.self c.args.walk.now.walked q.position c.in_ok-term.term.0 c.requires.goals c.requires.at e.stays
     (record { value = e.value; within = e.within })
 
 pub returns-clause-goals : goal.returns-clause-goals
 returns-clause-goals c =
     let places = c.args.tables.now.places in
     let e = c.in_ok-term.ensures in
-    goals_stay (typing_in places.types) places.without (view_function c.args.function.now) c.args.symbols.now c.goal.new.self c.args.walked.now c.requires.goals e.kinds e.stays e.keeps
+    goals_stay (typing_in places.types) places.without (view_function c.args.function.now) c.args.symbols.now c.goal.new.self c.args.walk.now.walked c.requires.goals e.kinds e.stays e.keeps

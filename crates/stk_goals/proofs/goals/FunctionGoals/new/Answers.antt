@@ -3,7 +3,8 @@ use Rattle.stk_tree.specs.View.{view_function}
 use Rattle.stk_numbers.specs.declared.conditions.Candidate.{Candidate}
 use Rattle.stk_function_env.specs.Settings.{FunctionPlaces}
 use Rattle.stk_goals.proofs.Made.{kinds_made, keys_there, goals_made}
-use Rattle.stk_goals.specs.Goals.{AreNever}
+use Rattle.stk_function_types.specs.Nodes.{typing_in}
+use Rattle.stk_goals.specs.Goals.{AreGoalsOf, AreNever}
 use Rattle.stk_goals.proofs.Nevers.{none_remembered}
 use Rattle.stk_goals.proofs.goals.FunctionGoals.new.Goals as goal
 
@@ -29,7 +30,8 @@ invariant_of-result c =
     record {
       kinds_are = same;
       goals =
-          goals_made t f c.requires.searched c.in_ok-symbols.symbols c.as_slice.result.now (c.as_slice.ensures.value ∙ same) c.in_ok-symbols.ensures.kinds c.in_ok-symbols.ensures.terms now c.in_ok-walked.walked
-          (record { made = record { valid = w.tests.0; steps = w.tests.1 }; valid = w.valid; steps = w.steps; once = w.once; keeps = w.keeps }) w.listed w.cost;
-      never = subst (AreNever now.terms) (sym c.new-2.ensures.items) (none_remembered now.terms);
+          subst (AreGoalsOf (typing_in t.places.types) t.places.without f now) (sym c.in_ok-walk.ensures)
+          (goals_made t f c.requires.searched c.in_ok-symbols.symbols c.as_slice.result.now (c.as_slice.ensures.value ∙ same) c.in_ok-symbols.ensures.kinds c.in_ok-symbols.ensures.terms now c.in_ok-walked.walked
+          (record { made = record { valid = w.tests.0; steps = w.tests.1 }; valid = w.valid; steps = w.steps; once = w.once; keeps = w.keeps }) w.listed w.cost);
+      never = subst (AreNever now.terms) (sym c.new-3.ensures.items) (none_remembered now.terms);
     }
