@@ -1,0 +1,9 @@
+pub mod Texts
+pub mod KindTexts
+pub mod LineTexts
+pub mod BlockTexts
+pub mod Newlines
+pub mod PartTexts
+pub mod Examples
+pub mod ClaimTexts
+pub mod OneReading

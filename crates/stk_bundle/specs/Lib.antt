@@ -1,0 +1,10 @@
+pub mod Cuts
+pub mod Numbers
+pub mod Kinds
+pub mod Lines
+pub mod Words
+pub mod Laws
+pub mod Grammar
+pub mod Blocks
+pub mod Bundles
+pub mod Claims

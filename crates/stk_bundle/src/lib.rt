@@ -1,0 +1,26 @@
+//! The lines of bundles, as data and as text, and which line may follow which.
+#![tactic(auto)]
+
+mod block;
+mod claims;
+mod cutting;
+mod kinds;
+mod laws;
+mod line;
+mod numbers;
+mod parts;
+mod reading;
+mod stage;
+mod word;
+mod writing;
+
+pub use claims::claim_lines;
+pub use laws::{claims_stand, texts_have_one_reading};
+pub use line::BundleLine;
+pub use parts::{NextPart, Part, PartFault, Reading, next_part, read_bundle};
+pub use reading::read_line;
+pub use stage::Stage;
+pub use writing::add_line;
+
+#[cfg(test)]
+mod tests;

@@ -1,0 +1,10 @@
+pub mod Placed
+pub mod Kept
+pub mod Signed
+pub mod Meant
+pub mod Steps
+pub mod Views
+pub mod Whole
+pub mod Named
+pub mod Inputs
+pub mod Read
