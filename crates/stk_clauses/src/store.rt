@@ -87,6 +87,15 @@ impl Store {
         }
     }
 
+    /// The same clauses once more, in memory from `alloc`.
+    pub fn copied(&self, alloc: Global) -> Result<Store, NoMemory>
+        ensures { IfOk result (λ s. s ≡ self.now) }
+    {
+        let literals = Vec::from_slice(alloc, &self.literals)?;
+        let ends = Vec::from_slice(alloc, &self.ends)?;
+        Ok(Store { literals, ends })
+    }
+
     /// How many clauses there are.
     pub fn count(&self) -> u32
         ensures count { result ≡ length self.now }

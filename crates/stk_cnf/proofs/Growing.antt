@@ -1,7 +1,5 @@
 -- Clauses over edges that grow at their end.
-use Rattle.std.proofs.Common.{◌≡◌, ℕ, zero, suc, ◌+◌, ◌<◌, Bool, true, false, not, ◌&&◌, ◌||◌, List, [], ◌∷◌, ◌++◌, length, take, get_or, refl, sym, ap, ◌∙◌, subst, arith}
-use Rattle.std.proofs.Common.{Option, Some, None}
-use Rattle.std.specs.Prelude.{MatchOption, IfSome}
+use Rattle.std.proofs.Common.{◌≡◌, ℕ, zero, suc, ◌+◌, ◌<◌, Bool, true, false, not, ◌&&◌, ◌||◌, List, [], ◌∷◌, ◌++◌, length, take, get_or, refl, sym, ap, ◌∙◌, arith}
 use Rattle.std.proofs.lemmas.List.{take_more}
 use Rattle.stk_gates.specs.declared.edge.Edge.{Edge}
 use Rattle.std.proofs.Common.{slice_get, ◌-◌}
@@ -69,15 +67,6 @@ and_between false y z = refl
 pub cnf_push : (v : ℕ → Bool) (cs : List (List Lit)) (c : List Lit) → cnf_value v (cs ++ c ∷ []) ≡ cnf_value v cs && clause_value v c
 cnf_push v [] c = refl
 cnf_push v (d ∷ cs) c = ap (λ x. x && clause_value v d) (cnf_push v cs c) ∙ and_between (cnf_value v cs) (clause_value v c) (clause_value v d)
-
-pub none_case : {A : Type 0} (r : Option A) (P : Type 0) (Q : A → Type 0) → r ≡ None → MatchOption r P Q → P
-none_case r P Q e m = subst (λ o. MatchOption o P Q) e m
-
-pub some_if : {A : Type 0} (r : Option A) (x : A) (Q : A → Type 0) → r ≡ Some x → IfSome r Q → Q x
-some_if r x Q e m = subst (λ o. IfSome o Q) e m
-
-pub some_case : {A : Type 0} (r : Option A) (x : A) (P : Type 0) (Q : A → Type 0) → r ≡ Some x → MatchOption r P Q → Q x
-some_case r x P Q e m = subst (λ o. MatchOption o P Q) e m
 
 tied : (p g x y : Bool) → ((p && ((false || x) || not g)) && ((false || y) || not g)) && (((false || not y) || not x) || g) ≡ p && ties g x y
 tied true true true true = refl

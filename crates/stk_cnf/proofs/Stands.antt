@@ -1,18 +1,16 @@
 -- The clauses of named gates stand for the goal.
-use Rattle.std.proofs.Common.{◌≡◌, ◌⊎◌, ◌↔◌, ℕ, ◌+◌, ◌-◌, ◌*◌, ◌/◌, ◌<◌, ◌≤◌, Bool, true, false, ◌&&◌, List, [], ◌∷◌, length, get_or, refl, sym, ap, ◌∙◌, subst, arith, inl, inr, if◌then◌else◌, nat_lt}
-use Rattle.std.specs.List.{Contains, All}
+use Rattle.std.proofs.Common.{◌≡◌, ℕ, ◌+◌, ◌-◌, ◌*◌, ◌/◌, ◌<◌, ◌≤◌, Bool, ◌&&◌, List, [], ◌∷◌, length, get_or, refl, sym, ap, ◌∙◌, subst, arith, inl, inr, if◌then◌else◌}
+use Rattle.std.specs.List.{All}
 use Rattle.std.proofs.lemmas.Bool.{cases_lt, le-ltb, lt-ltb}
-use Rattle.std.proofs.lemmas.Option.{slice_get_within}
 use Rattle.std.proofs.lemmas.List.Elements.{Contains-get_or}
-use Rattle.stk_clauses.specs.declared.literal.Lit.{Lit}
 use Rattle.stk_clauses.specs.declared.store.Cnf.{Cnf}
-use Rattle.stk_clauses.specs.Literals.{AreBelow, Satisfies}
+use Rattle.stk_clauses.specs.Literals.{AreBelow}
 use Rattle.stk_gates.specs.declared.edge.Edge.{Edge}
 use Rattle.stk_gates.specs.Edges.{edge_value}
-use Rattle.stk_gates.specs.Tables.{Table, gate_count, IsOrdered, IsEdge, Obeys}
-use Rattle.stk_cnf.specs.Clauses.{HasName, named, all_tied, cnf_value, IsGrown}
-use Rattle.stk_cnf.specs.Marks.{IsMarked, AreMarked}
-use Rattle.stk_cnf.specs.Naming.{IsNumbering, IsClosed}
+use Rattle.stk_gates.specs.Tables.{Table, gate_count, IsOrdered, IsEdge}
+use Rattle.stk_cnf.specs.Clauses.{HasName, named, all_tied, IsGrown}
+use Rattle.stk_cnf.specs.Marks.{AreMarked}
+use Rattle.stk_cnf.specs.Naming.{IsNumbering}
 use Rattle.stk_cnf.specs.Standing.{Needs, itself, first, second, variables, StandsFor}
 use Rattle.stk_cnf.proofs.Literals.{satisfies_from, value_from}
 use Rattle.stk_cnf.proofs.Down.{needs_marked}

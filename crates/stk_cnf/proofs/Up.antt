@@ -1,7 +1,7 @@
 -- Names of the inputs and the marked AND gates, from the inputs up.
-use Rattle.std.proofs.Common.{◌≡◌, ◌≢◌, ◌⊎◌, ◌↔◌, ℕ, ◌+◌, ◌-◌, ◌*◌, ◌/◌, ◌<◌, ◌≤◌, Bool, true, false, List, [], ◌∷◌, ◌++◌, Some, length, get_or, slice_get, refl, sym, ap, ◌∙◌, subst, arith, inl, inr, length-append}
+use Rattle.std.proofs.Common.{◌≡◌, ℕ, ◌+◌, ◌-◌, ◌*◌, ◌/◌, ◌<◌, Bool, List, [], ◌∷◌, ◌++◌, Some, length, get_or, slice_get, refl, sym, ap, ◌∙◌, subst, arith, inl, inr, length-append}
 use Rattle.std.specs.List.{Contains, All}
-use Rattle.std.proofs.lemmas.Bool.{cases_eq, cases_lt, false≢true}
+use Rattle.std.proofs.lemmas.Bool.{cases_eq, cases_lt}
 use Rattle.std.proofs.lemmas.List.{get_or_append_left, get_or_at, get_or_default}
 use Rattle.std.proofs.lemmas.List.Elements.{Contains-push_cases, Contains-push, Contains-append_left, Contains-get_or}
 use Rattle.std.proofs.lemmas.Option.{slice_get_within}
@@ -9,7 +9,7 @@ use Rattle.stk_gates.specs.declared.edge.Edge.{Edge}
 use Rattle.stk_gates.specs.Tables.{Table, gate_count, IsOrdered, IsEdge}
 use Rattle.stk_cnf.specs.Clauses.{HasName}
 use Rattle.stk_cnf.specs.Marks.{IsMarked, AreMarked}
-use Rattle.stk_cnf.specs.Naming.{IsNaming, IsAmong, IsClosed, HasNames, IsNumberedTo, IsNumbering}
+use Rattle.stk_cnf.specs.Naming.{IsAmong, IsClosed, HasNames, IsNumberedTo, IsNumbering}
 
 -- a gate's name stays as names are pushed
 name_kept : (names : List ℕ) (x k : ℕ) → k < length names → get_or (names ++ x ∷ []) k 0 ≡ get_or names k 0

@@ -12,12 +12,12 @@ use crate::edges::put;
 use crate::numbering::{Numbering, numbered};
 use std::alloc::Global;
 use stk_base::NoMemory;
-use stk_clauses::{Cnf, Store};
+use stk_clauses::{Cnf, Lit, Store};
 use stk_gates::{Edge, Gates};
 
 /// Appends the three clauses that tie an AND gate to its two edges.
 fn put_gate(
-    alloc: Global,
+    clause: &mut Vec<Lit>,
     names: &[u32],
     vars: u32,
     store: &mut Store,
@@ -33,10 +33,10 @@ fn put_gate(
     ensures { OnOk result (IsGrown vars 3 store.old store.new (λ v. ties (edge_value (named names.now v) gate) (edge_value (named names.now v) a) (edge_value (named names.now v) b))) }
 {
     let not_gate = gate.inverted();
-    put(alloc, names, vars, store, &[not_gate, a])?;
-    put(alloc, names, vars, store, &[not_gate, b])?;
+    put(clause, names, vars, store, &[not_gate, a])?;
+    put(clause, names, vars, store, &[not_gate, b])?;
     put(
-        alloc,
+        clause,
         names,
         vars,
         store,
@@ -47,7 +47,7 @@ fn put_gate(
 
 /// Appends the three clauses of an AND gate of the table.
 fn put_and(
-    alloc: Global,
+    clause: &mut Vec<Lit>,
     gates: &Gates,
     names: &[u32],
     vars: u32,
@@ -65,7 +65,7 @@ fn put_and(
     match gates.operands(gate) {
         None => Ok(()),
         Some((a, b)) => {
-            put_gate(alloc, names, vars, store, Edge::of_gate(gate), a, b)?;
+            put_gate(clause, names, vars, store, Edge::of_gate(gate), a, b)?;
             Ok(())
         }
     }
@@ -90,10 +90,11 @@ fn encoded(
     ensures empty { IfOk result (λ r. ands.now ≡ [] → goal.0 ≡ 0 → r ≡ [] ∷ []) }
 {
     let mut store = Store::new(alloc);
+    let mut clause = Vec::new(alloc);
     for n in ands {
-        put_and(alloc, gates, names, vars, &mut store, *n)?;
+        put_and(&mut clause, gates, names, vars, &mut store, *n)?;
     }
-    put(alloc, names, vars, &mut store, &[goal])?;
+    put(&mut clause, names, vars, &mut store, &[goal])?;
     Ok(store)
 }
 

@@ -1,11 +1,10 @@
 // Clauses over edges, as clauses over the variables that the edges' gates have.
-ghost use Rattle.std.specs.Prelude.{◌≡◌, ℕ, ◌+◌, ◌*◌, ◌/◌, ◌^◌, ◌-◌, ◌<◌, ◌≤◌, ◌∷◌, ◌++◌, [], Bool, true, ◌&&◌, ◌||◌, length, slice_index, IfOk, OnOk, OnErr, MatchOption, IfSome};
+ghost use Rattle.std.specs.Prelude.{◌≡◌, ℕ, ◌+◌, ◌*◌, ◌/◌, ◌^◌, ◌-◌, ◌<◌, ◌≤◌, ◌∷◌, ◌++◌, [], Bool, true, ◌&&◌, ◌||◌, length, slice_index, IfOk, OnOk, OnErr, MatchBool};
 ghost use Rattle.std.specs.List.{All};
 ghost use Rattle.stk_clauses.specs.Literals.{literal_value, AreBelow, AreDistinct};
 ghost use Rattle.stk_gates.specs.Edges.{edge_value};
 ghost use Rattle.stk_cnf.specs.Clauses.{clause_value, cnf_value, some_edge, named, ties, HasName, IsGrown, IsPutAlone};
 
-use std::alloc::Global;
 use stk_base::NoMemory;
 use stk_clauses::{Lit, Store, is_among};
 use stk_gates::Edge;
@@ -37,34 +36,36 @@ fn add(clause: &mut Vec<Lit>, lit: Lit) -> Result<(), NoMemory>
     Ok(())
 }
 
-/// The clause of some edges, or `None` where one of them is the constant true.
-fn clause_of(
-    alloc: Global,
+/// Gathers the clause of some edges in a buffer. Says whether there is one: there is none where one of the edges is the
+/// constant true.
+fn gather(
+    clause: &mut Vec<Lit>,
     names: &[u32],
     vars: u32,
     edges: &[Edge],
-) -> Result<Option<Vec<Lit>>, NoMemory>
+) -> Result<bool, NoMemory>
     requires named { All (HasName names.now vars) edges.now }
     requires few { vars ≤ 2 ^ 31 }
-    ensures value { IfOk result (λ r. (v : ℕ → Bool) → MatchOption r (some_edge (named names.now v) edges.now ≡ true) (λ c. clause_value v c.items ≡ some_edge (named names.now v) edges.now)) }
-    ensures good { IfOk result (λ r. IfSome r (λ c. AreDistinct c.items × AreBelow vars c.items × (length c.items ≤ length edges.now))) }
+    ensures value { IfOk result (λ b. (v : ℕ → Bool) → MatchBool b (clause_value v clause.new.items ≡ some_edge (named names.now v) edges.now) (some_edge (named names.now v) edges.now ≡ true)) }
+    ensures good { OnOk result (AreDistinct clause.new.items × AreBelow vars clause.new.items × (length clause.new.items ≤ length edges.now)) }
 {
-    let mut clause = Vec::new(alloc);
+    clause.clear();
     for edge in edges {
         if edge.0 == 1 {
-            return Ok(None);
+            return Ok(false);
         }
         if edge.0 == 0 {
             continue;
         }
-        add(&mut clause, literal(names, *edge))?;
+        add(clause, literal(names, *edge))?;
     }
-    Ok(Some(clause))
+    Ok(true)
 }
 
-/// Appends the clause of some edges, unless one of them is the constant true.
+/// Appends the clause of some edges, unless one of them is the constant true. It is gathered in a buffer, which may hold
+/// anything before and after.
 pub(crate) fn put(
-    alloc: Global,
+    clause: &mut Vec<Lit>,
     names: &[u32],
     vars: u32,
     store: &mut Store,
@@ -77,11 +78,8 @@ pub(crate) fn put(
     ensures grown { OnOk result (IsGrown vars 1 store.old store.new (λ v. some_edge (named names.now v) edges.now)) }
     ensures constant { OnOk result (IsPutAlone edges.now store.old store.new) }
 {
-    match clause_of(alloc, names, vars, edges)? {
-        None => Ok(()),
-        Some(clause) => {
-            store.push(&clause)?;
-            Ok(())
-        }
+    if gather(clause, names, vars, edges)? {
+        store.push(clause)?;
     }
+    Ok(())
 }

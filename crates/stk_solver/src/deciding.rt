@@ -9,7 +9,7 @@ use stk_clauses::{Lit, Store};
 
 impl Search {
     /// The unassigned literal to try next, if what is tried next knows one: a variable that conflicts met lately, with
-    /// the sign that it had last. The contract alone reads `_given`.
+    /// the sign that it had last. Where all variables have values it isn't asked. The contract alone reads `_given`.
     fn suggested(&mut self, _given: &Store) -> Option<Lit>
         requires search { IsSearch self.old _given.now }
         ensures search { IsSearch self.new _given.now }
@@ -20,6 +20,9 @@ impl Search {
         ensures log { self.new.log ≡ self.old.log }
         ensures open { MatchOption result (Unit {0}) (λ l. (l.0 < 2 * self.new.vars) × IsOpen self.new.trail.assigned.literals l) }
     {
+        if self.trail.assigned().len() >= self.vars as usize {
+            return None;
+        }
         for _turn in 0..self.vars {
             let Some(variable) = self.order.take() else {
                 return None;

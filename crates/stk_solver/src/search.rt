@@ -27,19 +27,6 @@ pub(crate) struct Search {
     pub(crate) restarts: Restarts,
 }
 
-fn copy_of(alloc: Global, given: &Store) -> Result<Store, NoMemory>
-    requires { length given.now < 2 ^ 31 - 1 }
-    ensures { IfOk result (λ s. s ≡ given.now) }
-{
-    let mut store = Store::new(alloc);
-    for id in 0..given.count() {
-        // For the prover: the store keeps its facts.
-        let _ = given.count();
-        store.push(given.clause(id))?;
-    }
-    Ok(store)
-}
-
 impl Search {
     /// A search that hasn't learnt anything.
     pub(crate) fn start(alloc: Global, cnf: &Cnf) -> Result<Search, NoMemory>
@@ -50,7 +37,7 @@ impl Search {
         ensures vars { IfOk result (λ s. s.vars ≡ cnf.now.vars) }
         ensures none { IfOk result (λ s. length s.log.items ≡ 0) }
     {
-        let store = copy_of(alloc, &cnf.store)?;
+        let store = cnf.store.copied(alloc)?;
         let trail = Trail::reserve(alloc, cnf.vars, &store)?;
         let analysis = Analysis::reserve(alloc, cnf.vars)?;
         let order = Order::reserve(alloc, cnf.vars)?;

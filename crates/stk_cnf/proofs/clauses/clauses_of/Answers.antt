@@ -1,4 +1,4 @@
-use Rattle.std.proofs.Common.{◌≡◌, ◌+◌, ◌*◌, ◌<◌, ◌≤◌, ℕ, [], ◌&&◌, List, length, subst, sym, ap, ◌∙◌, arith, refl}
+use Rattle.std.proofs.Common.{◌+◌, ◌*◌, ◌<◌, [], ◌&&◌, length, subst, sym, ap, ◌∙◌, arith, refl}
 use Rattle.std.specs.List.{All}
 use Rattle.stk_gates.specs.Edges.{edge_value}
 use Rattle.stk_gates.specs.Tables.{gate_count}

@@ -1,4 +1,4 @@
-use Rattle.std.proofs.Common.{ℕ, ◌*◌, [], Bool, take}
+use Rattle.std.proofs.Common.{◌*◌, [], take}
 use Rattle.stk_cnf.specs.Clauses.{named, all_tied, IsGrown}
 use Rattle.stk_cnf.proofs.clauses.encoded.Given as goal
 

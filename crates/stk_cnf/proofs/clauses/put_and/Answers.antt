@@ -1,5 +1,4 @@
 use Rattle.std.proofs.Common.{◌≡◌, ◌+◌, ◌-◌, slice_get, Some, sym, ◌∙◌, arith}
-use Rattle.stk_cnf.specs.Clauses.{HasName}
 use Rattle.stk_cnf.proofs.clauses.put_and.Goals as goal
 
 pub put_gate-requires-clause-a : goal.put_gate-requires-clause-a

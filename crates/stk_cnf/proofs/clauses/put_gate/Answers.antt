@@ -1,6 +1,6 @@
-use Rattle.std.proofs.Common.{arith, ◌+◌, ◌≤◌, ◌≡◌, ℕ, ◌&&◌, Bool, refl, sym, ap, ◌∙◌}
+use Rattle.std.proofs.Common.{arith}
 use Rattle.stk_gates.specs.Edges.{edge_value}
-use Rattle.stk_cnf.specs.Clauses.{named, cnf_value, some_edge, ties, IsGrown}
+use Rattle.stk_cnf.specs.Clauses.{named}
 use Rattle.stk_cnf.proofs.Growing.{ties_of}
 use Rattle.stk_cnf.proofs.clauses.put_gate.Goals as goal
 

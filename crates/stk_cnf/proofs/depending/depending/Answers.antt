@@ -1,6 +1,5 @@
-use Rattle.std.proofs.Common.{take, ◌++◌, ◌≡◌, ◌+◌, ◌-◌, ◌<◌, ◌≤◌, ◌/◌, ◌*◌, ℕ, Bool, true, false, List, length, drop, get_or, Some, set, subst, sym, ◌∙◌, ap, arith}
-use Rattle.stk_gates.specs.declared.edge.Edge.{Edge}
-use Rattle.stk_cnf.specs.Marks.{AreMarked, IsMarked}
+use Rattle.std.proofs.Common.{take, ◌++◌, ◌≡◌, length, drop, subst, sym, ◌∙◌, arith}
+use Rattle.stk_cnf.specs.Marks.{AreMarked}
 use Rattle.stk_cnf.proofs.Down.{goal_marked, taken}
 use Rattle.stk_cnf.proofs.depending.depending.Goals as goal
 

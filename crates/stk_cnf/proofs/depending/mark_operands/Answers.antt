@@ -1,8 +1,5 @@
-use Rattle.std.proofs.Common.{true, ◌≡◌, ◌⊎◌, ◌+◌, ◌-◌, ◌<◌, ◌≤◌, ◌/◌, ◌*◌, ℕ, length, slice_get, Some, None, sym, ◌∙◌, ap, arith, inl, inr}
-use Rattle.std.proofs.lemmas.Bool.{cases_lt}
+use Rattle.std.proofs.Common.{true, ◌+◌, ◌-◌, ◌/◌, arith}
 use Rattle.std.proofs.Math.ListN.{length-set}
-use Rattle.stk_gates.specs.declared.edge.Edge.{Edge}
-use Rattle.stk_gates.specs.Tables.{Table, IsOrdered}
 use Rattle.stk_cnf.proofs.Down.{operands_marked, pair_at}
 use Rattle.stk_cnf.proofs.depending.mark_operands.Goals as goal
 

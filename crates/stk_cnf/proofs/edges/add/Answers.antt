@@ -1,4 +1,4 @@
-use Rattle.std.proofs.Common.{◌≡◌, subst, sym, ap, ◌∙◌}
+use Rattle.std.proofs.Common.{subst, sym, ap, ◌∙◌}
 use Rattle.std.specs.List.{Contains}
 use Rattle.stk_clauses.specs.Literals.{AreDistinct}
 use Rattle.stk_cnf.specs.Clauses.{clause_value}

@@ -1,5 +1,4 @@
-use Rattle.std.proofs.Common.{◌≡◌, ◌+◌, ◌<◌, ◌≤◌, ℕ, length, slice_index}
-use Rattle.stk_gates.specs.Tables.{gate_count}
+use Rattle.std.proofs.Common.{◌≡◌, ◌+◌, ◌<◌, ℕ, length, slice_index}
 use Rattle.stk_cnf.specs.Naming.{IsNumberedTo}
 use Rattle.stk_cnf.proofs.numbering.numbered.Given as goal
 

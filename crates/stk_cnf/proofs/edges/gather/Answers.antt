@@ -1,9 +1,9 @@
-use Rattle.std.proofs.Common.{◌≢◌, ◌<◌, ◌/◌, get_or, sym, ◌∙◌, arith}
+use Rattle.std.proofs.Common.{◌<◌, ◌/◌, get_or, sym, ◌∙◌, arith}
 use Rattle.std.proofs.lemmas.List.Elements.{All-get_or}
 use Rattle.stk_gates.specs.declared.edge.Edge.{Edge}
 use Rattle.stk_cnf.specs.Clauses.{clause_value, named, HasName}
 use Rattle.stk_cnf.proofs.Growing.{some_there, edge_true, edge_false, clause_kept, some_more, or_same}
-use Rattle.stk_cnf.proofs.edges.clause_of.Goals as goal
+use Rattle.stk_cnf.proofs.edges.gather.Goals as goal
 
 abbrev none : Edge
 none = record { 0 = 0 }

@@ -1,7 +1,7 @@
 use Rattle.std.proofs.Common.{◌≡◌, ℕ, ◌≤◌, Bool, length, take}
 use Rattle.stk_clauses.specs.Literals.{AreDistinct, AreBelow}
 use Rattle.stk_cnf.specs.Clauses.{clause_value, some_edge, named}
-use Rattle.stk_cnf.proofs.edges.clause_of.Given as goal
+use Rattle.stk_cnf.proofs.edges.gather.Given as goal
 
 abbrev pub invariant-loop-edge : goal.invariant-loop-edge
 invariant-loop-edge l = record {
