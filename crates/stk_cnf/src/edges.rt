@@ -38,12 +38,7 @@ fn add(clause: &mut Vec<Lit>, lit: Lit) -> Result<(), NoMemory>
 
 /// Gathers the clause of some edges in a buffer. Says whether there is one: there is none where one of the edges is the
 /// constant true.
-fn gather(
-    clause: &mut Vec<Lit>,
-    names: &[u32],
-    vars: u32,
-    edges: &[Edge],
-) -> Result<bool, NoMemory>
+fn gather(clause: &mut Vec<Lit>, names: &[u32], vars: u32, edges: &[Edge]) -> Result<bool, NoMemory>
     requires named { All (HasName names.now vars) edges.now }
     requires few { vars ≤ 2 ^ 31 }
     ensures value { IfOk result (λ b. (v : ℕ → Bool) → MatchBool b (clause_value v clause.new.items ≡ some_edge (named names.now v) edges.now) (some_edge (named names.now v) edges.now ≡ true)) }

@@ -1,5 +1,10 @@
 //! Which numbers the first input maps have.
 
+use std::alloc::Global;
+use stk_base::NoMemory;
+use stk_function_types::{FunctionTypes, function_visits};
+use stk_tree::Function;
+
 /// Which numbers an input map has, but for addresses, which are chosen so that objects lie apart.
 #[derive(Clone, Copy, Debug)]
 pub enum Choice {
@@ -13,7 +18,7 @@ pub enum Choice {
     Drawn(u64),
 }
 
-/// The choices of the first input maps.
+/// The choices of each function.
 pub static CHOICES: [Choice; 40] = [
     Choice::Same(0),
     Choice::Same(1),
@@ -56,3 +61,44 @@ pub static CHOICES: [Choice; 40] = [
     Choice::Drawn(13),
     Choice::Drawn(14),
 ];
+
+// The most numbers of a function that are tried as inputs.
+const MOST_NUMBERS: usize = 4000;
+
+// Whether a number is one that each function is tried with.
+fn is_choice(number: i64) -> bool {
+    CHOICES.iter().any(|choice| matches!(choice, Choice::Same(other) if *other == number))
+}
+
+// The numbers that stand in a function: constants, enumerators and the labels of cases, ascending, each once.
+fn numbers_of(alloc: Global, types: &FunctionTypes, f: &Function) -> Result<Vec<i64>, NoMemory> {
+    let visits = function_visits(alloc, types, f)?;
+    let mut numbers = Vec::new(alloc);
+    for visit in &visits {
+        let constant = types.constant(visit.node);
+        if let Some(number) = constant.and_then(|n| i64::try_from(n).ok()) {
+            numbers.push(number)?;
+        }
+    }
+    numbers.sort_unstable();
+    numbers.dedup();
+    Ok(numbers)
+}
+
+/// The choices of the first input maps of a function: 40 of each function, then up to 4,000 of the numbers that stand in
+/// it, ascending. An input that is compared with a constant, or that chooses a section of a `switch`, is likely to be
+/// one of them. No clause says which there are, since a search may begin with any.
+pub fn choices_of(
+    alloc: Global,
+    types: &FunctionTypes,
+    f: &Function,
+) -> Result<Vec<Choice>, NoMemory> {
+    let numbers = numbers_of(alloc, types, f)?;
+    let mut choices = Vec::from_slice(alloc, &CHOICES)?;
+    for number in numbers.iter().take(MOST_NUMBERS) {
+        if !is_choice(*number) {
+            choices.push(Choice::Same(*number))?;
+        }
+    }
+    Ok(choices)
+}

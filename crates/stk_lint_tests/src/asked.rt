@@ -52,11 +52,19 @@ struct Row {
     given_up: u64,
 }
 
-static ROWS: [Row; 5] = [
+static ROWS: [Row; 6] = [
     // Known starts hit each of thirty candidates with nothing violated before.
     Row {
         words: &[],
         input: "int f(int x) { if (x == 0) return 0; if (x == 1) return 1; if (x == 2) return 2; if (x == 3) return 3; if (x == 4) return 4; if (x == 5) return 5; if (x == 7) return 7; if (x == 8) return 8; if (x == 10) return 10; if (x == 16) return 16; return -1; }",
+        status: Status::Stable,
+        asked: 0,
+        given_up: 0,
+    },
+    // So do the numbers that stand in the function.
+    Row {
+        words: &[],
+        input: "int f(int x) { if (x == 4242) return 1; switch (x) { case 77777: return 2; case 123456: return 3; } return 0; }",
         status: Status::Stable,
         asked: 0,
         given_up: 0,

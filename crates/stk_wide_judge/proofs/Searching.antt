@@ -82,7 +82,7 @@ known_either (y ∷ ys) s zero x e = inl e
 known_either (y ∷ ys) s (suc n) x e = known_either ys s n x e
 
 -- one start more
-pub joined : (a : AskedFunction) (starts later : List Inputs) (old new : Table) (start copy : Inputs) (trace : List Entry) → AreKnown a starts old → length starts < 4096 → IsValid a.typing a.without a.tree start.numbers → copy.numbers ≡ start.numbers → later ≡ starts ++ copy ∷ [] → trace ≡ run_of a start.numbers → Describes (runs_of (run_of a) starts ++ Some trace ∷ []) [] new → AreKnown a later new
+pub joined : (a : AskedFunction) (starts later : List Inputs) (old new : Table) (start copy : Inputs) (trace : List Entry) → AreKnown a starts old → length starts < 8192 → IsValid a.typing a.without a.tree start.numbers → copy.numbers ≡ start.numbers → later ≡ starts ++ copy ∷ [] → trace ≡ run_of a start.numbers → Describes (runs_of (run_of a) starts ++ Some trace ∷ []) [] new → AreKnown a later new
 joined a starts later old new start copy trace known few valid same is traced d =
     let own : IsValid a.typing a.without a.tree copy.numbers = subst (λ (xs : List ℤ). IsValid a.typing a.without a.tree xs) (sym same) valid in
     let run : trace ≡ run_of a copy.numbers = traced ∙ sym (ap (run_of a) same) in

@@ -10,11 +10,11 @@ use Rattle.stk_judge.specs.Tables.{Table, Describes}
 use Rattle.stk_guess.specs.Known.{IsKnown, known_subject, runs_of}
 use Rattle.stk_wide_judge.specs.Wide.{AskedFunction, asked_subject, never_spent}
 
--- the starts are valid maps, at most 4,096, and the table describes their path runs in order
+-- the starts are valid maps, at most 8,192, and the table describes their path runs in order
 pub record AreKnown (a : AskedFunction) (starts : List Inputs) (t : Table) : Type 0 where
   pub maps : (numbers : List ℤ) → IsKnown starts numbers → IsValid a.typing a.without a.tree numbers
   pub described : Describes (runs_of (path a.typing a.without a.tree) starts) [] t
-  pub few : length starts ≤ 4096
+  pub few : length starts ≤ 8192
 
 -- what findings would speak of if the known starts were all maps
 abbrev pub known_of : AskedFunction → List Inputs → Subject

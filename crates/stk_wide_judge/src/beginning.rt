@@ -8,7 +8,7 @@ ghost use Rattle.stk_wide_judge.specs.Starts.{AreKnown};
 
 use crate::{JudgedFunction, Known};
 use stk_base::NoMemory;
-use stk_first_maps::{CHOICES, Choice, is_valid, map_of_choice, words_of};
+use stk_first_maps::{Choice, choices_of, is_valid, map_of_choice, words_of};
 
 impl Known {
     // The input map of a choice joins, where it is valid.
@@ -26,13 +26,16 @@ impl Known {
         Ok(())
     }
 
-    /// The first starts of a function: of some dozens of fixed input maps those that are valid.
+    /// The first starts of a function: of some dozens of fixed input maps, and those of the numbers that stand in it,
+    /// the valid ones.
     pub fn begin(function: &JudgedFunction) -> Result<Known, NoMemory>
         requires { AreTablesOf (view_function function.now.f.now) function.now.tables.now }
         ensures { let a = asked_in function.now.tables.now (view_function function.now.f.now) in IfOk result (λ known. AreKnown a known.starts.items known.table) }
     {
+        let types = function.tables.setting().types();
+        let choices = choices_of(function.alloc, types, function.f)?;
         let mut known = Known::new(function.alloc);
-        for choice in &CHOICES {
+        for choice in &choices {
             known.try_choice(function, *choice)?;
         }
         Ok(known)

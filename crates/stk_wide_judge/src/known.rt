@@ -18,7 +18,7 @@ use stk_judge::{HitTable, Row};
 use stk_numbers::{Condition, Inputs};
 
 // The most starts that are known.
-const MOST_STARTS: usize = 4096;
+const MOST_STARTS: usize = 8192;
 
 /// Valid input maps of a function, in the order in which they were found, with the table of what their path runs hit.
 /// After want of memory nothing is known.
@@ -58,7 +58,7 @@ impl Known {
         self.starts.len() >= MOST_STARTS
     }
 
-    /// One start more, a valid map of the function: its path run joins the table. Past 4,096 it isn't kept.
+    /// One start more, a valid map of the function: its path run joins the table. Past 8,192 it isn't kept.
     pub fn add(&mut self, function: &JudgedFunction, start: &Inputs) -> Result<(), NoMemory>
         requires { AreTablesOf (view_function function.now.f.now) function.now.tables.now }
         ensures { let a = asked_in function.now.tables.now (view_function function.now.f.now) in IsValid a.typing a.without a.tree start.now.numbers → AreKnown a self.old.starts.items self.old.table → OnOk result (AreKnown a self.new.starts.items self.new.table) }
