@@ -1,6 +1,6 @@
 -- What the goal of a query, and a verdict on it, say of the query.
 use Rattle.std.proofs.Common.{◌≡◌, ℕ, ◌+◌, ◌^◌, ◌<◌, ◌≤◌, Bool, true, false, ◌&&◌, ◌⊎◌, inl, inr, List, [], ◌∷◌, ℤ, map, slice_get, Some, refl, sym, ap, subst, ◌∙◌, arith}
-use Rattle.std.specs.Prelude.{sum}
+use Rattle.std.specs.Prelude.{sum, ◌↔◌}
 use Rattle.std.proofs.lemmas.List.Sums.{sum-map}
 use Rattle.std.proofs.lemmas.Option.{get_or_from_slice_get, slice_get_within}
 use Rattle.stk_ctype.specs.declared.kind.IntKind.{IntKind}
@@ -148,7 +148,11 @@ module _ (ty : Typing) (without : Kinds) (f : FunctionTree) (c : Candidate) (set
     from_map : (rs : List ℕ) → AnswersByResidues ty without f c set rs → number_at s rs i ≡ 1
     from_map rs a = sym (ap (λ r. number_at s r i) a.same) ∙ answered a.numbers (record { valid = a.valid; hits = a.hits })
 
-    stands_for : (list : Cnf) → StandsForGoal s i list → StandsForQuery ty without f c set list
+    -- the residues that make the goal 1 are those of maps that answer the query
+    pub by_residues : (rs : List ℕ) → AreResidues s.inputs rs → (number_at s rs i ≡ 1) ↔ AnswersByResidues ty without f c set rs
+    by_residues rs fit = (to_map rs (subst (λ ws. AreResidues ws rs) same_widths fit), from_map rs)
+
+    pub stands_for : (list : Cnf) → StandsForGoal s i list → StandsForQuery ty without f c set list
     stands_for list g =
         let k : StandsForInputs widths (λ rs. number_at s rs i ≡ 1) list = subst (λ ws. StandsForInputs ws (λ rs. number_at s rs i ≡ 1) list) same_widths g in
         record {

@@ -1,8 +1,7 @@
 -- A store of terms that is made for the keys of a function, and walked over.
-use Rattle.std.proofs.Common.{◌≡◌, ◌≤◌, ◌+◌, ◌*◌, List, [], ◌∷◌, map, refl, sym, ap, subst, ◌∙◌, arith}
+use Rattle.std.proofs.Common.{◌≡◌, ◌≤◌, ◌+◌, List, [], ◌∷◌, map, refl, sym, ap, subst, ◌∙◌, arith}
 use Rattle.stk_ctype.specs.declared.kind.IntKind.{IntKind}
 use Rattle.stk_tree.specs.Syntax.{FunctionTree}
-use Rattle.stk_tree.specs.Nodes.{function_nodes}
 use Rattle.stk_numbers.specs.Kinds.{width_of}
 use Rattle.stk_meaning.specs.Keys as keys
 use Rattle.stk_meaning.specs.Keys.{keys_of}

@@ -9,7 +9,7 @@ ghost use Rattle.stk_terms.specs.Values.{width_at};
 ghost use Rattle.stk_terms.specs.Growth.{Keeps};
 ghost use Rattle.stk_rewrite.specs.Normal.{IsNormal};
 ghost use Rattle.stk_walkable.specs.Searched.{IsSearched};
-ghost use Rattle.stk_goals.specs.Queries.{IsGoalOf};
+ghost use Rattle.stk_goals.specs.Queries.{key_kinds, IsGoalOf};
 ghost use Rattle.stk_goals.specs.Goals.{AreGoalsOf, typing_asked, without_asked, tree_asked};
 ghost use Rattle.stk_goals.specs.Answers.{is_given_up, IsRightAnswer};
 ghost use Rattle.stk_function_env.specs.declared.infos.KeyInfo.{KeyInfo};
@@ -77,8 +77,8 @@ impl<'a> Model for FunctionGoals<'a> {
     ghost invariant = { λ g. AreGoalsIn (record { tables = g.tables.now; function = g.function.now }) g.kinds.items g.symbols g.walk.walked g.nevers.items };
 }
 
-// The kinds of keys.
-fn kinds_of(alloc: Global, keys: &[KeyInfo]) -> Result<Vec<IntKind>, NoMemory>
+/// The kinds of keys, in order.
+pub fn kinds_of(alloc: Global, keys: &[KeyInfo]) -> Result<Vec<IntKind>, NoMemory>
     ensures { IfOk result (λ kinds. kinds.items ≡ map (λ (k : KeyInfo). k.kind) keys.now) }
 {
     let mut kinds = Vec::new(alloc);
@@ -88,8 +88,40 @@ fn kinds_of(alloc: Global, keys: &[KeyInfo]) -> Result<Vec<IntKind>, NoMemory>
     Ok(kinds)
 }
 
-// The goal of a query, over the store and the walk of a function.
-fn goal_of(
+/// A store of terms whose inputs are the keys of a function, the walk of the function over it, and the kinds of the
+/// keys.
+#[derive(Drop)]
+pub(crate) struct WalkedStore {
+    pub(crate) kinds: Vec<IntKind>,
+    pub(crate) symbols: Symbols,
+    pub(crate) walk: IndexedWalk,
+}
+
+/// Walks a function that is searched over a new store, by the tables of its path runs and its candidates in order.
+pub(crate) fn walked_store(
+    alloc: Global,
+    tables: &FunctionTables,
+    function: &Function,
+    candidates: &[Candidate],
+) -> Result<WalkedStore, NoMemory>
+    requires searched { IsSearched tables.now (view_function function.now) }
+    requires candidates { candidates.now ≡ lists.candidates (typing_in tables.now.places.types) (view_function function.now) }
+    ensures kinds { IfOk result (λ w. w.kinds.items ≡ key_kinds (typing_in tables.now.places.types) tables.now.places.without (view_function function.now)) }
+    ensures goals { IfOk result (λ w. AreGoalsOf (typing_in tables.now.places.types) tables.now.places.without (view_function function.now) w.symbols w.walk.walked) }
+{
+    let kinds = kinds_of(alloc, tables.setting().keys())?;
+    let mut symbols = Symbols::new(alloc, kinds.as_slice())?;
+    let walked = walk_function(alloc, tables, function, candidates, &mut symbols)?;
+    let walk = IndexedWalk::new(alloc, walked)?;
+    Ok(WalkedStore {
+        kinds,
+        symbols,
+        walk,
+    })
+}
+
+/// Adds the goal of a query to the store of a function that was walked over it.
+pub(crate) fn add_goal(
     tables: &FunctionTables,
     function: &Function,
     symbols: &mut Symbols,
@@ -126,17 +158,14 @@ impl<'a> FunctionGoals<'a> {
         ensures tables { IfOk result (λ g. g.tables ≡ tables.now) }
         ensures function { IfOk result (λ g. g.function ≡ function.now) }
     {
-        let kinds = kinds_of(alloc, tables.setting().keys())?;
-        let mut symbols = Symbols::new(alloc, kinds.as_slice())?;
-        let walked = walk_function(alloc, tables, function, candidates, &mut symbols)?;
-        let walk = IndexedWalk::new(alloc, walked)?;
+        let walked = walked_store(alloc, tables, function, candidates)?;
         Ok(FunctionGoals {
             alloc,
             tables,
             function,
-            kinds,
-            symbols,
-            walk,
+            kinds: walked.kinds,
+            symbols: walked.symbols,
+            walk: walked.walk,
             nevers: Vec::new(alloc),
         })
     }
@@ -164,7 +193,7 @@ impl<'a> FunctionGoals<'a> {
         ensures later { D.given_up decider.old ≤ D.given_up decider.new }
         ensures same { self.new ≡ self.old }
     {
-        let term = goal_of(
+        let term = add_goal(
             self.tables,
             self.function,
             &mut self.symbols,

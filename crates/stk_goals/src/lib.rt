@@ -5,7 +5,9 @@ mod asking;
 mod goals;
 mod laws;
 mod numbers;
+mod query_goal;
 
 pub use asking::{Query, QueryAnswer};
-pub use goals::FunctionGoals;
+pub use goals::{FunctionGoals, kinds_of};
 pub use laws::goals_add_little;
+pub use query_goal::{QueryGoal, goal_of};

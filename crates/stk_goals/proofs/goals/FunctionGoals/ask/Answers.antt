@@ -13,11 +13,11 @@ use Rattle.stk_goals.proofs.Answered.{has_room}
 use Rattle.stk_goals.proofs.Nevers.{nevers_stay}
 use Rattle.stk_goals.proofs.goals.FunctionGoals.ask.Goals as goal
 
-pub goal_of-requires-clause-goals : goal.goal_of-requires-clause-goals
-goal_of-requires-clause-goals g c = c.self.invariant.goals
+pub add_goal-requires-clause-goals : goal.add_goal-requires-clause-goals
+add_goal-requires-clause-goals g c = c.self.invariant.goals
 
-pub goal_of-requires-clause-at : goal.goal_of-requires-clause-at
-goal_of-requires-clause-at g c = subst (λ (a : AskedFunction). slice_get (candidates (typing_asked a) (tree_asked a)) c.args.query.now.position ≡ Some c.args.query.now.candidate) (sym c.self.view_is) c.requires.at
+pub add_goal-requires-clause-at : goal.add_goal-requires-clause-at
+add_goal-requires-clause-at g c = subst (λ (a : AskedFunction). slice_get (candidates (typing_asked a) (tree_asked a)) c.args.query.now.position ≡ Some c.args.query.now.candidate) (sym c.self.view_is) c.requires.at
 
 pub invariant_of-self : goal.invariant_of-self
 invariant_of-self g c = record {
@@ -40,7 +40,7 @@ answered-requires-clause-room g c =
     let a : AskedFunction = record { tables = c.self.inside.tables.now; function = c.self.inside.function.now } in
     let q = c.args.query.now in
     subst (λ (s : Stored). sum s.inputs + cost s c.in_ok-term.term.0 < 2 ^ 29) (sym c.terms.ensures.same)
-    (has_room (typing_asked a) (without_asked a) (tree_asked a) q.candidate q.set.now c.goal_of.new.symbols.terms c.in_ok-term.term.0 c.in_ok-term.ensures.goal c.in_ok-term.ensures.goals.light)
+    (has_room (typing_asked a) (without_asked a) (tree_asked a) q.candidate q.set.now c.add_goal.new.symbols.terms c.in_ok-term.term.0 c.in_ok-term.ensures.goal c.in_ok-term.ensures.goals.light)
 
 pub answered-requires-clause-inputs : goal.answered-requires-clause-inputs
 answered-requires-clause-inputs g c =

@@ -2,7 +2,7 @@ use Rattle.stk_tree.specs.View.{view_function}
 use Rattle.stk_function_types.specs.Nodes.{typing_in}
 use Rattle.stk_goals.proofs.Standing.{goals_stay}
 use Rattle.stk_goals.proofs.Found.{is_goal}
-use Rattle.stk_goals.proofs.goals.goal_of.Goals as goal
+use Rattle.stk_goals.proofs.goals.add_goal.Goals as goal
 
 pub goal-requires-clause-valid : goal.goal-requires-clause-valid
 goal-requires-clause-valid c = c.requires.goals.made.valid
