@@ -63,6 +63,9 @@ fn clauses_stand_as_they_were_pushed(rt: HostRuntime) -> Result<(), Fail> {
         store: small.store,
     };
     assert!(rt; large.is_within());
+    let copy = large.store.copied(rt.alloc())?;
+    assert_eq!(rt; copy.count(), 5);
+    assert!(rt; stands(&copy, 4, CLAUSES[5]));
     Ok(())
 }
 
