@@ -1,0 +1,7 @@
+pub mod Showing
+pub mod Lines
+pub mod Settled
+pub mod Turns
+pub mod Arms
+pub mod Same
+pub mod Closing
