@@ -1,4 +1,4 @@
--- The lines of the claim of a finding, in a function whose maps were all tried.
+-- The lines of reports, and those of the claim of a finding in a function whose maps were all tried.
 use Rattle.std.specs.Prelude.{◌≡◌, ℕ, ℤ, List, [], ◌∷◌, ◌++◌, map, zip, Option, Some, None}
 use Rattle.stk_ctype.specs.declared.kind.IntKind.{IntKind}
 use Rattle.stk_numbers.specs.declared.conditions.CandKind.{CandKind}
@@ -35,10 +35,17 @@ member_line keys k None = line.Open k.node (number_of k.kind)
 abbrev pub need_line : List IntKind → Need → BundleLine
 need_line keys n = member_line keys n.condition n.shown
 
+-- the lines of a report in front of what closes its claim: the candidate, the start that hits it, and the set
+abbrev pub report_lines : List IntKind → Candidate → Inputs → List Need → List BundleLine
+report_lines keys c start needs = line.Unstable c.node (candidate_number c.kind) ∷ line.Hit (residues keys start.numbers) ∷ map (need_line keys) needs
+
+-- the line of a candidate without a claim
+abbrev pub left_line : Candidate → BundleLine
+left_line c = line.Left c.node (candidate_number c.kind)
+
 -- the lines of a finding: those of its claim where it is unstable, and else none
 abbrev pub claim_lines : List IntKind → Candidate → Finding → List BundleLine
-claim_lines keys c (finding.Unstable start needs) =
-    line.Unstable c.node (candidate_number c.kind) ∷ line.Hit (residues keys start.numbers) ∷ map (need_line keys) needs ++ line.Tried ∷ []
+claim_lines keys c (finding.Unstable start needs) = report_lines keys c start needs ++ line.Tried ∷ []
 claim_lines keys c f = []
 
 -- the lines of claims are whole claims, wherever a claim may stand

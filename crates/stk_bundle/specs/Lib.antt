@@ -8,3 +8,4 @@ pub mod Grammar
 pub mod Blocks
 pub mod Bundles
 pub mod Claims
+pub mod Heads

@@ -16,7 +16,7 @@ pub(crate) fn first_line(text: &[u8]) -> Option<(&[u8], &[u8])>
 }
 
 /// How many lines a text has, those that a newline ends.
-pub(crate) fn line_count(text: &[u8]) -> usize
+pub fn line_count(text: &[u8]) -> usize
     ensures { result ≡ line_count text.now }
 {
     text.iter().filter(|byte| **byte == b'\n').count()

@@ -1,14 +1,14 @@
-// The lines of claims of functions whose maps were all tried.
+// The lines of reports, and of claims of functions whose maps were all tried.
 ghost use Rattle.std.specs.Prelude.{◌≡◌, ◌++◌, ◌^◌, pos, map, IfOk};
 ghost use Rattle.stk_numbers.specs.Kinds.{width_of, residue};
 ghost use Rattle.stk_numbers.specs.Values.{bits_of};
-ghost use Rattle.stk_bundle.specs.Claims.{candidate_number, residues, member_line, need_line, claim_lines};
+ghost use Rattle.stk_bundle.specs.Claims.{candidate_number, residues, member_line, need_line, report_lines, left_line, claim_lines};
 
 use crate::BundleLine;
 use std::alloc::{AllocError, Global};
 use stk_base::{List, NoMemory};
 use stk_meaning::{Finding, Need};
-use stk_numbers::{CandKind, Candidate, IntKind};
+use stk_numbers::{CandKind, Candidate, Inputs, IntKind};
 
 /// The number of a kind of candidates, from 1 to 4.
 fn candidate_number(kind: CandKind) -> u64
@@ -84,6 +84,37 @@ fn add_needs(
     Ok(())
 }
 
+/// The lines of a report in front of what closes its claim: the candidate, the start that hits it, and the conditions
+/// of its set. The kinds are those of the function's keys, in their order.
+pub fn report_lines(
+    alloc: Global,
+    keys: &[IntKind],
+    candidate: Candidate,
+    start: &Inputs,
+    needs: &[Need],
+) -> Result<Vec<BundleLine>, NoMemory>
+    ensures { IfOk result (λ lines. lines.items ≡ report_lines keys.now candidate start.now needs.now) }
+{
+    let mut lines = Vec::new(alloc);
+    let node = u64::from(candidate.node);
+    let kind = candidate_number(candidate.kind);
+    lines.push(BundleLine::Unstable { node, kind })?;
+    let start = List::from_vec(residues(alloc, keys, start.numbers.as_slice())?);
+    lines.push(BundleLine::Hit { start })?;
+    add_needs(alloc, &mut lines, keys, needs)?;
+    Ok(lines)
+}
+
+/// The line of a candidate without a claim.
+pub fn left_line(candidate: Candidate) -> BundleLine
+    ensures { result ≡ left_line candidate }
+{
+    BundleLine::Left {
+        node: u64::from(candidate.node),
+        kind: candidate_number(candidate.kind),
+    }
+}
+
 /// The lines of a finding of a function whose maps were all tried: those of its claim where it is unstable, and else
 /// none. The kinds are those of the function's keys, in their order.
 pub fn claim_lines(
@@ -94,16 +125,10 @@ pub fn claim_lines(
 ) -> Result<Vec<BundleLine>, NoMemory>
     ensures { IfOk result (λ lines. lines.items ≡ claim_lines keys.now candidate finding.now) }
 {
-    let mut lines = Vec::new(alloc);
     let Finding::Unstable { start, needs } = finding else {
-        return Ok(lines);
+        return Ok(Vec::new(alloc));
     };
-    let node = u64::from(candidate.node);
-    let kind = candidate_number(candidate.kind);
-    lines.push(BundleLine::Unstable { node, kind })?;
-    let start = List::from_vec(residues(alloc, keys, start.numbers.as_slice())?);
-    lines.push(BundleLine::Hit { start })?;
-    add_needs(alloc, &mut lines, keys, needs.as_slice())?;
+    let mut lines = report_lines(alloc, keys, candidate, start, needs.as_slice())?;
     lines.push(BundleLine::Tried)?;
     Ok(lines)
 }

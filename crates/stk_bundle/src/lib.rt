@@ -4,6 +4,7 @@
 mod block;
 mod claims;
 mod cutting;
+mod head;
 mod kinds;
 mod laws;
 mod line;
@@ -14,7 +15,9 @@ mod stage;
 mod word;
 mod writing;
 
-pub use claims::claim_lines;
+pub use block::line_count;
+pub use claims::{claim_lines, left_line, report_lines};
+pub use head::head_lines;
 pub use laws::{claims_stand, texts_have_one_reading};
 pub use line::BundleLine;
 pub use parts::{NextPart, Part, PartFault, Reading, next_part, read_bundle};
