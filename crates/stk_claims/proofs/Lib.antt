@@ -1,0 +1,4 @@
+pub mod Fitting
+pub mod Asked
+pub mod Texts
+pub mod Taken
