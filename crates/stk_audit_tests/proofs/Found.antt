@@ -1,7 +1,6 @@
 -- What the made-up source answers.
-use Rattle.std.proofs.Common.{◌≡◌, ℕ, zero, suc, ◌<◌, ◌⊎◌, inl, inr, Bool, true, false, not, ◌&&◌, ℤ, pos, List, [], ◌∷◌, ◌++◌, length, Option, Some, None, refl, sym, ap, subst, ◌∙◌, arith}
-use Rattle.std.specs.Prelude.{◌↔◌, IsTrue}
-use Rattle.std.specs.List.{Contains, AllByRecursion}
+use Rattle.std.proofs.Common.{◌≡◌, ℕ, zero, suc, ◌⊎◌, inl, inr, Bool, true, false, not, ◌&&◌, ℤ, pos, List, [], ◌∷◌, Option, None, refl, sym, ap, subst, ◌∙◌, arith}
+use Rattle.std.specs.List.{Contains}
 use Rattle.stk_ctype.specs.declared.kind.IntKind.TheVariants as kind
 use Rattle.stk_numbers.specs.declared.conditions.Candidate.{Candidate}
 use Rattle.stk_numbers.specs.declared.conditions.Condition.{Condition}

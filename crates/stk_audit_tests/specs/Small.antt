@@ -1,7 +1,7 @@
 -- A made-up source of 74 bytes: at byte 0 a function of one `unsigned char` begins, of which the maps 0 and 1 alone are
 -- valid, with two candidates and a condition. Only the run of the map 0 hits the candidates, and it violates the
 -- condition before.
-use Rattle.std.specs.Prelude.{◌≡◌, ℕ, ◌⊎◌, Bool, true, false, nat_eq, ℤ, pos, List, [], ◌∷◌, Option, Some, None}
+use Rattle.std.specs.Prelude.{◌≡◌, ◌⊎◌, Bool, true, false, nat_eq, ℤ, pos, List, [], ◌∷◌, None}
 use Rattle.std.specs.Ordering.{int_eq}
 use Rattle.stk_ctype.specs.declared.kind.IntKind.TheVariants as kind
 use Rattle.stk_numbers.specs.declared.conditions.UbKind.TheVariants as ub

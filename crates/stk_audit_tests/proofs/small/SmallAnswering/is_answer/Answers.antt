@@ -1,4 +1,4 @@
-use Rattle.std.proofs.Common.{false, true, sym, ◌∙◌}
+use Rattle.std.proofs.Common.{sym, ◌∙◌}
 use Rattle.stk_audit_rules.proofs.Claims.{false_true}
 use Rattle.stk_audit.specs.Hands.{hand_by}
 use Rattle.stk_audit_tests.proofs.Found.{start_answers, answer_is_zero, no_start_with_zero}
