@@ -24,8 +24,8 @@ use Rattle.stk_records.specs.declared.counts.Counts.{Counts}
 use Rattle.stk_records.specs.declared.line.Cause.{Cause}
 use Rattle.stk_records.specs.declared.line.Line.{Line}
 use Rattle.stk_records.specs.Counts.{counts_sum}
-use Rattle.stk_unit_lines.specs.Functions.{unit_typing, is_definition}
-use Rattle.stk_unit_lines.specs.Causes.{cause_of, body_cause}
+use Rattle.stk_units.specs.Functions.{unit_typing, is_definition}
+use Rattle.stk_units.specs.Causes.{cause_of, body_cause}
 use Rattle.stk_spent_queries.specs.Spent.{spent_at}
 use Rattle.stk_unit_lines.specs.UnitLines.{one_judged, skip_line, function_lines, AreFindingsOf, IsUnitLines, accepted, refused, unjudged, judged}
 use Rattle.stk_unit_lines.specs.Marks.{lines_marks}
@@ -57,20 +57,20 @@ one_some : (o o' : Option Cause) (cause other : Cause) → o ≡ o' → o ≡ So
 unfolding cause_in
 one_some o o' cause other same e e' = ap (cause_in cause) (sym e ∙ same ∙ e')
 
-not_none : (o o' : Option Cause) (cause : Cause) → o ≡ o' → o ≡ Some cause → o' ≡ None → ⊥
+pub not_none : (o o' : Option Cause) (cause : Cause) → o ≡ o' → o ≡ Some cause → o' ≡ None → ⊥
 unfolding has_cause
 not_none o o' cause same e e' = false≢true (sym (ap has_cause e') ∙ ap has_cause (sym same) ∙ ap has_cause e)
 
 module _ (bytes : List ℕ) (punctuator : Bool) (es : List NameEntry) where
-  one_definition : (tokens : List Token) (u v : UnitTree) (now also : List NameEntry) → Accepts bytes punctuator es tokens u now → Accepts bytes punctuator es tokens v also → is_definition u ≡ is_definition v
+  pub one_definition : (tokens : List Token) (u v : UnitTree) (now also : List NameEntry) → Accepts bytes punctuator es tokens u now → Accepts bytes punctuator es tokens v also → is_definition u ≡ is_definition v
   one_definition tokens u v now also h k = ap is_definition (one_tree bytes punctuator es tokens u v h.tree k.tree)
 
-  one_function : (n m : Node) (f g : FunctionTree) → s.defines n f ≡ s.defines m g → f ≡ g
+  pub one_function : (n m : Node) (f g : FunctionTree) → s.defines n f ≡ s.defines m g → f ≡ g
   unfolding function_in
   one_function n m f g same = ap (function_in f) same
 
   -- one function has one cause
-  same_cause : (without : Kinds) (tokens : List Token) (u v : UnitTree) (now also : List NameEntry) → Accepts bytes punctuator es tokens u now → Accepts bytes punctuator es tokens v also → body_cause bytes without now u ≡ body_cause bytes without also v
+  pub same_cause : (without : Kinds) (tokens : List Token) (u v : UnitTree) (now also : List NameEntry) → Accepts bytes punctuator es tokens u now → Accepts bytes punctuator es tokens v also → body_cause bytes without now u ≡ body_cause bytes without also v
   same_cause without tokens u v now also h k =
       ap (λ (z : List NameEntry). body_cause bytes without z u) (one_accepted bytes punctuator es tokens u v now also h k) ∙ ap (body_cause bytes without also) (one_tree bytes punctuator es tokens u v h.tree k.tree)
 

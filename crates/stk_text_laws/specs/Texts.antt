@@ -16,7 +16,7 @@ use Rattle.stk_accept.specs.Accepting.{Accepts}
 use Rattle.stk_records.specs.declared.options.Options.{Options}
 use Rattle.stk_records.specs.declared.counts.Counts.{Counts}
 use Rattle.stk_records.specs.declared.line.Line.{Line}
-use Rattle.stk_unit_lines.specs.Functions.{unit_typing}
+use Rattle.stk_units.specs.Functions.{unit_typing}
 use Rattle.stk_unit_lines.specs.UnitLines.{IsUnitLines}
 use Rattle.stk_lint.specs.LawfulText.{body_of_piece, tokens_of_piece, IsLawfulText}
 

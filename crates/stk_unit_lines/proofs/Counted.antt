@@ -11,9 +11,9 @@ use Rattle.stk_meaning.specs.declared.finding.Finding.TheVariants.{Clear, Unstab
 use Rattle.stk_meaning.specs.Findings.{Subject, AreLawful}
 use Rattle.stk_finding_laws.proofs.Visits.{few_candidates}
 use Rattle.stk_records.specs.declared.counts.Counts.{Counts}
-use Rattle.stk_unit_lines.specs.Functions.{unit_typing}
+use Rattle.stk_units.specs.Functions.{unit_typing}
 use Rattle.stk_unit_lines.specs.UnitLines.{unstable_count, undecided_count, IsUnitLines, accepted, refused, unjudged, judged}
-use Rattle.stk_unit_lines.proofs.Measures.{small}
+use Rattle.stk_units.proofs.Measures.{small}
 
 -- each count is at most n
 pub record AreAtMost (n : ℕ) (counts : Counts) : Type 0 where

@@ -20,12 +20,13 @@ use Rattle.stk_type_laws.specs.Orderly.{AreOrderly}
 use Rattle.stk_run_laws.proofs.GatheredLaws.{what_suffices_in_paths_suffices}
 use Rattle.stk_finding_laws.proofs.Paths.{function_findings}
 use Rattle.stk_spent_queries.specs.Spent.{spent_at}
-use Rattle.stk_unit_lines.specs.Functions.{unit_typing}
-use Rattle.stk_unit_lines.specs.Causes.{cause_of, body_cause}
+use Rattle.stk_units.specs.Functions.{unit_typing}
+use Rattle.stk_units.specs.Causes.{cause_of, body_cause}
 use Rattle.stk_unit_lines.specs.UnitLines.{one_skipped, one_judged, skip_line, function_lines, IsUnitLines, accepted, refused, unjudged, judged}
 use Rattle.stk_unit_lines.specs.Wrote.{HasStopped, WroteUnitPrefix}
-use Rattle.stk_unit_lines.proofs.Measures.{small}
-use Rattle.stk_unit_lines.proofs.Typed.{stays_orderly, typed_well}
+use Rattle.stk_units.proofs.Measures.{small}
+use Rattle.stk_units.proofs.Typed.{typed_well}
+use Rattle.stk_unit_lines.proofs.Typed.{stays_orderly}
 
 pub record HasLines (bytes : List ℕ) (without : Kinds) (budget : ℕ) (mark : Bool) (es : List NameEntry) (body : Option ℕ) (tokens : List Token) : Type 0 where
   pub lines : List Line

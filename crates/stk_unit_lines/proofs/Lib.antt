@@ -1,10 +1,10 @@
 pub mod Naming
 pub mod Telling
-pub mod Measures
-pub mod Typed
 pub mod Made
+pub mod Typed
 pub mod Exists
 pub mod Counted
 pub mod Marked
 pub mod Taking
+pub mod Visited
 pub mod Judging

@@ -1,24 +1,22 @@
 -- How the lines of a function's findings are written, one after the other, and what else a sink takes of a unit.
-use Rattle.std.proofs.Common.{◌≡◌, ℕ, zero, suc, ◌+◌, ◌<◌, ◌≤◌, ◌^◌, ◌⊎◌, inl, inr, Bool, false, List, [], ◌∷◌, ◌++◌, length, take, drop, get_or, Option, Result, Ok, Err, IfOk, refl, sym, ap, subst, ◌∙◌, append_assoc, arith}
+use Rattle.std.proofs.Common.{◌≡◌, ℕ, zero, suc, ◌+◌, ◌<◌, ◌≤◌, ◌^◌, ◌⊎◌, inl, inr, List, [], ◌∷◌, ◌++◌, length, take, drop, get_or, Option, Result, Ok, Err, IfOk, refl, sym, ap, subst, ◌∙◌, append_assoc, arith}
 use Rattle.std.specs.Prelude.{OnErr}
 use Rattle.std.proofs.Common.{drop-cons}
 use Rattle.std.proofs.lemmas.List.{append-nil, length-take, take_more, take_all, take-append-drop}
 use Rattle.stk_base.specs.Streams.{Appended, AppendedPrefix}
 use Rattle.stk_lex.specs.declared.token.Token.{Token}
-use Rattle.stk_ctype.specs.declared.symbol.NameEntry.{NameEntry}
-use Rattle.stk_tree.specs.Syntax.{UnitTree, FunctionTree}
+use Rattle.stk_tree.specs.Syntax.{FunctionTree}
 use Rattle.stk_numbers.specs.declared.conditions.Candidate.{Candidate}
 use Rattle.stk_meaning.specs.Typings.{Typing}
 use Rattle.stk_meaning.specs.declared.finding.Finding.{Finding}
 use Rattle.stk_meaning.specs.Findings.{Subject, IsLawful, AreLawful}
-use Rattle.stk_accept.specs.Accepting.{Accepts}
 use Rattle.stk_spent_queries.specs.Marks.{marks, all_marks, AreCounted}
 use Rattle.stk_spent_queries.proofs.Counting.{counted_none, counted_more, marks_append}
 use Rattle.stk_records.specs.declared.options.Options.{Options}
 use Rattle.stk_records.specs.declared.counts.Counts.{Counts}
 use Rattle.stk_records.specs.declared.line.Cause.{Cause}
 use Rattle.stk_records.specs.declared.line.Line.{Line}
-use Rattle.stk_records.specs.Counts.{AreBelow, nothing_counted}
+use Rattle.stk_records.specs.Counts.{AreBelow}
 use Rattle.stk_records.specs.Form.{written_records}
 use Rattle.stk_records.proofs.Written.{nothing_appended, prefix_more, prefix_of, written_append, written_none, lines_more}
 use Rattle.stk_unit_lines.specs.Placed.{Placed}
@@ -26,16 +24,15 @@ use Rattle.stk_unit_lines.specs.Lines.{finding_lines, findings_lines}
 use Rattle.stk_unit_lines.specs.Marks.{lines_marks}
 use Rattle.stk_unit_lines.specs.UnitLines.{one_judged, one_skipped, skip_line}
 use Rattle.stk_unit_lines.specs.Parts.{AreFindingLines, IsSkipLine}
-use Rattle.stk_unit_lines.specs.Functions.{is_definition}
-use Rattle.stk_unit_lines.specs.Wrote.{Wrote, WrotePrefix, HasStopped, WroteUnit}
+use Rattle.stk_unit_lines.specs.Wrote.{Wrote, WrotePrefix, HasStopped}
 use Rattle.stk_unit_lines.proofs.Counted.{length_same, few_reports, few_open}
 use Rattle.stk_unit_lines.proofs.Marked.{findings_same, skip_counted}
-use Rattle.stk_unit_lines.proofs.Made.{skipped, nothing_said}
+use Rattle.stk_unit_lines.proofs.Made.{skipped}
 
 -- ---- what is known of lines that were written is known of them otherwise
 
 module _ (P Q : List Line → Counts → Type 0) (o : Options) (before after : Option (List ℕ)) (same : (lines : List Line) (counts : Counts) → P lines counts → Q lines counts) where
-  wrote_otherwise : (first last : ℕ) (counts : Counts) → Wrote P o before after first last counts → Wrote Q o before after first last counts
+  pub wrote_otherwise : (first last : ℕ) (counts : Counts) → Wrote P o before after first last counts → Wrote Q o before after first last counts
   wrote_otherwise first last counts w = record { lines = w.lines; are = same w.lines counts w.are; written = w.written; counted = w.counted }
 
   pub wrote_weaker : {E : Type 0} (first last : ℕ) (r : Result Counts E) → IfOk r (Wrote P o before after first last) → IfOk r (Wrote Q o before after first last)
@@ -86,17 +83,6 @@ no_findings_wrote subject q ty f keys [] o before n counts none e = record {
   counted = counted_none n n (omega arith);
 }
 no_findings_wrote subject q ty f keys (c ∷ cs) o before n counts none e = absurd (omega (arith, none))
-
--- ---- a unit of which nothing is said
-
-pub nothing_wrote : (bytes : List ℕ) (o : Options) (mark : Bool) (es : List NameEntry) (body : Option ℕ) (tokens : List Token) (before : Option (List ℕ)) (n : ℕ) (now : List NameEntry) (u : UnitTree) → Accepts bytes mark es tokens u now → is_definition u ≡ false
-    → (counts : Counts) → counts ≡ nothing_counted → WroteUnit bytes o mark es body tokens before before n n counts now
-nothing_wrote bytes o mark es body tokens before n now u h none counts e = record {
-  lines = [];
-  are = nothing_said bytes o.without o.budget mark es now body tokens [] counts u h none refl e;
-  written = subst (Appended before before) (sym (written_none o)) (nothing_appended before);
-  counted = counted_none n n (omega arith);
-}
 
 -- ---- the lines of findings
 

@@ -5,7 +5,6 @@ pub mod Replaced
 pub mod Given
 pub mod Lines
 pub mod Functions
-pub mod Causes
 pub mod UnitLines
 pub mod Parts
 pub mod Marks

@@ -1,9 +1,7 @@
 -- The lines of findings: what is claimed of a candidate, where it stands, and the starts that show it.
-use Rattle.std.specs.Prelude.{ℕ, min, List, [], ◌∷◌, ◌++◌, map, length, Some, None, ℤ}
+use Rattle.std.specs.Prelude.{ℕ, List, [], ◌∷◌, ◌++◌, map, Some, None, ℤ}
 use Rattle.std.specs.Option.{option_map}
-use Rattle.stk_base.specs.declared.token.Place.{Place}
 use Rattle.stk_base.specs.Text.{text_of}
-use Rattle.stk_lex.specs.Placing.{place_of}
 use Rattle.stk_tree.specs.Syntax.{DeclrTree, FunctionTree}
 use Rattle.stk_tree.specs.Syntax as s
 use Rattle.stk_numbers.specs.declared.conditions.CandKind.{CandKind}
@@ -25,13 +23,8 @@ use Rattle.stk_records.specs.declared.line.StartInputs.{StartInputs}
 use Rattle.stk_records.specs.declared.line.Needed.{Needed}
 use Rattle.stk_records.specs.declared.line.Line.{Line}
 use Rattle.stk_records.specs.declared.line.Line.TheVariants.{Unstable, Undecided}
+use Rattle.stk_units.specs.Spots.{spot_at}
 use Rattle.stk_unit_lines.specs.Replaced.{replaced_at}
-
--- where a byte stands; behind the input it is the place of its end
-abbrev pub spot_at : List ℕ → ℕ → Spot
-spot_at bytes at =
-    let p : Place = place_of bytes (min (length bytes) at) in
-    record { file = option_map (λ name. text_of bytes name) p.file; line = p.line; column = p.column }
 
 -- where a node begins
 abbrev pub node_spot : Placed → ℕ → Spot

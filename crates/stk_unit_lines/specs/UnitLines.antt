@@ -18,9 +18,11 @@ use Rattle.stk_records.specs.declared.line.Cause.{Cause}
 use Rattle.stk_records.specs.declared.line.Line.{Line}
 use Rattle.stk_records.specs.declared.line.Line.TheVariants.{Skipped}
 use Rattle.stk_records.specs.Counts.{nothing_counted}
-use Rattle.stk_unit_lines.specs.Lines.{spot_at, findings_lines}
-use Rattle.stk_unit_lines.specs.Functions.{unit_typing, unit_placed, function_keys, is_definition}
-use Rattle.stk_unit_lines.specs.Causes.{cause_of, body_cause}
+use Rattle.stk_units.specs.Spots.{spot_at}
+use Rattle.stk_units.specs.Functions.{unit_typing, is_definition}
+use Rattle.stk_units.specs.Causes.{cause_of, body_cause}
+use Rattle.stk_unit_lines.specs.Lines.{findings_lines}
+use Rattle.stk_unit_lines.specs.Functions.{unit_placed, function_keys}
 
 -- how many of some findings are reports, and how many of some fragments undecided
 abbrev pub unstable_count : List Finding → ℕ

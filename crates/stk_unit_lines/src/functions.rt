@@ -13,7 +13,8 @@ ghost use Rattle.stk_function_types.specs.Visits.{marked_visit, marked_visits};
 ghost use Rattle.stk_findings.specs.Searched.{subject_searched, IsSearchable};
 ghost use Rattle.stk_weights.specs.Units.{IsSettingOfFunction};
 ghost use Rattle.stk_unit_lines.specs.Placed.{placed_in};
-ghost use Rattle.stk_unit_lines.specs.Parts.{IsJudged, IsTypedFunction, AreFindingLines};
+ghost use Rattle.stk_units.specs.Known.{IsTypedFunction};
+ghost use Rattle.stk_unit_lines.specs.Parts.{IsJudged, AreFindingLines};
 ghost use Rattle.stk_unit_lines.specs.Wrote.{Wrote, HasStopped};
 
 use crate::counting::{one_function, with_finding};

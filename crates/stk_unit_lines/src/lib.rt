@@ -2,12 +2,12 @@
 //! judged, and the lines of a unit that is skipped.
 #![tactic(auto)]
 
-mod causes;
 mod counting;
 mod file;
 mod functions;
 mod lines;
 mod names;
+mod recording;
 mod replaced;
 mod texts;
 mod units;

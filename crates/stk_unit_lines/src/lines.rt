@@ -12,18 +12,19 @@ ghost use Rattle.stk_meaning.specs.Keys.{function_visits};
 ghost use Rattle.stk_function_types.specs.Nodes.{typing_in};
 ghost use Rattle.stk_function_types.specs.Visits.{marked_visit, marked_visits};
 ghost use Rattle.stk_unit_lines.specs.Placed.{placed_in};
-ghost use Rattle.stk_unit_lines.specs.Lines.{spot_at, node_spot, claim_by, declarator_name, fragment_of, inputs_of, start_of, needed_of, finding_lines};
+ghost use Rattle.stk_unit_lines.specs.Lines.{node_spot, claim_by, declarator_name, fragment_of, inputs_of, start_of, needed_of, finding_lines};
 
 use crate::LintedFile;
 use crate::replaced::replaced_at;
 use std::alloc::Global;
-use stk_base::{List, NoMemory, Sink, Span};
+use stk_base::{List, NoMemory, Sink};
 use stk_function_types::{FunctionTypes, Visit};
 use stk_lex::Places;
 use stk_meaning::{Finding, Need};
 use stk_numbers::{CandKind, Candidate, Inputs};
 use stk_records::{Claim, Fragment, Input, Line, Needed, Spot, StartInputs, Stop, write_record};
 use stk_tree::{Declr, Function};
+use stk_units::spot_at;
 
 /// What the lines of a function's findings tell of it: its input, its types, itself, its visits, and how its keys are
 /// spelled.
@@ -42,33 +43,6 @@ fn text_list(alloc: Global, text: &[u8]) -> Result<List<u8>, NoMemory>
 {
     let list = Vec::from_slice(alloc, text)?;
     Ok(List::from_vec(list))
-}
-
-// The name of a file.
-fn file_of(alloc: Global, bytes: &[u8], file: Option<Span>) -> Result<Option<List<u8>>, NoMemory>
-    ensures { IfOk result (λ name. name ≡ option_map (λ at. text_of bytes.now at) file) }
-{
-    match file {
-        None => Ok(None),
-        Some(at) => {
-            let name = text_list(alloc, at.text(bytes))?;
-            Ok(Some(name))
-        }
-    }
-}
-
-/// Where a byte stands, by the line markers; behind the input it is where that ends.
-pub(crate) fn spot_at(alloc: Global, input: &Places, at: u32) -> Result<Spot, NoMemory>
-    ensures { IfOk result (λ spot. spot ≡ spot_at input.now at) }
-{
-    let bytes = input.bytes();
-    let place = input.place(bytes.len().min(at as usize));
-    let file = file_of(alloc, bytes, place.file)?;
-    Ok(Spot {
-        file,
-        line: place.line,
-        column: place.column,
-    })
 }
 
 // Where a node begins.

@@ -10,8 +10,8 @@ use Rattle.stk_path_runs.specs.Rows.{Tables, Knows}
 use Rattle.stk_weights.specs.Units.{IsSettingOfFunction}
 use Rattle.stk_walkable.specs.Searched.{IsSearched}
 use Rattle.stk_walkable.proofs.Searched.{typed_functions_are_searched}
-use Rattle.stk_unit_lines.specs.Parts.{IsTypedFunction}
-use Rattle.stk_unit_lines.proofs.Measures.{tables_of}
+use Rattle.stk_units.specs.Known.{IsTypedFunction}
+use Rattle.stk_units.proofs.Measures.{tables_of}
 
 pub searched : (f : FunctionTree) (t : Tables) (p : FunctionPlaces) → t.places ≡ p → IsSettingOfFunction f p → EachLoop (Knows (setting_in p) p.keys t.rows) (body_of f)
     → IsTypedFunction (typing_in p.types) p.without f → weight (typing_in p.types) p.without f ≤ most_weight → IsSearched t f

@@ -11,8 +11,8 @@ ghost use Rattle.stk_function_types.specs.Nodes.{typing_in};
 ghost use Rattle.stk_type_laws.specs.Orderly.{AreOrderly};
 ghost use Rattle.stk_walkable.specs.Searched.{IsSearched};
 ghost use Rattle.stk_weights.specs.Units.{IsSettingOfFunction};
-ghost use Rattle.stk_unit_lines.specs.Functions.{IsDefinition};
-ghost use Rattle.stk_unit_lines.specs.Parts.{IsTypedFunction, IsTypedWell, IsReadWell, AreReadWell, WasAccepted, WasAnswered};
+ghost use Rattle.stk_units.specs.Functions.{IsDefinition};
+ghost use Rattle.stk_units.specs.Known.{IsTypedFunction, IsTypedWell, IsReadWell, AreReadWell, WasAccepted, WasAnswered};
 
 use std::alloc::Global;
 use stk_accept::{Accepted, accept};

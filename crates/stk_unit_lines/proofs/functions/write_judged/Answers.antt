@@ -14,7 +14,7 @@ use Rattle.stk_findings.specs.Searched.{searched_subject}
 use Rattle.stk_unit_lines.specs.Placed.{placed_in}
 use Rattle.stk_unit_lines.specs.Texts.{key_text}
 use Rattle.stk_unit_lines.specs.Parts.{IsJudged, AreFindingLines}
-use Rattle.stk_unit_lines.proofs.Measures.{tables_of}
+use Rattle.stk_units.proofs.Measures.{tables_of}
 use Rattle.stk_unit_lines.proofs.Judging.{findings_there, judged_by}
 use Rattle.stk_unit_lines.proofs.Taking.{wrote_weaker, stopped_weaker}
 use Rattle.stk_unit_lines.proofs.functions.write_judged.Goals as goal

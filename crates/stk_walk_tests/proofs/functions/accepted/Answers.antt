@@ -1,4 +1,4 @@
-use Rattle.stk_unit_lines.proofs.Made.{read_well, was_answered}
+use Rattle.stk_units.proofs.Reading.{read_well, was_answered}
 use Rattle.stk_walk_tests.proofs.Ordered.{left_orderly}
 use Rattle.stk_walk_tests.proofs.functions.accepted.Goals as goal
 

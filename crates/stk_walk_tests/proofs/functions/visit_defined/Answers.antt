@@ -2,8 +2,8 @@ use Rattle.std.proofs.Common.{sym, subst}
 use Rattle.stk_tree.specs.View.{view_function, view_unit}
 use Rattle.stk_function_types.specs.Units.{TypedUnit}
 use Rattle.stk_function_types.specs.Nodes.{typing_in}
-use Rattle.stk_unit_lines.specs.Parts.{IsTypedFunction}
-use Rattle.stk_unit_lines.proofs.Measures.{is_typed}
+use Rattle.stk_units.specs.Known.{IsTypedFunction}
+use Rattle.stk_units.proofs.Measures.{is_typed}
 use Rattle.stk_walk_tests.proofs.functions.visit_defined.Goals as goal
 
 pub visit_typed-requires-clause-typed : goal.visit_typed-requires-clause-typed

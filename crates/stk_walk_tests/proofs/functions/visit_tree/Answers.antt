@@ -1,7 +1,7 @@
 use Rattle.std.proofs.Common.{ap}
 use Rattle.stk_tree.specs.View.{view_function, view_unit}
-use Rattle.stk_unit_lines.specs.Functions.{IsDefinition}
-use Rattle.stk_unit_lines.proofs.Typed.{typed_well_of}
+use Rattle.stk_units.specs.Functions.{IsDefinition}
+use Rattle.stk_units.proofs.Typed.{typed_well_of}
 use Rattle.stk_walk_tests.proofs.functions.visit_tree.Goals as goal
 
 pub visit_defined-requires-clause-typed : goal.visit_defined-requires-clause-typed

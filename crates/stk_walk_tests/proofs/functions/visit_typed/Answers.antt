@@ -5,9 +5,9 @@ use Rattle.stk_meaning.specs.Weights.{weight, most_weight}
 use Rattle.stk_function_types.specs.Units.{TypedUnit}
 use Rattle.stk_function_types.specs.Nodes.{typing_in}
 use Rattle.stk_weights.specs.Units.{unit_weight}
-use Rattle.stk_unit_lines.specs.Functions.{IsDefinition}
-use Rattle.stk_unit_lines.specs.Parts.{IsTypedFunction}
-use Rattle.stk_unit_lines.proofs.Measures.{of_function, whole, numbered}
+use Rattle.stk_units.specs.Functions.{IsDefinition}
+use Rattle.stk_units.specs.Known.{IsTypedFunction}
+use Rattle.stk_units.proofs.Measures.{of_function, whole, numbered}
 use Rattle.stk_walk_tests.proofs.functions.visit_typed.Goals as goal
 
 pub weight_of-requires : goal.weight_of-requires

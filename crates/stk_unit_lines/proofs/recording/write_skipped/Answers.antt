@@ -5,7 +5,7 @@ use Rattle.stk_records.specs.declared.counts.Counts.{Counts}
 use Rattle.stk_unit_lines.specs.Parts.{IsSkipLine}
 use Rattle.stk_unit_lines.specs.Wrote.{HasStopped}
 use Rattle.stk_unit_lines.proofs.Taking.{on_err, skip_wrote, skip_stopped}
-use Rattle.stk_unit_lines.proofs.units.write_skipped.Goals as goal
+use Rattle.stk_unit_lines.proofs.recording.write_skipped.Goals as goal
 
 pub returns-in_err-write_record-clause-stopped : goal.returns-in_err-write_record-clause-stopped
 returns-in_err-write_record-clause-stopped g c =

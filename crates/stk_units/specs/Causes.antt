@@ -16,8 +16,8 @@ use Rattle.stk_accept.specs.declared.accepting.Refusal.TheVariants as refusal
 use Rattle.stk_accept.specs.Accepting.{beginning}
 use Rattle.stk_records.specs.declared.line.Cause.{Cause}
 use Rattle.stk_records.specs.declared.line.Cause.TheVariants.{NoTree, Rule, Nodes, Weight}
-use Rattle.stk_unit_lines.specs.Lines.{spot_at}
-use Rattle.stk_unit_lines.specs.Functions.{unit_typing}
+use Rattle.stk_units.specs.Spots.{spot_at}
+use Rattle.stk_units.specs.Functions.{unit_typing}
 
 -- why a unit is skipped that isn't accepted
 abbrev pub cause_of : List ℕ → Refusal → Cause

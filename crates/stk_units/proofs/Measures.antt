@@ -2,7 +2,6 @@
 use Rattle.std.proofs.Common.{◌≡◌, ℕ, ◌≤◌, Bool, true, false, not, List, Option, Some, None, Ok, Err, refl, sym, ap, subst, ◌∙◌}
 use Rattle.std.specs.Prelude.{nat_le, nat_lt, if◌then◌else◌}
 use Rattle.std.proofs.lemmas.Bool.{ltb-false, leb-true}
-use Rattle.stk_lex.specs.declared.token.Token.{Token}
 use Rattle.stk_ctype.specs.declared.symbol.NameEntry.{NameEntry}
 use Rattle.stk_tree.specs.Syntax.{UnitTree, FunctionTree}
 use Rattle.stk_tree.specs.Nodes.{unit_nodes}
@@ -22,16 +21,11 @@ use Rattle.stk_eval_expr.specs.Loops.{EachLoop}
 use Rattle.stk_path_runs.specs.Rows.{Tables, Knows}
 use Rattle.stk_judge.specs.PathTables.{AreTablesOf}
 use Rattle.stk_weights.specs.Units.{IsSettingOf, IsSettingOfFunction, IsWhole}
-use Rattle.stk_typed.specs.declared.untyped.Untyped.{Untyped}
-use Rattle.stk_typed.specs.declared.untyped.Untyped.TheVariants as untyped
 use Rattle.stk_typed.specs.Answering.{Answers, has_many, most_nodes}
 use Rattle.stk_records.specs.declared.line.Cause.{Cause}
 use Rattle.stk_records.specs.declared.line.Cause.TheVariants.{Nodes}
-use Rattle.stk_records.specs.declared.line.Line.{Line}
-use Rattle.stk_records.specs.declared.counts.Counts.{Counts}
-use Rattle.stk_unit_lines.specs.Functions.{unit_typing, IsDefinition, IsLaidOut}
-use Rattle.stk_unit_lines.specs.Causes.{refused_cause, weight_cause, measured_cause, first_cause, body_cause}
-use Rattle.stk_unit_lines.specs.Parts.{IsSkipLine, IsFunctionLines, IsUntypedLine}
+use Rattle.stk_units.specs.Functions.{unit_typing, IsDefinition, IsLaidOut}
+use Rattle.stk_units.specs.Causes.{refused_cause, weight_cause, measured_cause, first_cause, body_cause}
 
 -- ---- settings
 
@@ -150,19 +144,3 @@ is_typed {T = T} bytes without now u t h =
     same true o h = absurd h
     same false (Good x facts) h = refl
     same false (Refused m s) h = absurd h
-
--- a function that isn't typed has the line of its cause
-pub is_untyped : (T : Type 0) (bytes : List ℕ) (without : Kinds) (budget : ℕ) (now : List NameEntry) (tokens : List Token) (u : UnitTree) (f : FunctionTree) (e : Untyped) (lines : List Line) (counts : Counts) → Answers {T = T} (has_many u) (unit_nodes u) (unit_typed bytes now u) (Err e)
-    → IsUntypedLine bytes tokens u e lines counts → IsFunctionLines bytes without budget now tokens u f (body_cause bytes without now u) lines counts
-is_untyped T bytes without budget now tokens u f e lines counts = on (has_many u) (unit_nodes u) (unit_typed bytes now u) e (measured_cause (unit_typing bytes now u) without u) where
-  on : (many : Bool) (count : ℕ) (o : Outcome Fact) (e : Untyped) (m : Option Cause) → Answers {T = T} many count o (Err e) → IsUntypedLine bytes tokens u e lines counts
-      → IsFunctionLines bytes without budget now tokens u f (if many then Some (Nodes count) else first_cause (refused_cause bytes u o) m) lines counts
-  on true count o (untyped.Rule n r) m h line = absurd h
-  on true count o (untyped.Nodes c) m h line = subst (λ k. IsSkipLine bytes tokens (Nodes k) lines counts) h line
-  on true count o untyped.NoMemory m h line = absurd line
-  on false count (Good x facts) (untyped.Rule n r) m h line = absurd h
-  on false count (Good x facts) (untyped.Nodes c) m h line = absurd h
-  on false count (Good x facts) untyped.NoMemory m h line = absurd line
-  on false count (Refused k s) (untyped.Rule n r) m h line = rw (h.0, h.1) at line
-  on false count (Refused k s) (untyped.Nodes c) m h line = absurd h
-  on false count (Refused k s) untyped.NoMemory m h line = absurd line

@@ -9,12 +9,12 @@ ghost use Rattle.stk_meaning.specs.Weights.{weight};
 ghost use Rattle.stk_accept.specs.Accepting.{beginning};
 ghost use Rattle.stk_function_types.specs.Nodes.{typing_in};
 ghost use Rattle.stk_records.specs.declared.line.Cause.TheVariants as causes;
-ghost use Rattle.stk_unit_lines.specs.Lines.{spot_at};
+ghost use Rattle.stk_units.specs.Spots.{spot_at};
 ghost use Rattle.stk_weights.specs.Units.{IsWhole};
-ghost use Rattle.stk_unit_lines.specs.Functions.{IsDefinition};
-ghost use Rattle.stk_unit_lines.specs.Causes.{cause_of, weight_cause};
+ghost use Rattle.stk_units.specs.Functions.{IsDefinition};
+ghost use Rattle.stk_units.specs.Causes.{cause_of, weight_cause};
 
-use crate::lines::spot_at;
+use crate::spots::spot_at;
 use std::alloc::Global;
 use stk_accept::{Refusal, place_of};
 use stk_base::NoMemory;

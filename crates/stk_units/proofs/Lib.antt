@@ -1,0 +1,5 @@
+pub mod Measures
+pub mod Typed
+pub mod Reading
+pub mod Visits
+pub mod Exists
