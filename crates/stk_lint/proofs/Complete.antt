@@ -2,7 +2,7 @@
 use Rattle.std.proofs.Common.{◌≡◌, ℕ, ◌<◌, ◌≤◌, ◌⊎◌, inl, inr, ◌++◌, List, Option, Some, None, length, refl, ap, arith, length-append}
 use Rattle.std.specs.Prelude.{◌↔◌}
 use Rattle.stk_base.specs.declared.status.Status.{Status}
-use Rattle.stk_base.specs.declared.status.Status.TheVariants.{Stable, Found, Unsure, BadWords, ReadFault, WriteFault, TooLarge, NoMemory}
+use Rattle.stk_base.specs.declared.status.Status.TheVariants.{Stable, Found, Unsure, BadWords, ReadFault, WriteFault, TooLarge, NoMemory, NoCandidate}
 use Rattle.stk_base.specs.Streams.{Came}
 use Rattle.stk_lint.specs.Lint.{IsWritten, IsUnread}
 
@@ -13,10 +13,21 @@ came_within before (Some rest) came bytes h e =
     let same : bytes ≡ came ++ rest = cc in
     omega (arith, ap length same, length-append came rest)
 
+-- how a run may end
+abbrev Ends : Status → Type 0
+Ends result = IsWritten result ⊎ (IsUnread result ⊎ ((result ≡ WriteFault) ⊎ (result ≡ NoMemory)))
+
+-- no candidate is asked for by its number
+none_counted : Ends NoCandidate → ⊥
+none_counted (inl h) = h
+none_counted (inr (inl h)) = h
+none_counted (inr (inr (inl e))) = absurd cc
+none_counted (inr (inr (inr e))) = absurd cc
+
 -- L: the words are legal; A: they ask for reading; R, W: a count of faults rose
 module _ (L A : Type 0) (before after : Option (List ℕ)) (R W : Type 0) where
   pub complete : (result : Status)
-      → (IsWritten result ⊎ (IsUnread result ⊎ ((result ≡ WriteFault) ⊎ (result ≡ NoMemory))))
+      → Ends result
       → ((result ≡ BadWords) ↔ (L → ⊥))
       → (result ≡ ReadFault → A × R)
       → (result ≡ WriteFault → W)
@@ -33,19 +44,22 @@ module _ (L A : Type 0) (before after : Option (List ℕ)) (R W : Type 0) where
       let within : length large.0 ≤ length bytes = came_within before after large.0 bytes large.1 told in
       absurd (omega arith)
   complete NoMemory only bad read write large bytes legal told short r w = inr refl
+  complete NoCandidate only bad read write large bytes legal told short r w = absurd (none_counted only)
 
   -- where the words don't ask for reading
   pub complete_generated : (result : Status)
+      → Ends result
       → ((result ≡ BadWords) ↔ (L → ⊥))
       → (result ≡ ReadFault → A × R)
       → (result ≡ WriteFault → W)
       → ((came : List ℕ) × Came before after came × ((result ≡ TooLarge) ↔ (A × (16777216 < length came))))
       → L → (A → ⊥) → ¬ W → IsWritten result ⊎ (result ≡ NoMemory)
-  complete_generated Stable bad read write large legal unread w = inl tt
-  complete_generated Found bad read write large legal unread w = inl tt
-  complete_generated Unsure bad read write large legal unread w = inl tt
-  complete_generated BadWords bad read write large legal unread w = absurd (bad.0 refl legal)
-  complete_generated ReadFault bad read write large legal unread w = absurd (unread (read refl).0)
-  complete_generated WriteFault bad read write large legal unread w = absurd (w (write refl))
-  complete_generated TooLarge bad read write large legal unread w = absurd (unread (large.2.0 refl).0)
-  complete_generated NoMemory bad read write large legal unread w = inr refl
+  complete_generated Stable only bad read write large legal unread w = inl tt
+  complete_generated Found only bad read write large legal unread w = inl tt
+  complete_generated Unsure only bad read write large legal unread w = inl tt
+  complete_generated BadWords only bad read write large legal unread w = absurd (bad.0 refl legal)
+  complete_generated ReadFault only bad read write large legal unread w = absurd (unread (read refl).0)
+  complete_generated WriteFault only bad read write large legal unread w = absurd (w (write refl))
+  complete_generated TooLarge only bad read write large legal unread w = absurd (unread (large.2.0 refl).0)
+  complete_generated NoMemory only bad read write large legal unread w = inr refl
+  complete_generated NoCandidate only bad read write large legal unread w = absurd (none_counted only)
