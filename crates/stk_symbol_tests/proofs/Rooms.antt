@@ -1,5 +1,5 @@
 -- Room for a circuit in a small table.
-use Rattle.std.proofs.Common.{◌≡◌, ℕ, ◌+◌, ◌*◌, ◌^◌, ◌≤◌, ap, ◌∙◌, arith, mul_assoc}
+use Rattle.std.proofs.Common.{◌≡◌, ℕ, ◌+◌, ◌*◌, ◌^◌, ◌≤◌, arith, mul_assoc}
 use Rattle.std.proofs.lemmas.Nat.{mul-le}
 
 pub room_of : (n w v : ℕ) → v ≡ w → w ≤ 128 → n ≤ 1000 → n + (14 * v * v + 24 * v) ≤ 2 ^ 29

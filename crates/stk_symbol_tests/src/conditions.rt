@@ -3,7 +3,7 @@
 use stk_numbers::{ArithOp, IntKind, UbKind};
 
 // Conditions, and whether they are violated.
-pub static CONDITIONS: [(UbKind, ArithOp, IntKind, i128, i128, u128); 93] = [
+pub static CONDITIONS: [(UbKind, ArithOp, IntKind, i128, i128, u128); 94] = [
     (UbKind::Overflow, ArithOp::Add, IntKind::SChar, 127, 1, 1),
     (UbKind::Overflow, ArithOp::Add, IntKind::SChar, -128, -1, 1),
     (UbKind::Overflow, ArithOp::Add, IntKind::SChar, 127, 0, 0),
@@ -580,4 +580,12 @@ pub static CONDITIONS: [(UbKind, ArithOp, IntKind, i128, i128, u128); 93] = [
     (UbKind::Shift, ArithOp::Add, IntKind::Int, 1, 1, 0),
     (UbKind::Zero, ArithOp::Div, IntKind::Bool, 1, 0, 1),
     (UbKind::Overflow, ArithOp::Add, IntKind::Bool, 1, 1, 0),
+    (
+        UbKind::Overflow,
+        ArithOp::Add,
+        IntKind::Int,
+        2_147_483_646,
+        1,
+        0,
+    ),
 ];

@@ -2,11 +2,13 @@
 #![tactic(auto)]
 
 #[cfg(test)]
-mod addresses;
-#[cfg(test)]
 mod arithmetic;
 #[cfg(test)]
 mod blasting;
+#[cfg(test)]
+mod call_rows;
+#[cfg(test)]
+mod calls;
 #[cfg(test)]
 mod conditions;
 #[cfg(test)]
@@ -14,12 +16,4 @@ mod edge_rows;
 #[cfg(test)]
 mod gates;
 #[cfg(test)]
-mod goal_rows;
-#[cfg(test)]
 mod goals;
-#[cfg(test)]
-mod numbers;
-#[cfg(test)]
-mod operations;
-#[cfg(test)]
-mod symbols;
