@@ -18,7 +18,7 @@ use Rattle.stk_clauses.specs.declared.store.Cnf.{Cnf}
 use Rattle.stk_clauses.specs.declared.derivation.Derivation.{Derivation}
 use Rattle.stk_clauses.specs.Derivations.{IsRefutation}
 use Rattle.stk_spent_queries.specs.Spent.{StandsForQuery, IsSpentQuery}
-use Rattle.stk_walkable.specs.Searched.{IsSearched}
+use Rattle.stk_goals.specs.Searched.{IsSearched}
 use Rattle.stk_terms.specs.Values.{width_at}
 use Rattle.stk_terms.specs.Cost.{cost}
 use Rattle.stk_rewrite.specs.Normal.{IsNormal}

@@ -1,3 +1,4 @@
 pub mod Searched
-pub mod Answering
 pub mod Telling
+pub mod Asked
+pub mod Answers

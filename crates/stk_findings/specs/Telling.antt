@@ -7,7 +7,7 @@ use Rattle.stk_meaning.specs.Keys.{input_bits}
 use Rattle.stk_judge.specs.Tried.{AreTried}
 use Rattle.stk_judge.specs.declared.tried.TriedMaps.{TriedMaps}
 use Rattle.stk_spent_queries.specs.Spent.{spent_at}
-use Rattle.stk_goals.specs.Goals.{typing_asked, without_asked, tree_asked}
+use Rattle.stk_findings.specs.Asked.{typing_asked, without_asked, tree_asked}
 use Rattle.stk_wide_judge.specs.Wide.{AskedFunction, asked_in}
 use Rattle.stk_wide_judge.specs.Starts.{AreKnown}
 use Rattle.stk_findings.specs.declared.judge.SearchedFunction.{SearchedFunction}

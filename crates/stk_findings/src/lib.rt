@@ -1,11 +1,16 @@
-//! The findings of a function, one candidate after the other, whatever the number of its input bits.
+//! The findings of a function, one candidate after the other, whatever the number of its input bits; those of a function
+//! of more than 16 by the goals of its queries, which are asked of a decider.
 #![tactic(auto)]
 
+mod asking;
 mod by_maps;
+mod goals;
 mod judge;
+mod numbers;
 mod queries;
 mod questions;
 
 pub use by_maps::all_maps;
+pub use goals::FunctionGoals;
 pub use judge::{Judge, SearchedFunction};
 pub use queries::Queries;

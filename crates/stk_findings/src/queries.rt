@@ -7,10 +7,9 @@ ghost use Rattle.stk_findings.specs.Searched.{IsSearchable};
 ghost use Rattle.stk_findings.specs.Telling.{CanTellByQueries};
 
 use crate::questions::FunctionQuestions;
-use crate::{Judge, SearchedFunction};
+use crate::{FunctionGoals, Judge, SearchedFunction};
 use std::alloc::Global;
 use stk_base::NoMemory;
-use stk_goals::FunctionGoals;
 use stk_meaning::Finding;
 use stk_numbers::Candidate;
 use stk_query::Decider;

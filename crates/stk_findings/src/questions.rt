@@ -1,10 +1,10 @@
 //! Who answers the queries of a function: its goals, each asked of a decider within a budget.
 
 ghost use Rattle.std.specs.Prelude.{◌≡◌, ◌≤◌};
-ghost use Rattle.stk_findings.specs.Answering.{answer_by};
 
+use crate::FunctionGoals;
 use stk_base::NoMemory;
-use stk_goals::{FunctionGoals, Query, QueryAnswer as GoalAnswer};
+use stk_goals::Query;
 use stk_numbers::{Candidate, Condition};
 use stk_query::Decider;
 use stk_wide_judge::{QueryAnswer, Questions};
@@ -30,21 +30,10 @@ impl<'a> FunctionQuestions<'a> {
     }
 }
 
-// The answer to a query by what its goal says.
-fn answer_of(answer: GoalAnswer) -> QueryAnswer
-    ensures { result ≡ answer_by answer }
-{
-    match answer {
-        GoalAnswer::Start(start) => QueryAnswer::Start(start),
-        GoalAnswer::Never => QueryAnswer::Never,
-        GoalAnswer::GivenUp => QueryAnswer::GivenUp,
-    }
-}
-
 impl<'a> Questions for FunctionQuestions<'a> {
     ghost use Rattle.stk_tree.specs.View.{view_function};
     ghost use Rattle.stk_spent_queries.specs.Spent.{spent_at};
-    ghost use Rattle.stk_goals.specs.Goals.{typing_asked, without_asked, tree_asked};
+    ghost use Rattle.stk_findings.specs.Asked.{typing_asked, without_asked, tree_asked};
     ghost use Rattle.stk_wide_judge.specs.Wide.{asked_in};
 
     ghost about = { λ s. asked_in s.goals.tables (view_function s.goals.function) };
@@ -63,7 +52,6 @@ impl<'a> Questions for FunctionQuestions<'a> {
             candidate,
             set,
         };
-        let answer = self.goals.ask(decider, &query, self.budget)?;
-        Ok(answer_of(answer))
+        self.goals.ask(decider, &query, self.budget)
     }
 }

@@ -1,5 +1,5 @@
--- What the goal of a query, and a verdict on it, say of the query.
-use Rattle.std.proofs.Common.{◌≡◌, ℕ, ◌+◌, ◌^◌, ◌<◌, ◌≤◌, Bool, true, false, ◌&&◌, ◌⊎◌, inl, inr, List, [], ◌∷◌, ℤ, map, slice_get, Some, refl, sym, ap, subst, ◌∙◌, arith}
+-- What the goal of a query says of the query.
+use Rattle.std.proofs.Common.{◌≡◌, ℕ, ◌+◌, ◌^◌, ◌<◌, ◌≤◌, Bool, true, false, ◌&&◌, List, [], ◌∷◌, ℤ, map, slice_get, Some, refl, sym, ap, subst, ◌∙◌, arith}
 use Rattle.std.specs.Prelude.{sum, ◌↔◌}
 use Rattle.std.proofs.lemmas.List.Sums.{sum-map}
 use Rattle.std.proofs.lemmas.Option.{get_or_from_slice_get, slice_get_within}
@@ -18,7 +18,6 @@ use Rattle.stk_meaning.specs.Hits.{is_hit_free}
 use Rattle.stk_meaning.specs.Weights as weights
 use Rattle.stk_meaning.proofs.HitLemmas.{found, finds}
 use Rattle.stk_key_laws.proofs.Weights.{keys_are_within_weight}
-use Rattle.stk_terms.specs.declared.table.Residues.{Residues}
 use Rattle.stk_terms.specs.Terms.{Stored}
 use Rattle.stk_terms.specs.Fitting.{AreResidues}
 use Rattle.stk_terms.specs.Values.{bit, number_at}
@@ -32,11 +31,8 @@ use Rattle.stk_goal_laws.proofs.Queries.{goals_of_queries}
 use Rattle.stk_clauses.specs.declared.store.Cnf.{Cnf}
 use Rattle.stk_clauses.specs.declared.derivation.Derivation.{Derivation}
 use Rattle.stk_clauses.specs.Derivations.{IsSpentLog}
-use Rattle.stk_query.specs.Standing.{StandsForInputs, StandsForGoal, IsWithinBound}
-use Rattle.stk_query.specs.Laws.{MakesOne, IsNever}
-use Rattle.stk_query.specs.Verdicts.{is_no, IsVerdict}
-use Rattle.stk_query.specs.declared.verdict.Verdict.{Verdict}
-use Rattle.stk_query.specs.declared.verdict.Verdict.TheVariants.{Satisfied, Tried, Refuted, Undecided}
+use Rattle.stk_goal_clauses.specs.Standing.{StandsForInputs, StandsForGoal, IsWithinBound}
+use Rattle.stk_goal_clauses.specs.Laws.{MakesOne, IsNever}
 use Rattle.stk_spent_queries.specs.Spent.{AnswersByResidues, StandsForQuery, IsSpentQuery}
 use Rattle.stk_goals.specs.Queries.{key_kinds, has_addresses, AnswersQuery, HasNoAnswer, IsGoalOf}
 
@@ -177,27 +173,3 @@ module _ (ty : Typing) (without : Kinds) (f : FunctionTree) (c : Candidate) (set
           within = omega (arith, within, same, cheap);
           spent = spent;
         }
-
--- ---- verdicts
-
--- the residues that make a goal 1 are in range of the inputs
-pub fit_of : (s : Stored) (i budget : ℕ) (v : Verdict) (found : Residues) (ws : List ℕ) → v ≡ Satisfied found → s.inputs ≡ ws → IsVerdict s i budget v → AreResidues ws found.numbers
-fit_of s i budget v found ws is inputs h = subst (λ w. AreResidues w found.numbers) inputs (subst (IsVerdict s i budget) is h).0.fit
-
--- verdicts that say that no inputs make a goal 1
-pub says_no : (v : Verdict) → (v ≡ Tried) ⊎ ((list : Cnf) × (derivation : Derivation) × (v ≡ Refuted list derivation)) → is_no v ≡ true
-says_no v (inl e) = ap is_no e
-says_no v (inr h) = ap is_no h.2
-
-module _ (ty : Typing) (without : Kinds) (f : FunctionTree) (c : Candidate) (set : List Condition) (s : Stored) (i : ℕ) (h : IsGoalOf ty without f c set s i) (budget : ℕ) (v : Verdict) where
-  pub said_start : (found : Residues) (kinds : List IntKind) (numbers : List ℤ) → v ≡ Satisfied found → IsVerdict s i budget v → kinds ≡ key_kinds ty without f → numbers ≡ map_of kinds found.numbers → AnswersQuery ty without f c set numbers
-  said_start found kinds numbers is verdict same made =
-      subst (AnswersQuery ty without f c set) (sym (made ∙ ap (λ l. map_of l found.numbers) same)) (start_answers ty without f c set s i h found.numbers (subst (IsVerdict s i budget) is verdict).0)
-
-  pub said_never : is_no v ≡ true → (is_no v ≡ true → IsNever s i) → HasNoAnswer ty without f c set
-  said_never is never = none_answers ty without f c set s i h (never is)
-
-  pub said_spent : (list : Cnf) (log : Derivation) → v ≡ Undecided list log → IsVerdict s i budget v → IsSpentQuery ty without f c set budget
-  said_spent list log is verdict =
-      let u = subst (IsVerdict s i budget) is verdict in
-      is_spent ty without f c set s i h budget list log u.0 u.1 u.2 u.3

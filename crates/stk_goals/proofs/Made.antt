@@ -22,8 +22,8 @@ use Rattle.stk_spending.specs.Functions.{function_spent}
 use Rattle.stk_event_laws.specs.Listed.{body_events}
 use Rattle.stk_event_laws.specs.Positions.{listed_event}
 use Rattle.stk_symbols.specs.Symbolic.{Symbolic, HasKey}
-use Rattle.stk_walkable.specs.Searched.{IsSearched}
-use Rattle.stk_walkable.proofs.Searched.{keys_are_there}
+use Rattle.stk_goals.specs.Searched.{IsSearched}
+use Rattle.stk_goals.proofs.Searched.{keys_are_there}
 use Rattle.stk_goals.specs.Queries.{key_kinds}
 use Rattle.stk_goals.specs.Goals.{most_added, AreGoalsOf}
 use Rattle.stk_goals.proofs.Little.{goals_add_little}

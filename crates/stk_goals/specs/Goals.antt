@@ -1,21 +1,15 @@
 -- What the goals of a function are made of: a store of terms, and the walk of the function over it.
-use Rattle.std.specs.Prelude.{◌≡◌, ℕ, ◌+◌, ◌*◌, ◌≤◌, ◌<◌, List, [], ◌∷◌, ℤ, length, map}
-use Rattle.std.specs.List.{All}
+use Rattle.std.specs.Prelude.{◌≡◌, ℕ, ◌+◌, ◌*◌, ◌≤◌, List, [], ◌∷◌, ℤ, map}
 use Rattle.stk_ctype.specs.declared.kind.IntKind.{IntKind}
 use Rattle.stk_ctype.specs.declared.kind.IntKind.TheVariants.{Int}
-use Rattle.stk_tree.specs.declared.unit.Function.{Function}
 use Rattle.stk_tree.specs.Syntax.{FunctionTree}
-use Rattle.stk_tree.specs.View.{view_function}
 use Rattle.stk_numbers.specs.Kinds.{width_of}
 use Rattle.stk_numbers.specs.declared.conditions.Kinds.{Kinds}
 use Rattle.stk_meaning.specs.Typings.{Typing}
 use Rattle.stk_meaning.specs.Paths.{path}
 use Rattle.stk_meaning.specs.Lists.{candidates}
 use Rattle.stk_meaning.specs.Weights.{weight, most_weight}
-use Rattle.stk_function_types.specs.Nodes.{typing_in}
-use Rattle.stk_path_runs.specs.Rows.{Tables}
 use Rattle.stk_terms.specs.declared.term.TermId.{TermId}
-use Rattle.stk_terms.specs.Terms.{Stored}
 use Rattle.stk_terms.specs.Growth.{Keeps}
 use Rattle.stk_terms.specs.Cost.{total_cost}
 use Rattle.stk_values.specs.declared.walked.Step.{Step}
@@ -26,7 +20,6 @@ use Rattle.stk_values.specs.Walks.{EachTest, Says, event_of}
 use Rattle.stk_event_laws.specs.Listed.{StandOnce}
 use Rattle.stk_event_laws.specs.Positions.{listed_events}
 use Rattle.stk_symbols.specs.Symbolic.{Symbolic, Serves, IsMade, Shows}
-use Rattle.stk_query.specs.Laws.{IsNever}
 use Rattle.stk_goals.specs.Queries.{key_kinds, has_addresses}
 
 -- how many steps tell of a violation
@@ -65,29 +58,3 @@ pub record AreGoalsOf (ty : Typing) (without : Kinds) (f : FunctionTree) (s : Sy
   pub once : StandOnce (map (λ x. event_of x) w.steps)
   pub cheap : IsCheapWalk (weight ty without f) s w
   pub light : weight ty without f ≤ most_weight
-
--- the function that goals speak of, by its tables and its tree
-pub record AskedFunction : Type 0 where
-  pub tables : Tables
-  pub function : Function
-
--- its typing, the kinds of conditions that are taken out, and its tree
-abbrev pub typing_asked : AskedFunction → Typing
-typing_asked a = typing_in a.tables.places.types
-
-abbrev pub without_asked : AskedFunction → Kinds
-without_asked a = a.tables.places.without
-
-abbrev pub tree_asked : AskedFunction → FunctionTree
-tree_asked a = view_function a.function
-
--- no inputs make the terms at these places 1
-abbrev pub AreNever : Stored → List ℕ → Type 0
-AreNever s = All (λ i. (i < length s.terms) × IsNever s i)
-
--- A store and a walk are those of its goals, these are the kinds of its keys, and these are places of goals that no
--- inputs make 1.
-pub record AreGoalsIn (a : AskedFunction) (kinds : List IntKind) (s : Symbolic) (w : Walked TermId) (nevers : List ℕ) : Type 0 where
-  pub kinds_are : kinds ≡ key_kinds (typing_asked a) (without_asked a) (tree_asked a)
-  pub goals : AreGoalsOf (typing_asked a) (without_asked a) (tree_asked a) s w
-  pub never : AreNever s.terms nevers

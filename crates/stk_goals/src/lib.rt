@@ -1,13 +1,15 @@
-//! The goals of a function's queries, and asking them: a store of terms and a walk of the function over it.
+//! The goals of a function's queries: which functions are searched, and terms that are 1 exactly for the maps that answer
+//! a query.
 #![tactic(auto)]
 
-mod asking;
-mod goals;
 mod laws;
-mod numbers;
+mod query;
 mod query_goal;
+mod searched;
+mod walked;
 
-pub use asking::{Query, QueryAnswer};
-pub use goals::{FunctionGoals, kinds_of};
 pub use laws::goals_add_little;
+pub use query::Query;
 pub use query_goal::{QueryGoal, goal_of};
+pub use searched::{accepted_functions_are_searched, keys_are_there, typed_functions_are_searched};
+pub use walked::{WalkedStore, add_goal, kinds_of, walked_store};

@@ -9,11 +9,10 @@ ghost use Rattle.stk_terms.specs.Values.{width_at, number_at};
 ghost use Rattle.stk_terms.specs.Cost.{cost};
 ghost use Rattle.stk_rewrite.specs.Normal.{IsNormal};
 ghost use Rattle.stk_spent_queries.specs.Spent.{AnswersByResidues};
-ghost use Rattle.stk_walkable.specs.Searched.{IsSearched};
+ghost use Rattle.stk_goals.specs.Searched.{IsSearched};
 ghost use Rattle.stk_goals.specs.Queries.{IsGoalOf};
 
-use crate::asking::Query;
-use crate::goals::{add_goal, walked_store};
+use crate::{Query, add_goal, walked_store};
 use std::alloc::Global;
 use stk_base::NoMemory;
 use stk_numbers::Candidate;

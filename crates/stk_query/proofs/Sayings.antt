@@ -2,8 +2,8 @@
 use Rattle.std.proofs.Common.{◌≡◌, ℕ, ◌≤◌, true, refl, arith}
 use Rattle.std.specs.Prelude.{sum}
 use Rattle.stk_terms.specs.Terms.{Stored}
-use Rattle.stk_query.specs.Laws.{IsNever}
-use Rattle.stk_query.proofs.Goals.{never}
+use Rattle.stk_goal_clauses.specs.Laws.{IsNever}
+use Rattle.stk_goal_clauses.proofs.Goals.{never}
 use Rattle.stk_clauses.proofs.Steps.{refutation_sound}
 use Rattle.stk_query.specs.declared.verdict.Verdict.{Verdict}
 use Rattle.stk_query.specs.declared.verdict.Verdict.TheVariants.{Satisfied, Tried, Refuted, Undecided}

@@ -1,4 +1,1 @@
-pub mod Standing
-pub mod Reading
-pub mod Laws
 pub mod Verdicts

@@ -3,8 +3,8 @@ use Rattle.std.specs.Prelude.{ℕ, ◌+◌, ◌-◌, ◌^◌, ◌<◌, ◌≤◌
 use Rattle.stk_clauses.specs.Derivations.{IsRefutation, IsSpentLog}
 use Rattle.stk_terms.specs.Terms.{Stored}
 use Rattle.stk_terms.specs.Ordered.{IsFirst}
-use Rattle.stk_query.specs.Standing.{StandsForGoal, IsWithinBound}
-use Rattle.stk_query.specs.Laws.{MakesOne, IsNever}
+use Rattle.stk_goal_clauses.specs.Standing.{StandsForGoal, IsWithinBound}
+use Rattle.stk_goal_clauses.specs.Laws.{MakesOne, IsNever}
 use Rattle.stk_query.specs.declared.verdict.Verdict.{Verdict}
 use Rattle.stk_query.specs.declared.verdict.Verdict.TheVariants.{Satisfied, Tried, Refuted, Undecided}
 

@@ -4,7 +4,7 @@ ghost use Rattle.stk_base.specs.Causes.{Rose};
 ghost use Rattle.stk_terms.specs.Values.{width_at};
 ghost use Rattle.stk_terms.specs.Cost.{cost};
 ghost use Rattle.stk_rewrite.specs.Normal.{IsNormal};
-ghost use Rattle.stk_query.specs.Laws.{IsNever};
+ghost use Rattle.stk_goal_clauses.specs.Laws.{IsNever};
 ghost use Rattle.stk_query.specs.Verdicts.{is_undecided, is_no, IsVerdict};
 
 use crate::Verdict;

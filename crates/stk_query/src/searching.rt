@@ -5,17 +5,16 @@ ghost use Rattle.stk_clauses.specs.Literals.{AreBelow, Satisfies};
 ghost use Rattle.stk_clauses.specs.Derivations.{IsRefutation};
 ghost use Rattle.stk_terms.specs.Values.{width_at};
 ghost use Rattle.stk_terms.specs.Cost.{cost};
-ghost use Rattle.stk_query.specs.Standing.{StandsForGoal};
-ghost use Rattle.stk_query.specs.Laws.{MakesOne};
+ghost use Rattle.stk_goal_clauses.specs.Standing.{StandsForGoal};
+ghost use Rattle.stk_goal_clauses.specs.Laws.{MakesOne};
 ghost use Rattle.stk_query.specs.Verdicts.{IsVerdict};
 
-use crate::clauses::clauses_for;
-use crate::reading::residues_from;
 use crate::{MOST_BUDGET, Verdict};
 use std::alloc::Global;
 use stk_base::{Bits, NoMemory};
 use stk_check::check;
 use stk_clauses::{Cnf, Derivation};
+use stk_goal_clauses::{clauses_for, residues_from};
 use stk_solver::{Answer, solve};
 use stk_terms::{Residues, TermId, Terms};
 

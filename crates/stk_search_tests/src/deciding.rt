@@ -10,7 +10,8 @@ use std::alloc::Global;
 use stk_base::{List, NoMemory};
 use stk_check::check;
 use stk_clauses::{Cnf, Derivation};
-use stk_query::{Cdcl, Decider, MOST_BUDGET, Verdict, has_room};
+use stk_goal_clauses::has_room;
+use stk_query::{Cdcl, Decider, MOST_BUDGET, Verdict};
 use stk_rewrite::simplify;
 use stk_terms::{Residues, TermId, TermOp, Terms};
 

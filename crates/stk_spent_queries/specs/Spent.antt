@@ -17,7 +17,7 @@ use Rattle.stk_symbols.specs.Symbolic.{residues_of}
 use Rattle.stk_clauses.specs.declared.store.Cnf.{Cnf}
 use Rattle.stk_clauses.specs.declared.derivation.Derivation.{Derivation}
 use Rattle.stk_clauses.specs.Derivations.{IsSpentLog}
-use Rattle.stk_query.specs.Standing.{StandsForInputs}
+use Rattle.stk_goal_clauses.specs.Standing.{StandsForInputs}
 
 module _ (ty : Typing) (without : Kinds) (f : FunctionTree) (c : Candidate) (set : List Condition) where
   -- these are the residues of a valid input map whose path run hits the candidate free of the set

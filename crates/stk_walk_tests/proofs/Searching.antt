@@ -8,8 +8,8 @@ use Rattle.stk_function_env.specs.Settings.{FunctionPlaces, setting_in}
 use Rattle.stk_eval_expr.specs.Loops.{EachLoop}
 use Rattle.stk_path_runs.specs.Rows.{Tables, Knows}
 use Rattle.stk_weights.specs.Units.{IsSettingOfFunction}
-use Rattle.stk_walkable.specs.Searched.{IsSearched}
-use Rattle.stk_walkable.proofs.Searched.{typed_functions_are_searched}
+use Rattle.stk_goals.specs.Searched.{IsSearched}
+use Rattle.stk_goals.proofs.Searched.{typed_functions_are_searched}
 use Rattle.stk_units.specs.Known.{IsTypedFunction}
 use Rattle.stk_units.proofs.Measures.{tables_of}
 

@@ -4,13 +4,13 @@ ghost use Rattle.std.specs.Prelude.{◌≡◌, ◌<◌, ◌^◌, length, slice_g
 ghost use Rattle.stk_tree.specs.View.{view_function};
 ghost use Rattle.stk_meaning.specs.Lists as lists;
 ghost use Rattle.stk_function_types.specs.Nodes.{typing_in};
-ghost use Rattle.stk_walkable.specs.Searched.{IsSearched};
-ghost use Rattle.stk_goals.specs.Goals.{typing_asked, tree_asked};
+ghost use Rattle.stk_goals.specs.Searched.{IsSearched};
+ghost use Rattle.stk_findings.specs.Asked.{typing_asked, tree_asked};
 
 use std::alloc::Global;
 use stk_base::NoMemory;
-use stk_findings::SearchedFunction;
-use stk_goals::{FunctionGoals, Query};
+use stk_findings::{FunctionGoals, SearchedFunction};
+use stk_goals::Query;
 
 /// Asks queries of the goals of a function.
 pub(crate) trait Asker {

@@ -7,7 +7,7 @@ ghost use Rattle.stk_meaning.specs.Maps.{AreInRange};
 ghost use Rattle.stk_function_types.specs.Nodes.{typing_in};
 ghost use Rattle.stk_function_env.specs.Infos.{info_in};
 ghost use Rattle.stk_function_env.specs.declared.infos.KeyInfo.{KeyInfo};
-ghost use Rattle.stk_walkable.specs.Searched.{IsSearched};
+ghost use Rattle.stk_goals.specs.Searched.{IsSearched};
 
 use crate::asking::ask_all;
 use crate::events::{step_events, told, trace_events};

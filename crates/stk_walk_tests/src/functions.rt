@@ -9,7 +9,7 @@ ghost use Rattle.stk_meaning.specs.Weights as weights;
 ghost use Rattle.stk_run_laws.specs.Visits.{IsNumbered};
 ghost use Rattle.stk_function_types.specs.Nodes.{typing_in};
 ghost use Rattle.stk_type_laws.specs.Orderly.{AreOrderly};
-ghost use Rattle.stk_walkable.specs.Searched.{IsSearched};
+ghost use Rattle.stk_goals.specs.Searched.{IsSearched};
 ghost use Rattle.stk_weights.specs.Units.{IsSettingOfFunction};
 ghost use Rattle.stk_units.specs.Functions.{IsDefinition};
 ghost use Rattle.stk_units.specs.Known.{IsTypedFunction, IsTypedWell, IsReadWell, AreReadWell, WasAccepted, WasAnswered};

@@ -7,10 +7,10 @@ ghost use Rattle.stk_meaning.specs.Lists as lists;
 ghost use Rattle.stk_terms.specs.Values.{width_at};
 ghost use Rattle.stk_terms.specs.Cost.{cost};
 ghost use Rattle.stk_rewrite.specs.Normal.{IsNormal};
-ghost use Rattle.stk_query.specs.Laws.{IsNever};
+ghost use Rattle.stk_goal_clauses.specs.Laws.{IsNever};
 ghost use Rattle.stk_query.specs.Verdicts.{is_undecided, is_no, IsVerdict};
-ghost use Rattle.stk_walkable.specs.Searched.{IsSearched};
-ghost use Rattle.stk_goals.specs.Goals.{typing_asked, tree_asked};
+ghost use Rattle.stk_goals.specs.Searched.{IsSearched};
+ghost use Rattle.stk_findings.specs.Asked.{typing_asked, tree_asked};
 
 use crate::asking::Asker;
 use crate::comparing::{Outcome, has_number};
@@ -18,10 +18,11 @@ use crate::events::is_hit_free;
 use crate::runs::{Run, run_under};
 use std::alloc::Global;
 use stk_base::NoMemory;
-use stk_findings::SearchedFunction;
-use stk_goals::{FunctionGoals, Query, QueryAnswer};
+use stk_findings::{FunctionGoals, SearchedFunction};
+use stk_goals::Query;
 use stk_query::{Cdcl, Decider, MOST_BUDGET, Verdict};
 use stk_terms::{TermId, Terms, input_bits};
+use stk_wide_judge::QueryAnswer;
 
 /// Looks at the goal that it is asked, whether it is 1 exactly under the maps of the runs that hit the candidate free
 /// of the set, and decides it where there are few input bits. Else it has no answer. A goal that was refuted before

@@ -4,7 +4,7 @@ ghost use Rattle.std.specs.Prelude.{map, IsTrue};
 ghost use Rattle.stk_tree.specs.View.{view_function};
 ghost use Rattle.stk_meaning.specs.Maps.{AreInRange};
 ghost use Rattle.stk_function_env.specs.Infos.{info_in};
-ghost use Rattle.stk_walkable.specs.Searched.{IsSearched};
+ghost use Rattle.stk_goals.specs.Searched.{IsSearched};
 
 use std::alloc::Global;
 use stk_base::{List, NoMemory};

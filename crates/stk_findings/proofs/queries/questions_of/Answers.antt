@@ -1,5 +1,5 @@
 use Rattle.stk_tree.specs.View.{view_function}
-use Rattle.stk_walkable.proofs.Searched.{typed_functions_are_searched}
+use Rattle.stk_goals.proofs.Searched.{typed_functions_are_searched}
 use Rattle.stk_findings.proofs.queries.questions_of.Goals as goal
 
 pub new-requires-clause-searched : goal.new-requires-clause-searched

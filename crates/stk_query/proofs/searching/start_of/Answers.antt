@@ -1,7 +1,7 @@
 use Rattle.std.proofs.Common.{◌≡◌, sym, subst, ◌∙◌}
-use Rattle.stk_query.specs.Reading.{residues_in}
-use Rattle.stk_query.specs.Laws.{MakesOne}
-use Rattle.stk_query.proofs.Goals.{satisfied}
+use Rattle.stk_goal_clauses.specs.Reading.{residues_in}
+use Rattle.stk_goal_clauses.specs.Laws.{MakesOne}
+use Rattle.stk_goal_clauses.proofs.Goals.{satisfied}
 use Rattle.stk_query.proofs.searching.start_of.Goals as goal
 
 pub returns : goal.returns

@@ -1,7 +1,7 @@
 use Rattle.std.proofs.Common.{◌≡◌, Some, get_or, slice_get, sym, subst, ap, ◌∙◌, arith}
 use Rattle.std.proofs.lemmas.Option.{slice_get-get_or}
 use Rattle.stk_meaning.specs.Lists.{candidates}
-use Rattle.stk_goals.specs.Goals.{AskedFunction, typing_asked, tree_asked}
+use Rattle.stk_findings.specs.Asked.{AskedFunction, typing_asked, tree_asked}
 use Rattle.stk_walk_tests.proofs.asking.ask_each.Goals as goal
 
 pub ask_both-requires-clause-at : goal.ask_both-requires-clause-at

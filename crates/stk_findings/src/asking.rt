@@ -1,0 +1,112 @@
+//! What is asked of the goals of a function, and what is answered.
+
+ghost use Rattle.std.specs.Prelude.{◌≡◌, ◌+◌, ◌<◌, ◌≤◌, ◌^◌, true, List, length, map, sum, IfOk};
+ghost use Rattle.std.specs.Bool.{OnTrue};
+ghost use Rattle.std.specs.List.{Contains};
+ghost use Rattle.stk_base.specs.Causes.{Rose};
+ghost use Rattle.stk_tree.specs.Syntax.{FunctionTree};
+ghost use Rattle.stk_numbers.specs.Kinds.{width_of};
+ghost use Rattle.stk_numbers.specs.declared.conditions.Candidate.{Candidate};
+ghost use Rattle.stk_numbers.specs.declared.conditions.Condition.{Condition};
+ghost use Rattle.stk_numbers.specs.declared.conditions.Kinds.{Kinds};
+ghost use Rattle.stk_meaning.specs.Typings.{Typing};
+ghost use Rattle.stk_terms.specs.Values.{width_at};
+ghost use Rattle.stk_terms.specs.Cost.{cost};
+ghost use Rattle.stk_rewrite.specs.Normal.{IsNormal};
+ghost use Rattle.stk_goal_clauses.specs.Laws.{IsNever};
+ghost use Rattle.stk_goals.specs.Queries.{key_kinds, IsGoalOf};
+ghost use Rattle.stk_findings.specs.Asked.{AreNever};
+ghost use Rattle.stk_findings.specs.Answers.{is_given_up, is_never, IsRightAnswer};
+
+use crate::numbers::inputs_of;
+use std::alloc::Global;
+use stk_base::NoMemory;
+use stk_numbers::IntKind;
+use stk_query::{Decider, MOST_BUDGET, Verdict};
+use stk_terms::{TermId, Terms};
+use stk_wide_judge::QueryAnswer;
+
+/// A goal: a term, the store in which it is, and the kinds of the keys that the inputs of the store are.
+#[derive(Clone, Copy)]
+pub(crate) struct Goal<'a> {
+    pub(crate) term: TermId,
+    pub(crate) terms: &'a Terms,
+    pub(crate) kinds: &'a [IntKind],
+}
+
+// The answer to a query whose goal this is, by a decider.
+fn decided<D: Decider>(
+    alloc: Global,
+    goal: &Goal,
+    decider: &mut D,
+    budget: u32,
+) -> Result<QueryAnswer, NoMemory>
+    requires exists { goal.now.term.0 < length goal.now.terms.now.terms }
+    requires one { width_at goal.now.terms.now goal.now.term.0 ≡ 1 }
+    requires least { 1 ≤ budget }
+    requires most { budget ≤ MOST_BUDGET }
+    requires room { sum goal.now.terms.now.inputs + cost goal.now.terms.now goal.now.term.0 < 2 ^ 29 }
+    requires normal { IsNormal goal.now.terms.now goal.now.term.0 }
+    requires inputs { goal.now.terms.now.inputs ≡ map width_of goal.now.kinds.now }
+    ensures right { (ty : Typing) (without : Kinds) (f : FunctionTree) (c : Candidate) (set : List Condition) → goal.now.kinds.now ≡ key_kinds ty without f → IsGoalOf ty without f c set goal.now.terms.now goal.now.term.0 → IfOk result (IsRightAnswer ty without f c set budget) }
+    ensures never { IfOk result (λ a. is_never a ≡ true → IsNever goal.now.terms.now goal.now.term.0) }
+    ensures rose { IfOk result (λ a. is_given_up a ≡ true → Rose (D.given_up decider.old) (D.given_up decider.new)) }
+    ensures later { D.given_up decider.old ≤ D.given_up decider.new }
+{
+    let verdict = decider.ask(goal.terms, goal.term, budget)?;
+    match verdict {
+        Verdict::Satisfied(residues) => {
+            let inputs = inputs_of(alloc, goal.kinds, residues.numbers.as_slice())?;
+            Ok(QueryAnswer::Start(inputs))
+        }
+        Verdict::Tried | Verdict::Refuted(_, _) => Ok(QueryAnswer::Never),
+        Verdict::Undecided(_, _) => Ok(QueryAnswer::GivenUp),
+    }
+}
+
+// Whether an answer says that no map answers the query.
+fn is_never(answer: &QueryAnswer) -> bool
+    ensures { result ≡ is_never answer.now }
+{
+    matches!(answer, QueryAnswer::Never)
+}
+
+// Whether a place is among these.
+fn is_among(places: &[usize], place: usize) -> bool
+    ensures { OnTrue result (Contains places.now place) }
+{
+    places.contains(&place)
+}
+
+/// The answer to a query whose goal this is. Goals that no inputs make 1 are remembered by their places, and a query
+/// whose goal is one of them isn't asked again.
+pub(crate) fn answered<D: Decider>(
+    alloc: Global,
+    goal: &Goal,
+    nevers: &mut Vec<usize>,
+    decider: &mut D,
+    budget: u32,
+) -> Result<QueryAnswer, NoMemory>
+    requires exists { goal.now.term.0 < length goal.now.terms.now.terms }
+    requires one { width_at goal.now.terms.now goal.now.term.0 ≡ 1 }
+    requires least { 1 ≤ budget }
+    requires most { budget ≤ MOST_BUDGET }
+    requires room { sum goal.now.terms.now.inputs + cost goal.now.terms.now goal.now.term.0 < 2 ^ 29 }
+    requires normal { IsNormal goal.now.terms.now goal.now.term.0 }
+    requires inputs { goal.now.terms.now.inputs ≡ map width_of goal.now.kinds.now }
+    requires never { AreNever goal.now.terms.now nevers.old.items }
+    ensures right { (ty : Typing) (without : Kinds) (f : FunctionTree) (c : Candidate) (set : List Condition) → goal.now.kinds.now ≡ key_kinds ty without f → IsGoalOf ty without f c set goal.now.terms.now goal.now.term.0 → IfOk result (IsRightAnswer ty without f c set budget) }
+    ensures rose { IfOk result (λ a. is_given_up a ≡ true → Rose (D.given_up decider.old) (D.given_up decider.new)) }
+    ensures later { D.given_up decider.old ≤ D.given_up decider.new }
+    ensures never { AreNever goal.now.terms.now nevers.new.items }
+{
+    let place = goal.term.0;
+    if is_among(nevers.as_slice(), place) {
+        return Ok(QueryAnswer::Never);
+    }
+    let answer = decided(alloc, goal, decider, budget)?;
+    if is_never(&answer) {
+        nevers.push(place)?;
+    }
+    Ok(answer)
+}
