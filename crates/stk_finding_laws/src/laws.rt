@@ -1,13 +1,10 @@
-//! Laws of findings by path runs.
+//! A law of findings by path runs.
 
-ghost use Rattle.std.specs.Prelude.{◌≤◌, ◌*◌, List, length};
-ghost use Rattle.stk_tree.specs.declared.node.Node.{Node};
-ghost use Rattle.stk_tree.specs.Syntax.{FunctionTree, defines};
-ghost use Rattle.stk_tree.specs.Nodes.{unit_nodes};
+ghost use Rattle.std.specs.Prelude.{List};
+ghost use Rattle.stk_tree.specs.Syntax.{FunctionTree};
 ghost use Rattle.stk_numbers.specs.declared.conditions.Candidate.{Candidate};
 ghost use Rattle.stk_numbers.specs.declared.conditions.Kinds.{Kinds};
 ghost use Rattle.stk_meaning.specs.Typings.{Typing};
-ghost use Rattle.stk_meaning.specs.Lists.{candidates};
 ghost use Rattle.stk_meaning.specs.declared.finding.Finding.{Finding};
 ghost use Rattle.stk_meaning.specs.Findings.{AreLawful};
 ghost use Rattle.stk_judge.specs.PathSubjects.{path_subject};
@@ -16,10 +13,4 @@ ghost use Rattle.stk_judge.specs.PathSubjects.{path_subject};
 /// bits: there are finitely many input maps, so each query has a first answer or none.
 pub fn each_candidate_has_a_finding()
     ensures { (ty : Typing) → (without : Kinds) → (f : FunctionTree) → (cs : List Candidate) → (xs : List Finding) × AreLawful (path_subject ty without f) cs xs }
-{}
-
-/// A function has at most four candidates for each node of its unit: an expression may be a branch, and be seen true,
-/// seen false, and replaced.
-pub fn candidates_are_few()
-    ensures { (ty : Typing) → (f : FunctionTree) → (n : Node) → length (candidates ty f) ≤ 4 * unit_nodes (defines n f) }
 {}

@@ -17,7 +17,7 @@ use Rattle.stk_cost_laws.proofs.Whole.{walks_are_within}
 use Rattle.stk_cost_laws.proofs.Accepted.{accepted_units_have_bits}
 use Rattle.stk_key_laws.proofs.KeyKinds.{keys_have_their_kinds}
 use Rattle.stk_key_laws.proofs.Weights.{keys_are_within_weight}
-use Rattle.stk_finding_laws.proofs.Visits.{few_candidates}
+use Rattle.stk_key_laws.proofs.FewCandidates.{few_candidates}
 use Rattle.stk_goals.specs.Searched.{TypedFunctionsAreSearched, AcceptedFunctionsAreSearched, KeysAreThere}
 
 few_places : (n m a b c : ℕ) → n ≤ 4 * m → 128 * m + a + b + c ≤ 8000000 → n < 2 ^ 32

@@ -16,11 +16,11 @@ use Rattle.stk_kinded.specs.KindedStatements.{KindedFunction}
 use Rattle.stk_spending.specs.Functions.{function_spent}
 use Rattle.stk_cost_laws.specs.Bits.{VisitHasBits}
 use Rattle.stk_path_runs.specs.Rows.{Tables}
-use Rattle.stk_judge.specs.PathTables.{AreTablesOf}
+use Rattle.stk_path_runs.specs.FunctionTables.{AreTablesOf}
 use Rattle.stk_walking.specs.Keyed.{AreThere}
 use Rattle.stk_terms.specs.Terms.{no_terms}
 use Rattle.stk_symbols.specs.Symbolic.{Symbolic, HasKey}
-use Rattle.stk_function_walk.specs.Walkable.{IsWalkable}
+use Rattle.stk_walk.specs.Walkable.{IsWalkable}
 
 -- The tables of a function are to be walked, a place in the list of its candidates is a number of 32 bits, and it has
 -- no more input bits than weight, and no more weight than a function that is searched may have. What its walk may cost,

@@ -16,7 +16,7 @@ use crate::Query;
 use std::alloc::Global;
 use stk_base::NoMemory;
 use stk_function_env::KeyInfo;
-use stk_function_walk::walk_function;
+use stk_walk::walk_function;
 use stk_numbers::{Candidate, IntKind};
 use stk_path_runs::FunctionTables;
 use stk_symbols::{IndexedWalk, Symbols};

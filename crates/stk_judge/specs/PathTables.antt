@@ -6,19 +6,8 @@ use Rattle.stk_numbers.specs.Kinds.{wrap}
 use Rattle.stk_numbers.specs.declared.conditions.Kinds.{Kinds}
 use Rattle.stk_meaning.specs.declared.entry.Entry.{Entry}
 use Rattle.stk_meaning.specs.Typings.{Typing}
-use Rattle.stk_meaning.specs.Keys.{body_of, keys_of, setting_of}
-use Rattle.stk_eval_expr.specs.Loops.{EachLoop}
-use Rattle.stk_function_types.specs.Nodes.{typing_in}
-use Rattle.stk_function_env.specs.Settings.{setting_in}
-use Rattle.stk_path_runs.specs.Rows.{Tables, Knows}
 use Rattle.stk_judge.specs.Tables.{Table, Describes}
 use Rattle.stk_judge.specs.PathSubjects.{ArePathRuns}
-
--- tables are those of a function, and know its loops
-pub record AreTablesOf (f : FunctionTree) (t : Tables) : Type 0 where
-  pub setting : setting_in t.places ≡ setting_of (typing_in t.places.types) t.places.without f
-  pub keys : t.places.keys ≡ keys_of (typing_in t.places.types) t.places.without f
-  pub loops : EachLoop (Knows (setting_in t.places) t.places.keys t.rows) (body_of f)
 
 -- a table describes the path runs of the first input maps, so many of them, in the order of their numbers
 pub record IsTableOf (ty : Typing) (without : Kinds) (f : FunctionTree) (n : ℕ) (table : Table) : Type 0 where

@@ -6,7 +6,8 @@ ghost use Rattle.stk_function_types.specs.Nodes.{typing_in};
 ghost use Rattle.stk_function_env.specs.Infos.{info_in};
 ghost use Rattle.stk_judge.specs.InputMaps.{bits_in};
 ghost use Rattle.stk_judge.specs.PathSubjects as subjects;
-ghost use Rattle.stk_judge.specs.PathTables.{AreTablesOf, IsTableOf, wrapped};
+ghost use Rattle.stk_path_runs.specs.FunctionTables.{AreTablesOf};
+ghost use Rattle.stk_judge.specs.PathTables.{IsTableOf, wrapped};
 
 use crate::{HitTable, map_of, total_bits};
 use std::alloc::Global;

@@ -10,7 +10,7 @@ ghost use Rattle.stk_meaning.specs.Lists as lists;
 ghost use Rattle.stk_meaning.specs.Findings.{IsLawful};
 ghost use Rattle.stk_function_types.specs.Nodes.{typing_in};
 ghost use Rattle.stk_judge.specs.PathSubjects as subjects;
-ghost use Rattle.stk_judge.specs.PathTables.{AreTablesOf};
+ghost use Rattle.stk_path_runs.specs.FunctionTables.{AreTablesOf};
 ghost use Rattle.stk_judge.specs.Tried.{AreFew, AreTried};
 
 use crate::path_table::{kinds_of, table_of};

@@ -9,7 +9,7 @@ use Rattle.stk_meaning.specs.Lists.{candidates}
 use Rattle.stk_meaning.specs.declared.finding.Finding.{Finding}
 use Rattle.stk_meaning.specs.declared.finding.Finding.TheVariants.{Clear, Unstable, Undecided}
 use Rattle.stk_meaning.specs.Findings.{Subject, AreLawful}
-use Rattle.stk_finding_laws.proofs.Visits.{few_candidates}
+use Rattle.stk_key_laws.proofs.FewCandidates.{few_candidates}
 use Rattle.stk_records.specs.declared.counts.Counts.{Counts}
 use Rattle.stk_units.specs.Functions.{unit_typing}
 use Rattle.stk_unit_lines.specs.UnitLines.{unstable_count, undecided_count, IsUnitLines, accepted, refused, unjudged, judged}

@@ -19,7 +19,7 @@ use Rattle.stk_function_types.specs.Nodes.{typing_in}
 use Rattle.stk_function_env.specs.Settings.{FunctionPlaces, setting_in}
 use Rattle.stk_eval_expr.specs.Loops.{EachLoop}
 use Rattle.stk_path_runs.specs.Rows.{Tables, Knows}
-use Rattle.stk_judge.specs.PathTables.{AreTablesOf}
+use Rattle.stk_path_runs.specs.FunctionTables.{AreTablesOf}
 use Rattle.stk_weights.specs.Units.{IsSettingOf, IsSettingOfFunction, IsWhole}
 use Rattle.stk_typed.specs.Answering.{Answers, has_many, most_nodes}
 use Rattle.stk_records.specs.declared.line.Cause.{Cause}

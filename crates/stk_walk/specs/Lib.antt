@@ -3,3 +3,4 @@ pub mod Located
 pub mod Starting
 pub mod Steps
 pub mod Walks
+pub mod Walkable

@@ -1,11 +1,17 @@
-//! The walk of a function over all its branches, as one call.
+//! The walk of a function over all its branches, by the tables of its path runs.
 #![tactic(auto)]
 
+mod expressions;
+mod function;
+mod function_objects;
+mod mapped;
 mod objects;
+mod registers;
 mod start;
 mod steps;
+mod tables;
 mod validity;
+mod walked;
 mod walking;
 
-pub use objects::WalkObject;
-pub use walking::{FunctionParts, walk};
+pub use function::walk_function;

@@ -6,7 +6,7 @@ ghost use Rattle.stk_walk.specs.Validity.{is_pair};
 /// A memory object: the node of its address, its bytes, whether it is kept, and whether it has a name and a scalar or
 /// struct type.
 #[derive(Clone, Copy, Debug, PartialEq, Eq)]
-pub struct WalkObject {
+pub(crate) struct WalkObject {
     pub node: u32,
     pub size: u64,
     pub is_kept: bool,

@@ -35,7 +35,7 @@ use stk_walking::ExpressionWalk;
 /// The parts of a function that a walk goes by: its body, the declarators of its register parameters and of its kept
 /// objects, its memory objects in the order of their keys, and its candidates in order.
 #[derive(Clone, Copy)]
-pub struct FunctionParts<'a> {
+pub(crate) struct FunctionParts<'a> {
     pub body: &'a Stmt,
     pub parameters: &'a [u32],
     pub kept: &'a [u32],
@@ -48,7 +48,7 @@ pub struct FunctionParts<'a> {
 /// steps whose test is 1 are the conditions that the path run of the map violates and the candidates that it hits, in
 /// order; hits by one entry in the order of the list. Each condition and each candidate has one step at most. What was
 /// made before keeps its numbers. Nothing is said of what `NoMemory` leaves.
-pub fn walk<O: ExpressionWalk, V: Values>(
+pub(crate) fn walk<O: ExpressionWalk, V: Values>(
     alloc: Global,
     out: &O,
     parts: &FunctionParts,

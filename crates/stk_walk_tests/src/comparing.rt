@@ -18,7 +18,7 @@ use std::alloc::Global;
 use stk_base::{List, NoMemory};
 use stk_findings::SearchedFunction;
 use stk_function_env::KeyInfo;
-use stk_function_walk::walk_function;
+use stk_walk::walk_function;
 use stk_numbers::{Inputs, IntKind};
 use stk_symbols::Symbols;
 use stk_terms::{Residues, TermId, Terms};

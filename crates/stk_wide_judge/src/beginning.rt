@@ -2,7 +2,7 @@
 
 ghost use Rattle.std.specs.Prelude.{IfOk, OnOk};
 ghost use Rattle.stk_tree.specs.View.{view_function};
-ghost use Rattle.stk_judge.specs.PathTables.{AreTablesOf};
+ghost use Rattle.stk_path_runs.specs.FunctionTables.{AreTablesOf};
 ghost use Rattle.stk_wide_judge.specs.Wide.{asked_in};
 ghost use Rattle.stk_wide_judge.specs.Starts.{AreKnown};
 

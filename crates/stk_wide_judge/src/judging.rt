@@ -3,7 +3,7 @@
 ghost use Rattle.std.specs.Prelude.{◌≡◌, IfOk, OnOk};
 ghost use Rattle.stk_tree.specs.View.{view_function};
 ghost use Rattle.stk_meaning.specs.Findings.{IsLawful};
-ghost use Rattle.stk_judge.specs.PathTables.{AreTablesOf};
+ghost use Rattle.stk_path_runs.specs.FunctionTables.{AreTablesOf};
 ghost use Rattle.stk_wide_judge.specs.Wide.{asked_in, asked_subject, IsPlaced};
 ghost use Rattle.stk_wide_judge.specs.Answers.{IsLater};
 ghost use Rattle.stk_spent_queries.specs.Marks.{marks, AreCounted};

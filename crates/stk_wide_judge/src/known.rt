@@ -5,7 +5,7 @@ ghost use Rattle.stk_tree.specs.View.{view_function};
 ghost use Rattle.stk_numbers.specs.declared.conditions.Candidate.{Candidate as Asked};
 ghost use Rattle.stk_meaning.specs.Maps.{IsValid};
 ghost use Rattle.stk_judge.specs.Tables.{rows_of};
-ghost use Rattle.stk_judge.specs.PathTables.{AreTablesOf};
+ghost use Rattle.stk_path_runs.specs.FunctionTables.{AreTablesOf};
 ghost use Rattle.stk_wide_judge.specs.Wide.{AskedFunction, asked_in};
 ghost use Rattle.stk_wide_judge.specs.Answers.{HasValidStart};
 ghost use Rattle.stk_wide_judge.specs.Starts.{AreKnown, KnownAnswer};

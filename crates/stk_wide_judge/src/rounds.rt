@@ -6,7 +6,7 @@ ghost use Rattle.stk_numbers.specs.declared.conditions.Candidate.{Candidate as A
 ghost use Rattle.stk_meaning.specs.Findings.{members, NoAnswer};
 ghost use Rattle.stk_judge.specs.Tables.{rows_of};
 ghost use Rattle.stk_guess.specs.Known.{IsGuess};
-ghost use Rattle.stk_judge.specs.PathTables.{AreTablesOf};
+ghost use Rattle.stk_path_runs.specs.FunctionTables.{AreTablesOf};
 ghost use Rattle.stk_wide_judge.specs.Wide.{AskedFunction, asked_in, asked_subject, never_spent, IsPlaced};
 ghost use Rattle.stk_wide_judge.specs.Answers.{IsLater};
 ghost use Rattle.stk_wide_judge.specs.Starts.{AreKnown};

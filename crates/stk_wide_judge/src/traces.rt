@@ -4,7 +4,7 @@ ghost use Rattle.std.specs.Prelude.{◌≡◌, IfOk};
 ghost use Rattle.stk_tree.specs.View.{view_function};
 ghost use Rattle.stk_meaning.specs.Maps.{IsValid};
 ghost use Rattle.stk_meaning.specs.Paths.{path};
-ghost use Rattle.stk_judge.specs.PathTables.{AreTablesOf};
+ghost use Rattle.stk_path_runs.specs.FunctionTables.{AreTablesOf};
 ghost use Rattle.stk_wide_judge.specs.Wide.{asked_in};
 
 use crate::JudgedFunction;
