@@ -5,6 +5,10 @@ use std::alloc::Global;
 use std::test::Fail;
 use stk_base::Status;
 
+/// The records of a unit that has no tree.
+const NO_TREE: &[u8] =
+    b"-:1:1: skipped: no tree\n0 functions, 0 candidates, 0 unstable, 0 undecided, 1 skipped\n";
+
 #[test]
 fn each_call_of_the_source_may_fail(rt: HostRuntime) -> Result<(), Fail> {
     for call in 0..75 {
@@ -105,8 +109,6 @@ fn a_unit_nests_at_most_400_deep(rt: HostRuntime) -> Result<(), Fail> {
     let fits = of_parentheses(rt.alloc(), 396)?;
     let status = Status::Stable;
     check(rt.alloc(), &rt, &CALM, fits.as_slice(), status, judged, b"")?;
-    let skipped =
-        b"-:1:1: skipped: no tree\n0 functions, 0 candidates, 0 unstable, 0 undecided, 1 skipped\n";
     let deep = of_parentheses(rt.alloc(), 397)?;
     check(
         rt.alloc(),
@@ -114,19 +116,48 @@ fn a_unit_nests_at_most_400_deep(rt: HostRuntime) -> Result<(), Fail> {
         &CALM,
         deep.as_slice(),
         status,
-        skipped,
+        NO_TREE,
         b"",
     )
 }
 
 #[test]
 fn any_bytes_are_answered(rt: HostRuntime) -> Result<(), Fail> {
-    let skipped =
-        b"-:1:1: skipped: no tree\n0 functions, 0 candidates, 0 unstable, 0 undecided, 1 skipped\n";
     for byte in [0u8, 127, 128, 195, 255] {
         let input = [byte, b' ', byte];
         let status = Status::Stable;
-        check(rt.alloc(), &rt, &CALM, &input, status, skipped, b"")?;
+        check(rt.alloc(), &rt, &CALM, &input, status, NO_TREE, b"")?;
     }
     Ok(())
+}
+
+#[test]
+fn a_function_that_breaks_off_has_no_tree(rt: HostRuntime) -> Result<(), Fail> {
+    for length in 1..74 {
+        let (front, _) = INPUT.split_at(length);
+        let status = Status::Stable;
+        check(rt.alloc(), &rt, &CALM, front, status, NO_TREE, b"")?;
+    }
+    Ok(())
+}
+
+#[test]
+fn a_flood_of_one_byte_is_answered(rt: HostRuntime) -> Result<(), Fail> {
+    let alloc = rt.alloc();
+    for byte in [b'(', b'{', b'@'] {
+        let flood = vec![in alloc; byte; 16_777_216]?;
+        let status = Status::Stable;
+        check(alloc, &rt, &CALM, flood.as_slice(), status, NO_TREE, b"")?;
+    }
+    let flood = vec![in alloc; b';'; 16_777_216]?;
+    let summary = b"0 functions, 0 candidates, 0 unstable, 0 undecided, 0 skipped\n";
+    check(
+        alloc,
+        &rt,
+        &CALM,
+        flood.as_slice(),
+        Status::Stable,
+        summary,
+        b"",
+    )
 }
