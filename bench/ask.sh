@@ -9,13 +9,8 @@
 # Goals over at most 16 bits are tried, and their clauses are made for minisat alone.
 set -eu
 . "$(dirname "$0")/program.sh"
-# the clauses of a goal are asked for here alone, so the copy of the crate lets them be called
-prepare() {
-    sed -i 's/^pub use clauses::has_room;/pub use clauses::{clauses_for, has_room};/' "$work/crates/stk_query/src/lib.rt"
-    sed -i 's/^pub(crate) fn clauses_for/pub fn clauses_for/' "$work/crates/stk_query/src/clauses.rt"
-}
-build_program askbench stk_base stk_gates stk_arith stk_terms stk_blast stk_clauses stk_check stk_cnf stk_propagate \
-    stk_solver stk_rewrite stk_query <<'END'
+build_program askbench stk_base stk_gates stk_arith stk_terms stk_blast stk_clauses stk_check stk_cnf \
+    stk_goal_clauses stk_propagate stk_solver stk_rewrite stk_query <<'END'
 //! Asks a goal in postfix notation, or writes its clauses.
 #![tactic(auto)]
 
@@ -27,7 +22,8 @@ use std::env;
 use std::io::{self, Read, Write};
 use stk_base::{List, NoMemory};
 use stk_clauses::Cnf;
-use stk_query::{Cdcl, Decider, Verdict, clauses_for, has_room};
+use stk_goal_clauses::{clauses_for, has_room};
+use stk_query::{Cdcl, Decider, Verdict};
 use stk_rewrite::simplify;
 use stk_terms::{TermId, TermOp, Terms};
 

@@ -11,8 +11,6 @@ work=$(mktemp -d)
 trap 'rm -rf "$work"' EXIT
 size=16777216
 ending=
-# (a bench that changes the copies of crates has a function of this name)
-prepare() { :; }
 said='
 fn main(rt: HostRuntime) -> io::Result<()> {
     let mut bytes = Vec::new(rt.alloc());
@@ -51,7 +49,6 @@ build_program() {
         grep "^$crate:" "$top/crates.txt" >> "$work/crates.txt"
     done
     echo "$name: $*" >> "$work/crates.txt"
-    prepare
     echo 'Handles allowed: none.' > "$work/HANDLES"
     { cat; printf '%s' "$ending"; } > "$work/crates/$name/src/main.rt"
     cd "$work/crates/$name"
