@@ -5,7 +5,7 @@ ghost use Rattle.stk_bundle.specs.Blocks.{line_count, IsFirst, IsBlock};
 use crate::cutting::cut_at;
 
 /// The first line of a text, without its newline, and what comes behind that; `None` exactly where no newline comes.
-pub(crate) fn first_line(text: &[u8]) -> Option<(&[u8], &[u8])>
+pub fn first_line(text: &[u8]) -> Option<(&[u8], &[u8])>
     ensures { MatchOption result ((line behind : List ℕ) → IsFirst text.now line behind → ⊥) (λ p. IsFirst text.now p.0.now p.1.now) }
 {
     let (line, rest) = cut_at(text, b'\n');

@@ -15,7 +15,7 @@ mod stage;
 mod word;
 mod writing;
 
-pub use block::line_count;
+pub use block::{first_line, line_count};
 pub use claims::{claim_lines, left_line, report_lines};
 pub use head::head_lines;
 pub use laws::{claims_stand, texts_have_one_reading};

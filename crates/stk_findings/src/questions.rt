@@ -52,6 +52,7 @@ impl<'a> Questions for FunctionQuestions<'a> {
             candidate,
             set,
         };
-        self.goals.ask(decider, &query, self.budget)
+        let answer = self.goals.ask(decider, &query, self.budget)?;
+        Ok(answer)
     }
 }

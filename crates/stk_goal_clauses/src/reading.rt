@@ -21,11 +21,7 @@ fn number_of(bits: &[bool]) -> u64
 
 /// The residues of inputs of these widths, each from 1 to 64, whose bits are the first of the values: one input after
 /// the other, the least bit first. So they are the inputs of values that satisfy the clauses of a goal.
-pub fn residues_from(
-    alloc: Global,
-    widths: &[u8],
-    values: &[bool],
-) -> Result<Residues, NoMemory>
+pub fn residues_from(alloc: Global, widths: &[u8], values: &[bool]) -> Result<Residues, NoMemory>
     requires widths { AreWidths widths.now }
     requires enough { sum widths.now ≤ length values.now }
     ensures { IfOk result (λ r. r.numbers ≡ residues_in widths.now values.now) }

@@ -5,11 +5,13 @@
 mod laws;
 mod query;
 mod query_goal;
-mod searched;
+mod search_laws;
 mod walked;
 
 pub use laws::goals_add_little;
 pub use query::Query;
 pub use query_goal::{QueryGoal, goal_of};
-pub use searched::{accepted_functions_are_searched, keys_are_there, typed_functions_are_searched};
+pub use search_laws::{
+    accepted_functions_are_searched, keys_are_there, typed_functions_are_searched,
+};
 pub use walked::{WalkedStore, add_goal, kinds_of, walked_store};

@@ -1,3 +1,5 @@
 pub mod Units
 mod Going
 mod Complete
+mod Asking
+pub mod Found

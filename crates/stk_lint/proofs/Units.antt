@@ -1,6 +1,5 @@
 -- The lines of units, one after the other: each unit has lines.
-use Rattle.std.proofs.Common.{◌≡◌, ℕ, ◌-◌, ◌<◌, ◌≤◌, List, [], ◌∷◌, ◌++◌, length, drop, arith}
-use Rattle.std.proofs.lemmas.List.{length-drop, length-take}
+use Rattle.std.proofs.Common.{ℕ, List, [], ◌∷◌, ◌++◌, length, arith}
 use Rattle.stk_ctype.specs.declared.symbol.NameEntry.{NameEntry}
 use Rattle.stk_lex.specs.declared.token.Token.{Token}
 use Rattle.stk_lex.specs.declared.cutting.Piece.{Piece}
@@ -9,19 +8,12 @@ use Rattle.stk_records.specs.declared.options.Options.{Options}
 use Rattle.stk_records.specs.declared.counts.Counts.{Counts}
 use Rattle.stk_records.specs.Counts.{nothing_counted, counts_sum}
 use Rattle.stk_type_laws.specs.Orderly.{AreOrderly}
+use Rattle.stk_units.specs.Pieces.{body_of_piece, tokens_of_piece}
+use Rattle.stk_units.specs.Said.{no_unit, then_unit}
+use Rattle.stk_units.proofs.Going.{joined_up, piece_some}
 use Rattle.stk_unit_lines.proofs.Exists.{lines_of_unit, left_orderly}
 use Rattle.stk_records.specs.declared.line.Line.{Line}
-use Rattle.stk_lint.specs.LawfulText.{AreUnitsLines, body_of_piece, no_unit, then_unit, tokens_of_piece}
-
--- ---- the lines of units
-
-pub joined_up : (from to : ℕ) (ps : List Piece) → AreJoined from to ps → from ≤ to
-joined_up from to [] h = omega (arith, h)
-joined_up from to (p ∷ ps) h = omega (arith, h.1, joined_up p.to to ps h.3)
-
--- a unit has a token
-pub piece_some : (tokens : List Token) (p : Piece) → p.from < p.to → p.to ≤ length tokens → 0 < length (tokens_of_piece tokens p)
-piece_some tokens p h within = omega (arith, h, within, length-take (p.to - p.from) (drop p.from tokens), length-drop p.from tokens)
+use Rattle.stk_lint.specs.LawfulText.{AreUnitsLines}
 
 pub record HaveLines (bytes : List ℕ) (o : Options) (tokens : List Token) (es : List NameEntry) (ps : List Piece) : Type 0 where
   pub lines : List Line

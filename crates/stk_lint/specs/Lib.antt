@@ -1,3 +1,5 @@
 pub mod LawfulText
 pub mod Judged
+pub mod Candidates
 pub mod Lint
+pub mod Searched

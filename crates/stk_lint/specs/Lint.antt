@@ -1,21 +1,18 @@
 -- What the top call does: how it ends, what it wrote, and what it tells of a failure.
-use Rattle.std.specs.Prelude.{◌≡◌, ℕ, ◌≤◌, List, [], length, Option, None, Some, Result, Ok, Err, codes}
+use Rattle.std.specs.Prelude.{◌≡◌, ℕ, Bool, true, false, List, [], Option, None, Some, Result, Ok, Err, codes}
 use Rattle.stk_base.specs.declared.status.Status.{Status}
 use Rattle.stk_base.specs.declared.status.Status.TheVariants.{Stable, Found, Unsure, BadWords, ReadFault, WriteFault, TooLarge, NoMemory, NoCandidate}
 use Rattle.stk_base.specs.Streams.{Appended, AppendedPrefix, IsFlushed}
-use Rattle.stk_lex.specs.declared.token.Token.{Token}
-use Rattle.stk_lex.specs.Cut.{IsCut, AreSpans}
-use Rattle.stk_lex.specs.declared.skimming.Skimmed.{Skimmed}
-use Rattle.stk_lex.specs.declared.cutting.Piece.{Piece}
-use Rattle.stk_lex.specs.Skimming.{kept_tokens, notes_of, ArePositions}
-use Rattle.stk_lex.specs.Units.{units_of}
 use Rattle.stk_records.specs.declared.options.Options.{Options}
+use Rattle.stk_records.specs.declared.options.AskedScript.{AskedScript}
 use Rattle.stk_records.specs.Words.{AreLegal}
 use Rattle.stk_records.specs.declared.writing.Stop.{Stop}
 use Rattle.stk_records.specs.declared.writing.Stop.TheVariants as stops
 use Rattle.stk_spent_queries.specs.Marks.{AreCounted}
 use Rattle.stk_gen.specs.Generated.{source_of}
+use Rattle.stk_bundles.specs.Bundles.{IsLawfulBundle, IsBundleFront}
 use Rattle.stk_lint.specs.LawfulText.{IsLawfulText}
+use Rattle.stk_lint.specs.Candidates.{IsInputScript, HasFewCandidates}
 
 -- the records were written: the run ended stable, or found something, or is unsure
 abbrev pub IsWritten : Status → Type 0
@@ -54,6 +51,28 @@ pub record AskForReading (words : List (List ℕ)) : Type 0 where
   pub are : AreLegal words options
   pub generate : options.generate ≡ None
 
+-- these words on the command line are legal, and ask for a script
+pub record AskForScript (words : List (List ℕ)) : Type 0 where
+  pub options : Options
+  pub are : AreLegal words options
+  pub asked : AskedScript
+  pub script : options.script ≡ Some asked
+
+-- What is lawful to be written of these bytes under these options, with the status that goes with it, and how often it
+-- says that a query was given up: records; or where the options ask for it a bundle; or the script of a candidate, and
+-- then the run ends stable.
+abbrev pub IsLawfulOutput : List ℕ → Options → Option AskedScript → Bool → List ℕ → Status → ℕ → Type 0
+IsLawfulOutput bytes o None false text status marks = IsLawfulText bytes o text status marks
+IsLawfulOutput bytes o None true text status marks = IsLawfulBundle bytes o.without o.budget text status marks
+IsLawfulOutput bytes o (Some asked) bundle text status marks = IsInputScript bytes o.without asked text × (status ≡ Stable) × (marks ≡ 0)
+
+-- What some prefix is written of where the writing stops: lawful records; a lawful bundle, or what one may begin with; or
+-- the script.
+abbrev pub IsLawfulFront : List ℕ → Options → Option AskedScript → Bool → List ℕ → Type 0
+IsLawfulFront bytes o None false text = (status : Status) × ((marks : ℕ) × IsLawfulText bytes o text status marks)
+IsLawfulFront bytes o None true text = IsBundleFront bytes o.without o.budget text
+IsLawfulFront bytes o (Some asked) bundle text = IsInputScript bytes o.without asked text
+
 -- Which bytes a run judges: those that the source had left, where it tells them, and then it has none left. Where the
 -- options ask for it, the text that their number generates, and then the source is left as it was.
 abbrev pub IsInput : Option (ℕ × ℕ) → Option (List ℕ) → Option (List ℕ) → List ℕ → Type 0
@@ -69,7 +88,7 @@ pub record HasWritten (words : List (List ℕ)) (left_before left_after taken_be
   pub bytes : List ℕ
   pub text : List ℕ
   pub marks : ℕ
-  pub lawful : IsLawfulText bytes options text status marks
+  pub lawful : IsLawfulOutput bytes options options.script options.bundle text status marks
   pub input : IsInput options.generate left_before left_after bytes
   pub written : Appended taken_before taken_after text
   pub flush : IsFlushed taken_after flushed
@@ -81,28 +100,19 @@ pub record HasWrittenPrefix (words : List (List ℕ)) (left_before left_after ta
   pub legal : AreLegal words options
   pub bytes : List ℕ
   pub text : List ℕ
-  pub status : Status
-  pub marks : ℕ
-  pub lawful : IsLawfulText bytes options text status marks
+  pub front : IsLawfulFront bytes options options.script options.bundle text
   pub input : IsInput options.generate left_before left_after bytes
   pub written : AppendedPrefix taken_before taken_after text
 
--- what skimming leaves of the tokens of an input
-pub record IsSkimmedFrom (bytes : List ℕ) (skimmed : Skimmed) : Type 0 where
-  pub tokens : List Token
-  pub cut : IsCut bytes tokens
-  pub same_tokens : skimmed.tokens ≡ kept_tokens bytes tokens
-  pub same_notes : skimmed.notes ≡ notes_of bytes tokens
-  pub few : length skimmed.tokens ≤ length bytes
-  pub spans : AreSpans (length bytes) 0 skimmed.tokens
-  pub positions : ArePositions 0 skimmed.notes
-
--- these are the units of an input, among the tokens of it that skimming keeps
-pub record AreUnitsOf (bytes : List ℕ) (kept : List Token) (pieces : List Piece) : Type 0 where
-  pub tokens : List Token
-  pub cut : IsCut bytes tokens
-  pub same_tokens : kept ≡ kept_tokens bytes tokens
-  pub same_pieces : pieces ≡ units_of bytes kept (notes_of bytes tokens)
+-- The words ask for a script, the bytes were gathered, and they have fewer candidates than are asked for.
+pub record HasTooFew (words : List (List ℕ)) (left_before left_after : Option (List ℕ)) : Type 0 where
+  pub options : Options
+  pub legal : AreLegal words options
+  pub asked : AskedScript
+  pub script : options.script ≡ Some asked
+  pub bytes : List ℕ
+  pub few : HasFewCandidates bytes options.without asked
+  pub input : IsInput options.generate left_before left_after bytes
 
 -- the status after the text was written, or after what stopped that
 abbrev pub status_after : Result Status Stop → Status
@@ -114,14 +124,20 @@ status_after (Err stops.NoMemory) = NoMemory
 pub record TookText (bytes : List ℕ) (o : Options) (taken_before taken_after : Option (List ℕ)) (flushed given_before given_after : ℕ) (status : Status) : Type 0 where
   pub text : List ℕ
   pub marks : ℕ
-  pub lawful : IsLawfulText bytes o text status marks
+  pub lawful : IsLawfulOutput bytes o o.script o.bundle text status marks
   pub written : Appended taken_before taken_after text
   pub flush : IsFlushed taken_after flushed
   pub counted : AreCounted given_before given_after marks
 
 pub record TookPrefix (bytes : List ℕ) (o : Options) (taken_before taken_after : Option (List ℕ)) : Type 0 where
   pub text : List ℕ
-  pub status : Status
-  pub marks : ℕ
-  pub lawful : IsLawfulText bytes o text status marks
+  pub front : IsLawfulFront bytes o o.script o.bundle text
   pub written : AppendedPrefix taken_before taken_after text
+
+-- the options ask for a script, and the bytes have fewer candidates than are asked for
+pub record TookNothing (bytes : List ℕ) (o : Options) (taken_before taken_after : Option (List ℕ)) (flushed_before flushed_after : ℕ) : Type 0 where
+  pub asked : AskedScript
+  pub script : o.script ≡ Some asked
+  pub few : HasFewCandidates bytes o.without asked
+  pub taken : taken_after ≡ taken_before
+  pub flushed : flushed_after ≡ flushed_before

@@ -1,8 +1,9 @@
-//! The top call: from the bytes of a source to records on a sink.
+//! The top call: from the bytes of a source to records, or to the script of a candidate, on a sink.
 #![tactic(auto)]
 
 mod lint;
 mod run;
+mod scripts;
 
 pub use lint::lint_main;
 pub use run::run_checker;

@@ -1,24 +1,27 @@
 //! The top call.
 
-ghost use Rattle.std.specs.Prelude.{◌≡◌, ◌↔◌, ◌⊎◌, ◌≤◌, ◌<◌, ℕ, List, length, map, None, Some, Err, IfOk, IfSome, IsErrOf, OnOk, OnErr, vec_len};
+ghost use Rattle.std.specs.Prelude.{◌≡◌, ◌↔◌, ◌⊎◌, ◌≤◌, ◌<◌, ℕ, true, false, List, length, map, None, Some, Err, IfOk, IfSome, IsErrOf, OnOk, OnErr, vec_len};
 ghost use Rattle.std.specs.String.{string_bytes};
 ghost use Rattle.stk_base.specs.Limits.{most_bytes};
 ghost use Rattle.stk_base.specs.Causes.{Rose};
 ghost use Rattle.stk_base.specs.Streams.{Came, Appended, AppendedPrefix, IsFlushed};
 ghost use Rattle.stk_lex.specs.Units.{AreJoined};
 ghost use Rattle.stk_records.specs.Form.{written_summary};
-ghost use Rattle.stk_lint.specs.LawfulText.{body_of_piece, status_of, tokens_of_piece};
+ghost use Rattle.stk_units.specs.Pieces.{AreUnitsOf};
 ghost use Rattle.stk_lint.specs.Judged.{WroteUnits, WroteUnitsPrefix};
-ghost use Rattle.stk_lint.specs.Lint.{IsWritten, IsUnread, IsLegal, AskForReading, IsInput, fault_line, HasWritten, HasWrittenPrefix, IsSkimmedFrom, AreUnitsOf, TookText, TookPrefix, status_after};
+ghost use Rattle.stk_lint.specs.Lint.{IsWritten, IsUnread, IsLegal, AskForReading, AskForScript, IsInput, fault_line, HasWritten, HasWrittenPrefix, HasTooFew, TookText, TookPrefix, TookNothing, status_after};
 
+use crate::scripts::answer_script;
 use std::alloc::Global;
-use stk_base::{List, MOST_BYTES, NoMemory, ReadAll, Sink, Source, Status, read_all, write_all};
+use stk_base::{MOST_BYTES, NoMemory, ReadAll, Sink, Source, Status, read_all, write_all};
+use stk_bundles::{BundledFile, write_bundle};
 use stk_ctype::Names;
 use stk_gen::{MOST_FUNCTIONS, source_of};
-use stk_lex::{Piece, Places, Skimmed, Token, cut, lex, skim};
+use stk_lex::{Piece, Places, Token};
 use stk_query::{Decider, MOST_BUDGET};
 use stk_records::{Counts, Options, Stop, WordsFault, words as options_of, write_summary};
 use stk_unit_lines::{LintedFile, write_unit};
+use stk_units::{Units, body_of_piece, cut_into_units, status_of, tokens_of};
 
 // The status of a refusal to read.
 fn refused(refusal: ReadAll) -> Status
@@ -32,55 +35,6 @@ fn refused(refusal: ReadAll) -> Status
         ReadAll::TooLarge => Status::TooLarge,
         ReadAll::NoMemory => Status::NoMemory,
     }
-}
-
-// The units of an input: the tokens that skimming keeps, and where each unit's stand.
-#[derive(Debug, Drop)]
-struct Units {
-    tokens: List<Token>,
-    pieces: Vec<Piece>,
-}
-
-// The tokens of an input that skimming keeps, and its notes.
-fn skimmed_tokens(alloc: Global, bytes: &[u8]) -> Result<Skimmed, NoMemory>
-    requires { length bytes.now ≤ most_bytes }
-    ensures { IfOk result (IsSkimmedFrom bytes.now) }
-{
-    let tokens = lex(alloc, bytes)?;
-    skim(alloc, bytes, tokens.as_slice())
-}
-
-// Cuts an input into its units.
-fn cut_into_units(alloc: Global, bytes: &[u8]) -> Result<Units, NoMemory>
-    requires { length bytes.now ≤ most_bytes }
-    ensures are { IfOk result (λ units. AreUnitsOf bytes.now units.tokens units.pieces.items) }
-    ensures joined { IfOk result (λ units. AreJoined 0 (length units.tokens) units.pieces.items) }
-    ensures few { IfOk result (λ units. length units.tokens ≤ most_bytes) }
-{
-    let skimmed = skimmed_tokens(alloc, bytes)?;
-    let pieces = cut(alloc, bytes, &skimmed)?;
-    let Skimmed { tokens, .. } = skimmed;
-    Ok(Units { tokens, pieces })
-}
-
-// How many tokens of a unit stand before its body, where one was found.
-fn body_of_piece(piece: Piece) -> Option<usize>
-    ensures { result ≡ body_of_piece piece }
-{
-    match piece.body {
-        None => None,
-        Some(at) => Some(at.saturating_sub(piece.from) as usize),
-    }
-}
-
-// The tokens of a unit, among those of its file.
-fn tokens_of(tokens: &[Token], piece: Piece) -> &[Token]
-    requires { (piece.from ≤ piece.to) × (piece.to ≤ length tokens.now) }
-    ensures { result.now ≡ tokens_of_piece tokens.now piece }
-{
-    let (_, rest) = tokens.split_at(piece.from as usize);
-    let (unit, _) = rest.split_at((piece.to - piece.from) as usize);
-    unit
 }
 
 // Judges units and writes their records, one after the other. The answer is what they count for together.
@@ -125,19 +79,6 @@ fn finish<K: Sink>(alloc: Global, options: Options, counts: Counts, out: &mut K)
     Ok(())
 }
 
-// The status where so many candidates are unstable, and so many undecided.
-fn status_of(unstable: u64, undecided: u64) -> Status
-    ensures { result ≡ status_of unstable undecided }
-{
-    if unstable > 0 {
-        Status::Found
-    } else if undecided > 0 {
-        Status::Unsure
-    } else {
-        Status::Stable
-    }
-}
-
 // Writes the records of units and the summary, and flushes them.
 fn write_text<K: Sink, D: Decider>(
     file: &LintedFile,
@@ -150,6 +91,8 @@ fn write_text<K: Sink, D: Decider>(
     requires few { length units.now.tokens ≤ most_bytes }
     requires least { 1 ≤ file.now.options.budget }
     requires most { file.now.options.budget ≤ MOST_BUDGET }
+    requires script { file.now.options.script ≡ None }
+    requires bundle { file.now.options.bundle ≡ false }
     ensures text { IfOk result (TookText file.now.input.now file.now.options (K.taken out.old) (K.taken out.new) (K.flushed out.new) (D.given_up decider.old) (D.given_up decider.new)) }
     ensures prefix { OnErr result (TookPrefix file.now.input.now file.now.options (K.taken out.old) (K.taken out.new)) }
     ensures fault { result ≡ Err Stop.WriteFault → Rose (K.faults out.old) (K.faults out.new) }
@@ -184,7 +127,86 @@ fn ended(written: Result<Status, Stop>) -> Status
     }
 }
 
-// Judges what was read, writes its records and flushes them.
+// Writes the bundle of units and flushes it.
+fn write_bundled<K: Sink, D: Decider>(
+    file: &LintedFile,
+    units: &Units,
+    out: &mut K,
+    decider: &mut D,
+) -> Result<Status, Stop>
+    requires are { AreUnitsOf file.now.input.now units.now.tokens units.now.pieces.items }
+    requires joined { AreJoined 0 (length units.now.tokens) units.now.pieces.items }
+    requires few { length units.now.tokens ≤ most_bytes }
+    requires least { 1 ≤ file.now.options.budget }
+    requires most { file.now.options.budget ≤ MOST_BUDGET }
+    requires script { file.now.options.script ≡ None }
+    requires bundle { file.now.options.bundle ≡ true }
+    ensures text { IfOk result (TookText file.now.input.now file.now.options (K.taken out.old) (K.taken out.new) (K.flushed out.new) (D.given_up decider.old) (D.given_up decider.new)) }
+    ensures prefix { OnErr result (TookPrefix file.now.input.now file.now.options (K.taken out.old) (K.taken out.new)) }
+    ensures fault { result ≡ Err Stop.WriteFault → Rose (K.faults out.old) (K.faults out.new) }
+{
+    let bundled = BundledFile {
+        alloc: file.alloc,
+        input: file.input,
+        without: file.options.without,
+        budget: file.options.budget,
+    };
+    write_bundle(&bundled, units, out, decider)
+}
+
+// Writes the records of units, or the bundle that the options ask for, and flushes them.
+fn write_judged<K: Sink, D: Decider>(
+    file: &LintedFile,
+    units: &Units,
+    out: &mut K,
+    decider: &mut D,
+) -> Result<Status, Stop>
+    requires are { AreUnitsOf file.now.input.now units.now.tokens units.now.pieces.items }
+    requires joined { AreJoined 0 (length units.now.tokens) units.now.pieces.items }
+    requires few { length units.now.tokens ≤ most_bytes }
+    requires least { 1 ≤ file.now.options.budget }
+    requires most { file.now.options.budget ≤ MOST_BUDGET }
+    requires script { file.now.options.script ≡ None }
+    ensures text { IfOk result (TookText file.now.input.now file.now.options (K.taken out.old) (K.taken out.new) (K.flushed out.new) (D.given_up decider.old) (D.given_up decider.new)) }
+    ensures prefix { OnErr result (TookPrefix file.now.input.now file.now.options (K.taken out.old) (K.taken out.new)) }
+    ensures fault { result ≡ Err Stop.WriteFault → Rose (K.faults out.old) (K.faults out.new) }
+{
+    if file.options.bundle {
+        return write_bundled(file, units, out, decider);
+    }
+    write_text(file, units, out, decider)
+}
+
+// Judges units and writes their records, or the bundle or script that the options ask for, and flushes them.
+fn answer_units<K: Sink, D: Decider>(
+    file: &LintedFile,
+    units: &Units,
+    out: &mut K,
+    decider: &mut D,
+) -> Status
+    requires are { AreUnitsOf file.now.input.now units.now.tokens units.now.pieces.items }
+    requires joined { AreJoined 0 (length units.now.tokens) units.now.pieces.items }
+    requires few { length units.now.tokens ≤ most_bytes }
+    requires least { 1 ≤ file.now.options.budget }
+    requires most { file.now.options.budget ≤ MOST_BUDGET }
+    requires counted { IfSome file.now.options.script (λ asked. 1 ≤ asked.number) }
+    ensures only { IsWritten result ⊎ ((result ≡ Status.NoCandidate) ⊎ ((result ≡ Status.WriteFault) ⊎ (result ≡ Status.NoMemory))) }
+    ensures text { IsWritten result → TookText file.now.input.now file.now.options (K.taken out.old) (K.taken out.new) (K.flushed out.new) (D.given_up decider.old) (D.given_up decider.new) result }
+    ensures none { result ≡ Status.NoCandidate → TookNothing file.now.input.now file.now.options (K.taken out.old) (K.taken out.new) (K.flushed out.old) (K.flushed out.new) }
+    ensures prefix { result ≡ Status.WriteFault → TookPrefix file.now.input.now file.now.options (K.taken out.old) (K.taken out.new) }
+    ensures no_memory { result ≡ Status.NoMemory → (K.taken out.new ≡ K.taken out.old) ⊎ TookPrefix file.now.input.now file.now.options (K.taken out.old) (K.taken out.new) }
+    ensures fault { result ≡ Status.WriteFault → Rose (K.faults out.old) (K.faults out.new) }
+{
+    match file.options.script {
+        None => {
+            let written = write_judged(file, units, out, decider);
+            ended(written)
+        }
+        Some(asked) => answer_script(file, units, asked, out),
+    }
+}
+
+// Judges what was read, writes its records, or the bundle or script that the options ask for, and flushes them.
 fn answer<K: Sink, D: Decider>(
     alloc: Global,
     bytes: &[u8],
@@ -195,8 +217,10 @@ fn answer<K: Sink, D: Decider>(
     requires few { length bytes.now ≤ most_bytes }
     requires least { 1 ≤ options.budget }
     requires most { options.budget ≤ MOST_BUDGET }
-    ensures only { IsWritten result ⊎ ((result ≡ Status.WriteFault) ⊎ (result ≡ Status.NoMemory)) }
+    requires counted { IfSome options.script (λ asked. 1 ≤ asked.number) }
+    ensures only { IsWritten result ⊎ ((result ≡ Status.NoCandidate) ⊎ ((result ≡ Status.WriteFault) ⊎ (result ≡ Status.NoMemory))) }
     ensures text { IsWritten result → TookText bytes.now options (K.taken out.old) (K.taken out.new) (K.flushed out.new) (D.given_up decider.old) (D.given_up decider.new) result }
+    ensures none { result ≡ Status.NoCandidate → TookNothing bytes.now options (K.taken out.old) (K.taken out.new) (K.flushed out.old) (K.flushed out.new) }
     ensures prefix { result ≡ Status.WriteFault → TookPrefix bytes.now options (K.taken out.old) (K.taken out.new) }
     ensures no_memory { result ≡ Status.NoMemory → (K.taken out.new ≡ K.taken out.old) ⊎ TookPrefix bytes.now options (K.taken out.old) (K.taken out.new) }
     ensures fault { result ≡ Status.WriteFault → Rose (K.faults out.old) (K.faults out.new) }
@@ -209,8 +233,7 @@ fn answer<K: Sink, D: Decider>(
         input: &input,
         options,
     };
-    let written = write_text(&file, &units, out, decider);
-    ended(written)
+    answer_units(&file, &units, out, decider)
 }
 
 // The bytes that are judged: all that the source has left, or where the options ask for it a generated text.
@@ -237,7 +260,7 @@ fn input_bytes<S: Source>(
     }
 }
 
-// Gathers the input, judges it and writes its records.
+// Gathers the input, judges it and writes its records, or the bundle or script that is asked for.
 fn run<S: Source, K: Sink, D: Decider>(
     alloc: Global,
     words: &[String],
@@ -249,7 +272,8 @@ fn run<S: Source, K: Sink, D: Decider>(
     ensures prefix { result ≡ Status.WriteFault → HasWrittenPrefix (map string_bytes words.now) (S.left source.old) (S.left source.new) (K.taken out.old) (K.taken out.new) }
     ensures nothing { IsUnread result → (K.taken out.new ≡ K.taken out.old) × (K.flushed out.new ≡ K.flushed out.old) }
     ensures no_memory { result ≡ Status.NoMemory → (K.taken out.new ≡ K.taken out.old) ⊎ HasWrittenPrefix (map string_bytes words.now) (S.left source.old) (S.left source.new) (K.taken out.old) (K.taken out.new) }
-    ensures only { IsWritten result ⊎ (IsUnread result ⊎ ((result ≡ Status.WriteFault) ⊎ (result ≡ Status.NoMemory))) }
+    ensures no_candidate { result ≡ Status.NoCandidate → HasTooFew (map string_bytes words.now) (S.left source.old) (S.left source.new) × (K.taken out.new ≡ K.taken out.old) × (K.flushed out.new ≡ K.flushed out.old) }
+    ensures only { IsWritten result ⊎ (IsUnread result ⊎ (((result ≡ Status.NoCandidate) × AskForScript (map string_bytes words.now)) ⊎ ((result ≡ Status.WriteFault) ⊎ (result ≡ Status.NoMemory)))) }
     ensures bad_words { (result ≡ Status.BadWords) ↔ (IsLegal (map string_bytes words.now) → ⊥) }
     ensures unread { (AskForReading (map string_bytes words.now) → ⊥) → (S.left source.new ≡ S.left source.old) × (S.faults source.new ≡ S.faults source.old) }
     ensures read_fault { result ≡ Status.ReadFault → AskForReading (map string_bytes words.now) × Rose (S.faults source.old) (S.faults source.new) }
@@ -290,22 +314,32 @@ fn tell<E: Sink>(fault: &mut E, status: Status)
 }
 
 /// Reads C from a source, writes the records of what is unstable in it to a sink, and flushes them; tells of a failure
-/// on a third sink. The words ask for options: `--json`, `--budget N`, `--without LIST`, and `--generate M` with
-/// `--functions N` (stk_records). With the last two the source is left unread: the bytes that are judged are the text
-/// that M generates, of N functions (stk_gen), and of the records the summary alone is written. The answer says how it
-/// ended:
+/// on a third sink. The words ask for options: `--json`, `--budget N`, `--without LIST`, `--generate M` with
+/// `--functions N`, `--bundle`, and `--smt N` or `--smt-hit N` (stk_records). With `--generate` the source is left
+/// unread: the bytes that are judged are the text that M generates, of N functions (stk_gen), and of the records the
+/// summary alone is written. With `--bundle` no records are written: what is written of the same findings is a bundle, a
+/// claim for each report with what closes it, or that the candidate has none (stk_bundles). With `--smt` and `--smt-hit`
+/// no records are written either, and no decider is asked: what is written is the SMT-LIB script of the query of the N-th
+/// candidate of all functions that are judged, counted from 1 in the order of their records, clear ones included, for all
+/// conditions of its function, or for none. It denotes exactly the residues of the valid input maps whose path run hits
+/// that candidate where no condition of that set has been violated before (Wang, Zeldovich, Kaashoek, Solar-Lezama, SOSP
+/// 2013, section 3). The answer says how it ended:
 ///
 /// - `Stable`, `Found` and `Unsure`: the source was read to its end, or a text was generated; the sink took a text that
 ///   is lawful for these bytes and the options, and was flushed; `Found` where at least one candidate is unstable,
-///   `Unsure` where none is and at least one is undecided. What the records say is undecided or open is at most as much
-///   as the count of goals that the decider gave up rose by, or that stands at the last value of a u64; and it is
-///   nothing where it didn't rise.
+///   `Unsure` where none is and at least one is undecided. What the findings say is undecided or open, with the reports
+///   that have no claim in a bundle, is at most as much as the count of goals that the decider gave up rose by, or that
+///   stands at the last value of a u64; and it is nothing where it didn't rise. With `--smt` and `--smt-hit` the text is
+///   the script, and it ends `Stable`.
+/// - `NoCandidate`: only where the words ask for a script, the source was read to its end, and there are fewer than N
+///   candidates. The sink took nothing.
 /// - `BadWords`: exactly where the words aren't legal. The source is unread.
 /// - `ReadFault`: only where the source was to be read and counted a fault; after every other answer it counted none.
 /// - `TooLarge`: exactly where the source was to be read, and more than 16,777,216 bytes came before the end and before
 ///   any failed call.
-/// - `WriteFault`: only where the sink counted a fault. It took some prefix of a lawful text.
-/// - `NoMemory`: no clause says when it comes. The sink took nothing, or some prefix of a lawful text.
+/// - `WriteFault`: only where the sink counted a fault. It took some prefix of a lawful text, of the script, or of a
+///   lawful bundle or what one may begin with.
+/// - `NoMemory`: no clause says when it comes. The sink took nothing, or some prefix as after `WriteFault`.
 ///
 /// After `BadWords`, `ReadFault` and `TooLarge` the sink took nothing. Where the third sink counted no fault, it took
 /// exactly the line of the failure, and nothing where the records are written; a fault of it changes nothing else.
@@ -321,7 +355,8 @@ pub fn lint_main<S: Source, K: Sink, E: Sink, D: Decider>(
     ensures prefix { result ≡ Status.WriteFault → HasWrittenPrefix (map string_bytes words.now) (S.left source.old) (S.left source.new) (K.taken out.old) (K.taken out.new) }
     ensures nothing { IsUnread result → (K.taken out.new ≡ K.taken out.old) × (K.flushed out.new ≡ K.flushed out.old) }
     ensures no_memory { result ≡ Status.NoMemory → (K.taken out.new ≡ K.taken out.old) ⊎ HasWrittenPrefix (map string_bytes words.now) (S.left source.old) (S.left source.new) (K.taken out.old) (K.taken out.new) }
-    ensures only { IsWritten result ⊎ (IsUnread result ⊎ ((result ≡ Status.WriteFault) ⊎ (result ≡ Status.NoMemory))) }
+    ensures no_candidate { result ≡ Status.NoCandidate → HasTooFew (map string_bytes words.now) (S.left source.old) (S.left source.new) × (K.taken out.new ≡ K.taken out.old) × (K.flushed out.new ≡ K.flushed out.old) }
+    ensures only { IsWritten result ⊎ (IsUnread result ⊎ (((result ≡ Status.NoCandidate) × AskForScript (map string_bytes words.now)) ⊎ ((result ≡ Status.WriteFault) ⊎ (result ≡ Status.NoMemory)))) }
 
     // When each refusal comes.
     ensures bad_words { (result ≡ Status.BadWords) ↔ (IsLegal (map string_bytes words.now) → ⊥) }
@@ -334,7 +369,7 @@ pub fn lint_main<S: Source, K: Sink, E: Sink, D: Decider>(
     // With legal words, over a source that tells no more bytes than the limit, and where nothing fails.
     ensures complete { (bytes : List ℕ) → IsLegal (map string_bytes words.now) → S.left source.old ≡ Some bytes → length bytes ≤ 16777216
         → ¬ Rose (S.faults source.old) (S.faults source.new) → ¬ Rose (K.faults out.old) (K.faults out.new)
-        → IsWritten result ⊎ (result ≡ Status.NoMemory) }
+        → IsWritten result ⊎ (((result ≡ Status.NoCandidate) × AskForScript (map string_bytes words.now)) ⊎ (result ≡ Status.NoMemory)) }
     ensures complete_generated { IsLegal (map string_bytes words.now) → (AskForReading (map string_bytes words.now) → ⊥)
         → ¬ Rose (K.faults out.old) (K.faults out.new) → IsWritten result ⊎ (result ≡ Status.NoMemory) }
 

@@ -16,7 +16,7 @@ struct Row {
     status: Status,
 }
 
-static ROWS: [Row; 35] = [
+static ROWS: [Row; 44] = [
     Row {
         words: &[],
         input: "",
@@ -227,6 +227,60 @@ static ROWS: [Row; 35] = [
         records: "",
         status: Status::BadWords,
     },
+    Row {
+        words: &["--smt", "4"],
+        input: "int f(unsigned char x) { int y = 10 / x; if (x == 0) return 1; return y; }",
+        records: "",
+        status: Status::NoCandidate,
+    },
+    Row {
+        words: &["--smt-hit=1"],
+        input: "",
+        records: "",
+        status: Status::NoCandidate,
+    },
+    Row {
+        words: &["--smt", "1", "--smt-hit", "1"],
+        input: "",
+        records: "",
+        status: Status::BadWords,
+    },
+    Row {
+        words: &["--json", "--smt", "1"],
+        input: "",
+        records: "",
+        status: Status::BadWords,
+    },
+    Row {
+        words: &["--bundle"],
+        input: "int f(unsigned char x) { int y = 10 / x; if (x == 0) return 1; return y; }",
+        records: "stack bundle 1\nsource 74\nwithout -\nfunction 0\nunstable 12 3\nhit 0\nneed 8 2 0\ntried\nunstable 14 1\nhit 0\nneed 8 2 0\ntried\nend\n",
+        status: Status::Found,
+    },
+    Row {
+        words: &["--without", "zero", "--bundle"],
+        input: "int f(unsigned char x) { int y = 10 / x; if (x == 0) return 1; return y; }",
+        records: "stack bundle 1\nsource 74\nwithout zero\nend\n",
+        status: Status::Stable,
+    },
+    Row {
+        words: &["--bundle"],
+        input: "",
+        records: "stack bundle 1\nsource 0\nwithout -\nend\n",
+        status: Status::Stable,
+    },
+    Row {
+        words: &["--bundle", "--json"],
+        input: "",
+        records: "",
+        status: Status::BadWords,
+    },
+    Row {
+        words: &["--smt", "1", "--bundle"],
+        input: "",
+        records: "",
+        status: Status::BadWords,
+    },
 ];
 
 /// Texts of one unit with the cause that it is skipped for; without a cause, it is a declaration.
@@ -326,10 +380,11 @@ pub const CALM: Outside = Outside {
     fault_fails: None,
 };
 
-/// What standard error takes of bad words.
+/// What standard error takes of bad words, and where there is no such candidate.
 fn line_of(status: Status) -> &'static [u8] {
     match status {
         Status::BadWords => b"stack: bad words\n",
+        Status::NoCandidate => b"stack: no such candidate\n",
         _ => b"",
     }
 }

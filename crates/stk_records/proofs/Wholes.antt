@@ -1,14 +1,12 @@
 -- Words as a list of items, from one item to the next.
-use Rattle.std.proofs.Common.{◌≡◌, ℕ, ◌<◌, Bool, true, false, not, List, [], ◌∷◌, length, refl, sym, ap, ◌∙◌, subst, arith}
-use Rattle.std.specs.Prelude.{is_some}
-use mathlib.Core.Bool.{beq}
+use Rattle.std.proofs.Common.{◌≡◌, ℕ, ◌<◌, true, false, List, [], ◌∷◌, length, refl, sym, ap, ◌∙◌, subst, arith}
 use Rattle.stk_records.specs.declared.options.Options.{Options}
 use Rattle.stk_records.specs.declared.options.Item.{Item}
 use Rattle.stk_records.specs.declared.options.Seen.{Seen}
-use Rattle.stk_records.specs.Words.{with_item, has_come, IsItem, json, apart, joined, IsItemAlone, AreItems, no_more, then_item}
+use Rattle.stk_records.specs.Words.{with_item, has_come, stand_together, IsItem, by_itself, apart, joined, IsItemAlone, AreItems, no_more, then_item}
 
 none_in : {x : Item} {left : List (List ℕ)} (words : List (List ℕ)) → words ≡ [] → IsItem words x left → ⊥
-none_in words e (json f) = cc
+none_in words e (by_itself g f i) = cc
 none_in words e (apart g f t) = cc
 none_in words e (joined g s f t) = cc
 
@@ -24,14 +22,14 @@ pub no_items : {seen : Seen} {words : List (List ℕ)} {o : Options} → ((x : I
 no_items none some (no_more p e) = some refl
 no_items none some (then_item {left = left} {x = x} i free rest) = none x left i
 
--- behind the last item both numbers have come, or none of them
-pub paired : {seen : Seen} {words : List (List ℕ)} {o : Options} → words ≡ [] → AreItems seen words o → is_some seen.generate ≡ is_some seen.functions
+-- behind the last item those that have come may stand together
+pub paired : {seen : Seen} {words : List (List ℕ)} {o : Options} → words ≡ [] → AreItems seen words o → stand_together seen ≡ true
 paired e (no_more p d) = p
 paired {words = words} e (then_item i free rest) = absurd (none_in words e i)
 
 -- an item takes a word
 pub shorter : {words left : List (List ℕ)} {x : Item} → IsItem words x left → length left < length words
-shorter (json f) = omega arith
+shorter (by_itself g f i) = omega arith
 shorter (apart g f t) = omega arith
 shorter (joined g s f t) = omega arith
 
@@ -41,16 +39,3 @@ some_word e = cc
 pub none_left : {A : Type 0} (xs : List A) → length xs ≡ 0 → xs ≡ []
 none_left [] e = refl
 none_left (x ∷ xs) e = absurd (omega arith)
-
--- what a comparison of two tests says
-pub same_tests : (a b : Bool) → not (beq a b) ≡ false → a ≡ b
-same_tests true true e = refl
-same_tests true false e = absurd cc
-same_tests false true e = absurd cc
-same_tests false false e = refl
-
-pub other_tests : (a b : Bool) → not (beq a b) ≡ true → a ≡ b → ⊥
-other_tests true true e s = cc
-other_tests true false e s = cc
-other_tests false true e s = cc
-other_tests false false e s = cc

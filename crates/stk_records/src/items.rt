@@ -4,11 +4,11 @@ ghost use Rattle.std.specs.Prelude.{◌≡◌, ◌++◌, ◌∷◌, ℕ, List, m
 ghost use Rattle.std.specs.String.{string_bytes};
 ghost use Rattle.stk_records.specs.declared.options.Item.{Item as Meant};
 ghost use Rattle.stk_records.specs.declared.items.Form.{Form as Begun};
-ghost use Rattle.stk_records.specs.Words.{form_word, IsNumber, IsText, IsOnlyText, IsItem, IsItemAlone};
+ghost use Rattle.stk_records.specs.Words.{form_word, IsNumber, IsScriptAsked, IsText, IsOnlyText, IsItem, IsItemAlone};
 
 use crate::kinds::kinds_in;
 use crate::numbers::number_in;
-use crate::options::Item;
+use crate::options::{AskedScript, ConditionSet, Item};
 
 // The greatest budget, and the most functions that are generated.
 const MOST_BUDGET: u32 = 200_000;
@@ -23,6 +23,9 @@ enum Form {
     Without,
     Generate,
     Functions,
+    Smt,
+    SmtHit,
+    Bundle,
 }
 
 // Which of these a word is.
@@ -35,6 +38,9 @@ fn form_of(word: &[u8]) -> Option<Form>
         b"--without" => Some(Form::Without),
         b"--generate" => Some(Form::Generate),
         b"--functions" => Some(Form::Functions),
+        b"--smt" => Some(Form::Smt),
+        b"--smt-hit" => Some(Form::SmtHit),
+        b"--bundle" => Some(Form::Bundle),
         _ => None,
     }
 }
@@ -75,6 +81,15 @@ fn joined_form<'a>(word: &'a [u8]) -> Option<(Form, &'a [u8])>
     if let Some(text) = joined(word, b"--functions") {
         return Some((Form::Functions, text));
     }
+    if let Some(text) = joined(word, b"--smt") {
+        return Some((Form::Smt, text));
+    }
+    if let Some(text) = joined(word, b"--smt-hit") {
+        return Some((Form::SmtHit, text));
+    }
+    if let Some(text) = joined(word, b"--bundle") {
+        return Some((Form::Bundle, text));
+    }
     None
 }
 
@@ -86,16 +101,26 @@ fn count_in(text: &[u8], most: u32) -> Option<u32>
     Some(number as u32)
 }
 
+// The item that asks for a script of the query of a candidate for a set of conditions.
+fn script_in(text: &[u8], set: ConditionSet) -> Option<Item>
+    ensures { MatchOption result ((x : Meant) → IsScriptAsked set text.now x → ⊥) (IsScriptAsked set text.now) }
+{
+    let number = number_in(text, 1, u64::MAX)?;
+    Some(Item::Script(AskedScript { number, set }))
+}
+
 // The item of a form and a text.
 fn text_item(form: Form, text: &[u8]) -> Option<Item>
     ensures { MatchOption result ((x : Meant) → IsText form text.now x → ⊥) (IsOnlyText form text.now) }
 {
     match form {
-        Form::Json => None,
+        Form::Json | Form::Bundle => None,
         Form::Budget => Some(Item::Budget(count_in(text, MOST_BUDGET)?)),
         Form::Without => Some(Item::Without(kinds_in(text)?)),
         Form::Generate => Some(Item::Generate(number_in(text, 0, u64::MAX)?)),
         Form::Functions => Some(Item::Functions(count_in(text, MOST_FUNCTIONS)?)),
+        Form::Smt => script_in(text, ConditionSet::All),
+        Form::SmtHit => script_in(text, ConditionSet::Empty),
     }
 }
 
@@ -114,6 +139,7 @@ fn form_item<'a>(form: Form, left: &'a [String]) -> Option<(Item, &'a [String])>
 {
     match form {
         Form::Json => Some((Item::Json, left)),
+        Form::Bundle => Some((Item::Bundle, left)),
         _ => apart_item(form, left),
     }
 }

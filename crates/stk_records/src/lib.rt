@@ -16,7 +16,7 @@ mod writing;
 pub use counts::Counts;
 pub use json::add_json_line;
 pub use line::{Cause, Claim, Fragment, Input, Line, Needed, Spot, StartInputs};
-pub use options::{Options, WordsFault};
+pub use options::{AskedScript, ConditionSet, Options, WordsFault};
 pub use reading::words;
 pub use text::add_line;
 pub use writing::{Stop, write_record, write_summary};

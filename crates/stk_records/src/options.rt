@@ -14,6 +14,29 @@ pub struct Options {
     /// The number that the text is generated from in place of being read, and how many functions it has, from 1 to
     /// 1,000.
     pub generate: Option<(u64, u32)>,
+    /// The query of which a script is written in place of records.
+    pub script: Option<AskedScript>,
+    /// A bundle is written in place of records.
+    pub bundle: bool,
+}
+
+/// A query of which a script is written: whether some valid input map's path run hits a candidate where no condition of
+/// a set has been violated before.
+#[derive(Clone, Copy, Debug, PartialEq, Eq)]
+pub struct AskedScript {
+    /// Which candidate of the input's functions it is, counted from 1.
+    pub number: u64,
+    /// The set of conditions.
+    pub set: ConditionSet,
+}
+
+/// A set of conditions of a function.
+#[derive(Clone, Copy, Debug, PartialEq, Eq)]
+pub enum ConditionSet {
+    /// All of them.
+    All,
+    /// None of them.
+    Empty,
 }
 
 /// The words aren't legal.
@@ -30,6 +53,8 @@ pub(crate) enum Item {
     Without(Kinds),
     Generate(u64),
     Functions(u32),
+    Script(AskedScript),
+    Bundle,
 }
 
 /// The items so far: each may come once.
@@ -40,4 +65,6 @@ pub(crate) struct Seen {
     pub without: Option<Kinds>,
     pub generate: Option<u64>,
     pub functions: Option<u32>,
+    pub script: Option<AskedScript>,
+    pub bundle: bool,
 }

@@ -3,7 +3,7 @@ use std::alloc::Global;
 use std::test::Fail;
 use stk_base::NoMemory;
 use stk_numbers::{Kinds, UbKind};
-use stk_records::{Options, WordsFault, words};
+use stk_records::{AskedScript, ConditionSet, Options, WordsFault, words};
 
 /// Words with single blanks between them, and what they ask for: whether the records are JSON, the budget, the kinds
 /// that don't count, and the number and the functions of a text that is generated.
@@ -96,7 +96,7 @@ static LEGAL: [Legal; 15] = [
     ),
 ];
 
-static BAD: [&str; 35] = [
+static BAD: [&str; 56] = [
     "--help",
     "-json",
     "--json=",
@@ -132,6 +132,27 @@ static BAD: [&str; 35] = [
     "--generate -1 --functions 5",
     "--generate 5 --functions 5 --generate 5",
     "--generate 5 --functions 5 --functions=5",
+    "--smt",
+    "--smt 0",
+    "--smt=",
+    "--smt 18446744073709551616",
+    "--smt-hit -1",
+    "--smt 1 --smt 1",
+    "--smt 1 --smt-hit 1",
+    "--smt-hit 1 --json",
+    "--smt 1 --generate 5 --functions 5",
+    "--functions 5 --smt-hit 1",
+    "--smt-hits 1",
+    "--bundle=",
+    "--bundle 1",
+    "--bundle --bundle",
+    "--bundles",
+    "--bundle --json",
+    "--json --bundle",
+    "--bundle --generate 5 --functions 5",
+    "--functions 5 --bundle",
+    "--bundle --smt 1",
+    "--smt-hit=1 --bundle",
 ];
 
 /// The words of a text.
@@ -174,9 +195,77 @@ fn legal_words_ask_for_options(rt: HostRuntime) -> Result<(), Fail> {
             budget: *budget,
             without: kinds_of(without),
             generate: *generate,
+            script: None,
+            bundle: false,
         };
         let list = split(rt.alloc(), text)?;
         assert!(rt; words(list.as_slice()) == Ok(wanted), "{text:?}");
+    }
+    Ok(())
+}
+
+/// Words that ask for a script, and for which one.
+static SCRIPTS: [(&str, AskedScript); 4] = [
+    (
+        "--smt 1",
+        AskedScript {
+            number: 1,
+            set: ConditionSet::All,
+        },
+    ),
+    (
+        "--smt-hit=18446744073709551615",
+        AskedScript {
+            number: 18446744073709551615,
+            set: ConditionSet::Empty,
+        },
+    ),
+    (
+        "--budget 5 --smt=007",
+        AskedScript {
+            number: 7,
+            set: ConditionSet::All,
+        },
+    ),
+    (
+        "--smt-hit 2 --without null",
+        AskedScript {
+            number: 2,
+            set: ConditionSet::Empty,
+        },
+    ),
+];
+
+#[test]
+fn words_ask_for_scripts(rt: HostRuntime) -> Result<(), Fail> {
+    for (text, asked) in &SCRIPTS {
+        let list = split(rt.alloc(), text)?;
+        let found = match words(list.as_slice()) {
+            Ok(options) => options.script,
+            Err(WordsFault::Bad) => None,
+        };
+        assert!(rt; found == Some(*asked), "{text:?}");
+    }
+    Ok(())
+}
+
+/// Words that ask for a bundle, and with which budget.
+static BUNDLES: [(&str, u32); 4] = [
+    ("--bundle", 20_000),
+    ("--bundle --budget 5", 5),
+    ("--budget=200000 --bundle", 200_000),
+    ("--without null --bundle --budget 1", 1),
+];
+
+#[test]
+fn words_ask_for_bundles(rt: HostRuntime) -> Result<(), Fail> {
+    for (text, budget) in &BUNDLES {
+        let list = split(rt.alloc(), text)?;
+        let found = match words(list.as_slice()) {
+            Ok(options) if options.bundle => options.budget,
+            _ => 0,
+        };
+        assert!(rt; found == *budget, "{text:?}");
     }
     Ok(())
 }

@@ -20,7 +20,7 @@ struct Case {
     wanted: Wanted,
 }
 
-static CASES: [Case; 6] = [
+static CASES: [Case; 8] = [
     // a sum with 200 wraps from 56 on
     Case {
         text: b"(set-logic QF_BV)(declare-fun k0 () (_ BitVec 8))(define-fun t () (_ BitVec 8) (bvadd k0 (_ bv200 8)))(assert (bvult t k0))(check-sat)",
@@ -34,6 +34,15 @@ static CASES: [Case; 6] = [
     Case {
         text: b"(declare-fun x () (_ BitVec 4))(assert (bvslt x x))(check-sat)",
         wanted: Wanted::Never,
+    },
+    // as z3 writes a goal, with literals of its own or with plain ones
+    Case {
+        text: b"(declare-fun k0 () (_ BitVec 8))\n(assert (= (bvudiv #x10 k0) (bvurem k0 #x03)))\n(check-sat)\n",
+        wanted: Wanted::Bad,
+    },
+    Case {
+        text: b"(declare-fun k0 () (_ BitVec 8))\n(assert (= (bvudiv (_ bv16 8) k0) (bvurem k0 (_ bv3 8))))\n(check-sat)\n",
+        wanted: Wanted::First(8),
     },
     // no name, a name twice, widths that don't fit
     Case {

@@ -1,13 +1,13 @@
 -- Each text has a cut: at each place a gap or a token begins.
-use Rattle.std.proofs.Common.{◌≡◌, ℕ, zero, suc, ◌+◌, ◌-◌, ◌<◌, ◌≤◌, max, Bool, true, false, cond, ◌&&◌, ◌==◌, List, [], ◌∷◌, length, take, drop, refl, sym, ap, subst, ◌∙◌, ◌⊎◌, inl, inr, arith}
+use Rattle.std.proofs.Common.{◌≡◌, ℕ, zero, suc, ◌+◌, ◌-◌, ◌<◌, ◌≤◌, max, Bool, true, false, cond, ◌&&◌, ◌==◌, List, [], ◌∷◌, length, take, drop, refl, sym, subst, ◌⊎◌, inl, inr, arith}
 use Rattle.std.proofs.lemmas.Bool.{cases_order}
 use Rattle.std.proofs.lemmas.List.{length-drop}
 use Rattle.stk_base.specs.declared.token.Class.{Class}
 use Rattle.stk_base.specs.declared.token.Class.TheVariants as classes
 use Rattle.stk_lex.specs.declared.token.Token.{Token}
-use Rattle.stk_lex.specs.Classes.{IsLongest, is_word, is_number, is_character, is_text, is_punctuator, is_digraph}
+use Rattle.stk_lex.specs.Classes.{is_word, is_number, is_character, is_text, is_punctuator, is_digraph}
 use Rattle.stk_lex.specs.Lengths.{word_length, number_length, character_length, text_length, punctuator_length, digraph_length, form_length}
-use Rattle.stk_lex.specs.Gaps.{line, comment, gap, gap_at, only_blanks, AreGaps, no_gap, more_gaps}
+use Rattle.stk_lex.specs.Gaps.{line, comment, gap, only_blanks, AreGaps, no_gap, more_gaps}
 use Rattle.stk_lex.specs.Cut.{InClass, IsFirst, IsCut, IsCutFrom, begins_comment, begins_quote, digraph}
 use Rattle.stk_lex.proofs.Cuts.{cut_behind, cut_more}
 use Rattle.stk_lex.proofs.First.{endless, first_form, passes_of, stray_byte, stray_comment, stray_quote}

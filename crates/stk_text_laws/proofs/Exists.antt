@@ -9,7 +9,8 @@ use Rattle.stk_type_laws.proofs.Kept.{units_keep_order}
 use Rattle.stk_records.specs.declared.options.Options.{Options}
 use Rattle.stk_unit_lines.specs.Marks.{lines_marks}
 use Rattle.stk_records.specs.Form.{written_records, written_summary}
-use Rattle.stk_lint.specs.LawfulText.{IsLawfulText, status_of}
+use Rattle.stk_units.specs.Counted.{status_of}
+use Rattle.stk_lint.specs.LawfulText.{IsLawfulText}
 use Rattle.stk_lint.proofs.Units.{lines_of_units}
 
 pub records_of : (bytes : List ℕ) (o : Options) → (text : List ℕ) × ((status : Status) × ((marks : ℕ) × IsLawfulText bytes o text status marks))
@@ -25,11 +26,9 @@ records_of bytes o =
         (
           lines_marks units.lines,
           record {
-            tokens = cut.0;
-            cut = cut.1;
             lines = units.lines;
             counts = units.counts;
-            units = units.are;
+            units = record { tokens = cut.0; cut = cut.1; units = units.are };
             same_text = refl;
             same_status = refl;
             same_marks = refl;

@@ -9,9 +9,9 @@ use Rattle.stk_numbers.specs.declared.conditions.UbKind.TheVariants as ub
 use Rattle.stk_numbers.specs.declared.conditions.Kinds.{Kinds}
 use Rattle.stk_records.specs.declared.options.Options.{Options}
 use Rattle.stk_records.specs.Kinds.{kind_name, is_no_comma, AreNames, last, more}
-use Rattle.stk_records.specs.Words.{IsItem, json, apart, joined, IsItemAlone, AreItems, no_more, then_item, AreLegal}
+use Rattle.stk_records.specs.Words.{IsItem, by_itself, apart, joined, IsItemAlone, AreItems, no_more, then_item, AreLegal}
 use Rattle.stk_records.proofs.Names.{Follows, IsComma, goes_down, only_last}
-use Rattle.stk_records.proofs.Forms.{front_of, json_alone, apart_alone, joined_alone, NamesOne, only_text}
+use Rattle.stk_records.proofs.Forms.{front_of, itself_alone, apart_alone, joined_alone, NamesOne, only_text}
 use Rattle.stk_records.proofs.Wholes as wholes
 use Rattle.stk_lint.specs.Lint.{AskForReading}
 
@@ -77,7 +77,7 @@ names_one : NamesOne
 names_one text all other h k = one_names h k
 
 item_alone : {words left : List (List ℕ)} {x : _} → IsItem words x left → IsItemAlone words x left
-item_alone (json e) = json_alone e
+item_alone (by_itself f e same) = itself_alone f e same
 item_alone (apart f e t) = apart_alone f e (only_text names_one f _ _ t)
 item_alone (joined f text e t) = joined_alone f e (only_text names_one f text _ t)
 

@@ -8,6 +8,7 @@ pub mod Alike
 pub mod Exists
 pub mod Accepted
 pub mod Unique
+pub mod Listed
 pub mod Items
 pub mod RowNumbers
 pub mod Nodes

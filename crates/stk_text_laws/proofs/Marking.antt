@@ -1,5 +1,5 @@
 -- Each punctuator that lexing knows is spelled by one of `Fixed`.
-use Rattle.std.proofs.Common.{◌≡◌, ℕ, Bool, true, false, ◌&&◌, ◌||◌, ◌==◌, List, [], ◌∷◌, refl, sym, ap, subst, ◌∙◌, ◌⊎◌, inl, inr}
+use Rattle.std.proofs.Common.{◌≡◌, ℕ, Bool, true, false, ◌&&◌, ◌||◌, ◌==◌, List, [], ◌∷◌, refl, subst, ◌⊎◌, inl, inr}
 use Rattle.std.specs.List.{list_any}
 use Rattle.std.proofs.lemmas.Bool.{false≢true, eqb-true}
 use Rattle.stk_lex.specs.Classes.{is_punctuator, is_punctuator_of_one, is_punctuator_of_two, is_punctuator_of_three, punctuators_of_one, punctuators_of_two, punctuators_of_three}

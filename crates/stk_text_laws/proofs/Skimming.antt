@@ -1,12 +1,12 @@
 -- What skimming keeps and notes is what stretches give, and nothing else is.
-use Rattle.std.proofs.Common.{◌≡◌, ℕ, zero, suc, ◌+◌, ◌-◌, ◌<◌, ◌≤◌, Bool, true, false, cond, ◌&&◌, ◌||◌, ◌==◌, not, List, [], ◌∷◌, ◌++◌, length, take, drop, refl, sym, ap, subst, ◌∙◌, ◌⊎◌, inl, inr, take-append-drop, arith}
+use Rattle.std.proofs.Common.{◌≡◌, ℕ, zero, suc, ◌-◌, ◌<◌, ◌≤◌, Bool, true, false, cond, ◌&&◌, ◌||◌, ◌==◌, not, List, [], ◌∷◌, ◌++◌, length, take, drop, refl, sym, ap, subst, ◌∙◌, ◌⊎◌, inl, inr, take-append-drop, arith}
 use Rattle.std.specs.List.{list_any}
 use Rattle.std.proofs.lemmas.Bool.{false≢true, eqb-true}
 use Rattle.std.proofs.lemmas.List.{length-drop}
 use Rattle.stk_lex.specs.declared.token.Token.{Token}
 use Rattle.stk_lex.specs.Gaps.{one_more}
 use Rattle.stk_lex.specs.Spelled.{opens_parenthesis, depth_behind, is_dropped_word, is_attribute_word, is_assembly_word, is_changing_word}
-use Rattle.stk_lex.specs.Skimming.{closing, group, drops_group, dropped, note_of, kept, noted, kept_tokens, notes_of}
+use Rattle.stk_lex.specs.Skimming.{closing, group, drops_group, dropped, note_of, kept, noted}
 use Rattle.stk_lex.proofs.Closings.{suc_test}
 use Rattle.stk_lex.proofs.Kept.{kept_keep, kept_drop, noted_keep, noted_drop}
 use Rattle.stk_text_laws.specs.Stretches.{Closes, IsGroup, IsDropped, word, attribute, assembly, NoneDropped, IsSkimmed, ends, keeps, drops}

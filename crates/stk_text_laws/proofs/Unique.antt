@@ -27,11 +27,15 @@ use Rattle.stk_records.specs.Counts.{counts_sum}
 use Rattle.stk_units.specs.Functions.{unit_typing, is_definition}
 use Rattle.stk_units.specs.Causes.{cause_of, body_cause}
 use Rattle.stk_spent_queries.specs.Spent.{spent_at}
-use Rattle.stk_unit_lines.specs.UnitLines.{one_judged, skip_line, function_lines, AreFindingsOf, IsUnitLines, accepted, refused, unjudged, judged}
+use Rattle.stk_units.specs.Counted.{one_judged}
+use Rattle.stk_unit_lines.specs.UnitLines.{skip_line, function_lines, AreFindingsOf, IsUnitLines, accepted, refused, unjudged, judged}
 use Rattle.stk_unit_lines.specs.Marks.{lines_marks}
 use Rattle.stk_text_laws.specs.Texts.{AreNarrow, HasNarrowFunctions}
 use Rattle.stk_records.specs.Form.{written_records, written_summary}
-use Rattle.stk_lint.specs.LawfulText.{body_of_piece, tokens_of_piece, AreUnitsLines, no_unit, then_unit, status_of, IsLawfulText}
+use Rattle.stk_units.specs.Counted.{status_of}
+use Rattle.stk_units.specs.Pieces.{body_of_piece, tokens_of_piece}
+use Rattle.stk_units.specs.Said.{no_unit, then_unit}
+use Rattle.stk_lint.specs.LawfulText.{AreUnitsLines, IsLawfulText}
 use Rattle.stk_text_laws.proofs.Accepted.{one_tree, one_left, not_both, one_accepted, one_cause}
 
 -- ---- functions and their causes
@@ -131,20 +135,20 @@ module _ {bytes : List ℕ} {without : Kinds} {budget : ℕ} {punctuator : Bool}
 
 -- ---- the lines of units
 
-one_units_lines : {bytes : List ℕ} {o : Options} {tokens : List Token} {es fs : List NameEntry} {ps : List Piece} {lines other : List Line} {counts also : Counts} → es ≡ fs → AreNarrow bytes o tokens es ps → AreUnitsLines bytes o tokens es ps lines counts → AreUnitsLines bytes o tokens fs ps other also → (lines ≡ other) × (counts ≡ also)
+one_units_lines : (bytes : List ℕ) (o : Options) {tokens : List Token} {es fs : List NameEntry} {ps : List Piece} {lines other : List Line} {counts also : Counts} → es ≡ fs → AreNarrow bytes o tokens es ps → AreUnitsLines bytes o tokens es ps lines counts → AreUnitsLines bytes o tokens fs ps other also → (lines ≡ other) × (counts ≡ also)
 unfolding Same
-one_units_lines names few no_unit no_unit = (refl, refl)
-one_units_lines {bytes = bytes} {o = o} {tokens = tokens} {fs = fs} names few (then_unit {es = es} {now = now} {p = p} {ps = ps} {lines = a} {others = xs} {counts = m} {more = ms} h hs) (then_unit {now = later} {lines = b} {others = ys} {counts = n} {more = ns} k ks) =
+one_units_lines bytes o names few no_unit no_unit = (refl, refl)
+one_units_lines bytes o {tokens = tokens} {fs = fs} names few (then_unit {es = es} {now = now} {p = p} {ps = ps} {said = a} {others = xs} {counts = m} {more = ms} h hs) (then_unit {now = later} {said = b} {others = ys} {counts = n} {more = ns} k ks) =
     let there = subst (λ (z : List NameEntry). IsUnitLines bytes o.without o.budget p.no_return z (body_of_piece p) (tokens_of_piece tokens p) b n later) (sym names) k in
     let first = one_unit_lines few.0 h there in
-    let rest = one_units_lines first.2 (few.1 a m now h) hs ks in
+    let rest = one_units_lines bytes o first.2 (few.1 a m now h) hs ks in
     (ap (λ (x : List Line). x ++ xs) first.0 ∙ ap (λ (x : List Line). b ++ x) rest.0, ap (λ (x : Counts). counts_sum x ms) first.1 ∙ ap (counts_sum n) rest.1)
 
 pub one_text : (bytes : List ℕ) (o : Options) (text other : List ℕ) (status also : Status) (marks others : ℕ) → HasNarrowFunctions bytes o → IsLawfulText bytes o text status marks → IsLawfulText bytes o other also others → (text ≡ other) × (status ≡ also) × (marks ≡ others)
 one_text bytes o text other status also marks others few h k =
-    let cut : h.tokens ≡ k.tokens = one_cut bytes h.tokens k.tokens h.cut k.cut in
-    let there = subst (λ (ts : List Token). AreUnitsLines bytes o (kept_tokens bytes ts) [] (units_of bytes (kept_tokens bytes ts) (notes_of bytes ts)) k.lines k.counts) (sym cut) k.units in
-    let same = one_units_lines refl (few h.tokens h.cut) h.units there in
+    let cut : h.units.tokens ≡ k.units.tokens = one_cut bytes h.units.tokens k.units.tokens h.units.cut k.units.cut in
+    let there = subst (λ (ts : List Token). AreUnitsLines bytes o (kept_tokens bytes ts) [] (units_of bytes (kept_tokens bytes ts) (notes_of bytes ts)) k.lines k.counts) (sym cut) k.units.units in
+    let same = one_units_lines bytes o refl (few h.units.tokens h.units.cut) h.units.units there in
     let whole : List Line → Counts → List ℕ = λ lines counts. written_records o lines ++ written_summary o.json o.without counts in (
       h.same_text ∙ ap (λ (x : List Line). whole x h.counts) same.0 ∙ ap (whole k.lines) same.1 ∙ sym k.same_text,
       h.same_status ∙ ap (λ (x : Counts). status_of x.unstable x.undecided) same.1 ∙ sym k.same_status,

@@ -5,3 +5,4 @@ pub mod Layouts
 pub mod Texts
 pub mod Words
 pub mod Found
+pub mod Candidates

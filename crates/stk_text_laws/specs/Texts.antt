@@ -18,7 +18,8 @@ use Rattle.stk_records.specs.declared.counts.Counts.{Counts}
 use Rattle.stk_records.specs.declared.line.Line.{Line}
 use Rattle.stk_units.specs.Functions.{unit_typing}
 use Rattle.stk_unit_lines.specs.UnitLines.{IsUnitLines}
-use Rattle.stk_lint.specs.LawfulText.{body_of_piece, tokens_of_piece, IsLawfulText}
+use Rattle.stk_units.specs.Pieces.{body_of_piece, tokens_of_piece}
+use Rattle.stk_lint.specs.LawfulText.{IsLawfulText}
 
 -- for each text and options there are lawful records, with a status
 abbrev pub EachTextHasLawfulRecords : Type 0

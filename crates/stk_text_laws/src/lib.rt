@@ -1,6 +1,7 @@
-//! Laws of texts: of tokens and skimming, of the trees that are read, and of lawful texts of records.
+//! Laws of texts: of tokens and skimming, of the trees that are read, of lawful texts of records, and of candidates.
 #![tactic(auto)]
 
+mod candidates;
 mod cuts;
 mod found;
 mod layouts;
@@ -9,6 +10,7 @@ mod stretches;
 mod texts;
 mod words;
 
+pub use candidates::{each_text_has_candidates, one_list_of_candidates, script_or_too_few};
 pub use cuts::{each_punctuator_is_fixed, each_text_has_a_cut};
 pub use found::nodes_are_found;
 pub use layouts::laid_out_by_its_tokens;

@@ -22,7 +22,8 @@ use Rattle.stk_finding_laws.proofs.Paths.{function_findings}
 use Rattle.stk_spent_queries.specs.Spent.{spent_at}
 use Rattle.stk_units.specs.Functions.{unit_typing}
 use Rattle.stk_units.specs.Causes.{cause_of, body_cause}
-use Rattle.stk_unit_lines.specs.UnitLines.{one_skipped, one_judged, skip_line, function_lines, IsUnitLines, accepted, refused, unjudged, judged}
+use Rattle.stk_units.specs.Counted.{one_skipped, one_judged}
+use Rattle.stk_unit_lines.specs.UnitLines.{skip_line, function_lines, IsUnitLines, accepted, refused, unjudged, judged}
 use Rattle.stk_unit_lines.specs.Wrote.{HasStopped, WroteUnitPrefix}
 use Rattle.stk_units.proofs.Measures.{small}
 use Rattle.stk_units.proofs.Typed.{typed_well}

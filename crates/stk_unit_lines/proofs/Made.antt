@@ -1,17 +1,15 @@
 -- The lines of a unit, from what becomes of it, and back.
-use Rattle.std.proofs.Common.{◌≡◌, ℕ, ◌<◌, ◌+◌, Bool, List, [], ◌∷◌, ◌++◌, length, get_or, Option, Some, None, refl, ap, arith}
-use Rattle.std.proofs.lemmas.List.{length-append}
+use Rattle.std.proofs.Common.{◌≡◌, ℕ, ◌<◌, Bool, List, [], ◌∷◌, length, get_or, Option, refl, arith}
 use Rattle.stk_lex.specs.declared.token.Token.{Token}
 use Rattle.stk_ctype.specs.declared.symbol.NameEntry.{NameEntry}
 use Rattle.stk_numbers.specs.declared.conditions.Kinds.{Kinds}
-use Rattle.stk_meaning.specs.declared.finding.Finding.{Finding}
-use Rattle.stk_meaning.specs.declared.finding.Finding.TheVariants.{Clear, Unstable, Undecided}
 use Rattle.stk_records.specs.declared.counts.Counts.{Counts}
 use Rattle.stk_records.specs.declared.line.Cause.{Cause}
 use Rattle.stk_records.specs.declared.line.Line.{Line}
 use Rattle.stk_units.specs.Causes.{cause_of}
 use Rattle.stk_units.specs.Outcomes.{UnitOutcome, no_function, left_out, is_judged, IsOutcome, declaring, refusing, leaving, judging}
-use Rattle.stk_unit_lines.specs.UnitLines.{unstable_count, undecided_count, one_judged, one_skipped, skip_line, IsUnitLines, accepted, refused, unjudged, judged}
+use Rattle.stk_units.specs.Counted.{one_skipped}
+use Rattle.stk_unit_lines.specs.UnitLines.{skip_line, IsUnitLines, accepted, refused, unjudged, judged}
 use Rattle.stk_unit_lines.specs.Parts.{IsSkipLine, AreOutcomeLines}
 
 -- the line of a unit that is skipped
@@ -41,29 +39,3 @@ module _ (bytes : List ℕ) (without : Kinds) (budget : ℕ) (mark : Bool) (es n
   outcome_of tokens lines counts (refused cause h) = record { outcome = left_out (cause_of bytes cause); is = refusing cause h; are = (refl, refl) }
   outcome_of tokens lines counts (unjudged n f cause h because) = record { outcome = left_out cause; is = leaving n f cause h because; are = (refl, refl) }
   outcome_of tokens lines counts (judged n f xs h none lawful) = record { outcome = is_judged n f; is = judging n f h none; are = record { findings = xs; lawful = lawful; same_lines = refl; same_counts = refl } }
-
--- ---- counts
-
--- one finding more
-unstable_more : (xs : List Finding) (x : Finding) → unstable_count (xs ++ x ∷ []) ≡ unstable_count xs + unstable_count (x ∷ [])
-unstable_more [] x = omega arith
-unstable_more (Clear ∷ ys) x = unstable_more ys x
-unstable_more (Unstable start needs ∷ ys) x = omega (arith, unstable_more ys x)
-unstable_more (Undecided phase ∷ ys) x = unstable_more ys x
-
-undecided_more : (xs : List Finding) (x : Finding) → undecided_count (xs ++ x ∷ []) ≡ undecided_count xs + undecided_count (x ∷ [])
-undecided_more [] x = omega arith
-undecided_more (Clear ∷ ys) x = undecided_more ys x
-undecided_more (Unstable start needs ∷ ys) x = undecided_more ys x
-undecided_more (Undecided phase ∷ ys) x = omega (arith, undecided_more ys x)
-
--- what findings count for, with one more
-pub one_more_counted : (counts : Counts) (xs : List Finding) (x : Finding) (r o : ℕ) → counts ≡ one_judged xs → r ≡ unstable_count (x ∷ []) → o ≡ undecided_count (x ∷ [])
-    → record { functions = counts.functions; candidates = counts.candidates + 1; unstable = counts.unstable + r; undecided = counts.undecided + o; skipped = counts.skipped } ≡ one_judged (xs ++ x ∷ [])
-one_more_counted counts xs x r o same reports undecided =
-    let a : counts.functions ≡ 1 = ap (λ k. k.functions) same in
-    let b : counts.candidates + 1 ≡ length (xs ++ x ∷ []) = omega (arith, ap (λ k. k.candidates) same, length-append xs (x ∷ [])) in
-    let d : counts.unstable + r ≡ unstable_count (xs ++ x ∷ []) = omega (arith, ap (λ k. k.unstable) same, reports, unstable_more xs x) in
-    let f : counts.undecided + o ≡ undecided_count (xs ++ x ∷ []) = omega (arith, ap (λ k. k.undecided) same, undecided, undecided_more xs x) in
-    let h : counts.skipped ≡ 0 = ap (λ k. k.skipped) same in
-    λ i. record { functions = a i; candidates = b i; unstable = d i; undecided = f i; skipped = h i }

@@ -22,10 +22,11 @@ use Rattle.stk_records.proofs.Written.{nothing_appended, prefix_more, prefix_of,
 use Rattle.stk_unit_lines.specs.Placed.{Placed}
 use Rattle.stk_unit_lines.specs.Lines.{finding_lines, findings_lines}
 use Rattle.stk_unit_lines.specs.Marks.{lines_marks}
-use Rattle.stk_unit_lines.specs.UnitLines.{one_judged, one_skipped, skip_line}
+use Rattle.stk_units.specs.Counted.{one_judged, one_skipped}
+use Rattle.stk_units.proofs.Counts.{length_same, few_judged}
+use Rattle.stk_unit_lines.specs.UnitLines.{skip_line}
 use Rattle.stk_unit_lines.specs.Parts.{AreFindingLines, IsSkipLine}
 use Rattle.stk_unit_lines.specs.Wrote.{Wrote, WrotePrefix, HasStopped}
-use Rattle.stk_unit_lines.proofs.Counted.{length_same, few_reports, few_open}
 use Rattle.stk_unit_lines.proofs.Marked.{findings_same, skip_counted}
 use Rattle.stk_unit_lines.proofs.Made.{skipped}
 
@@ -208,10 +209,7 @@ module _ (subject : Subject) (q : Placed) (ty : Typing) (f : FunctionTree) (keys
 
   -- the counts of those that are written are few
   pub written_few : (cs : List Candidate) (i : ℕ) (o : Options) (before after : Option (List ℕ)) (first last : ℕ) (counts : Counts) → length cs < 2 ^ 32 → AreWritten cs i o before after first last counts → AreBelow counts
-  written_few cs i o before after first last counts few w = rw w.same_counts (below w.findings (omega (arith, few, shorter i cs, length_same subject (take i cs) w.findings w.lawful))) where
-    below : (xs : List Finding) → length xs < 2 ^ 32 → AreBelow (one_judged xs)
-    below xs h = record { functions = omega arith; candidates = omega (arith, h); unstable = omega (arith, h, few_reports xs); undecided = omega (arith, h, few_open xs); skipped = omega arith }
-
+  written_few cs i o before after first last counts few w = rw w.same_counts (few_judged w.findings (omega (arith, few, shorter i cs, length_same subject (take i cs) w.findings w.lawful))) where
     shorter : (i : ℕ) (cs : List Candidate) → length (take i cs) ≤ length cs
     shorter zero cs = omega arith
     shorter (suc i) [] = omega arith

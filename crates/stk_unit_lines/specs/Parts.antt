@@ -15,7 +15,8 @@ use Rattle.stk_records.specs.declared.line.Cause.{Cause}
 use Rattle.stk_records.specs.declared.line.Line.{Line}
 use Rattle.stk_records.specs.Counts.{nothing_counted}
 use Rattle.stk_units.specs.Outcomes.{UnitOutcome, no_function, left_out, is_judged}
-use Rattle.stk_unit_lines.specs.UnitLines.{one_skipped, one_judged, skip_line, function_lines, AreFindingsOf}
+use Rattle.stk_units.specs.Counted.{one_skipped, one_judged}
+use Rattle.stk_unit_lines.specs.UnitLines.{skip_line, function_lines, AreFindingsOf}
 
 -- the lines and the counts of a unit that is skipped: its first token begins where the line says
 abbrev pub IsSkipLine : List ℕ → List Token → Cause → List Line → Counts → Type 0

@@ -1,5 +1,5 @@
 -- The lines that are lawful for a unit, what it counts for, and the names that it leaves in force.
-use Rattle.std.specs.Prelude.{◌≡◌, ℕ, ◌+◌, Bool, false, List, [], ◌∷◌, length, Option, Some, None}
+use Rattle.std.specs.Prelude.{◌≡◌, ℕ, Bool, false, List, [], ◌∷◌, Option, Some, None}
 use Rattle.stk_lex.specs.declared.token.Token.{Token}
 use Rattle.stk_ctype.specs.declared.symbol.NameEntry.{NameEntry}
 use Rattle.stk_tree.specs.declared.node.Node.{Node}
@@ -7,7 +7,6 @@ use Rattle.stk_tree.specs.Syntax.{UnitTree, FunctionTree, defines}
 use Rattle.stk_numbers.specs.declared.conditions.Kinds.{Kinds}
 use Rattle.stk_meaning.specs.Lists.{candidates}
 use Rattle.stk_meaning.specs.declared.finding.Finding.{Finding}
-use Rattle.stk_meaning.specs.declared.finding.Finding.TheVariants.{Clear, Unstable, Undecided}
 use Rattle.stk_meaning.specs.Findings.{AreLawful}
 use Rattle.stk_meaning.specs.PathFindings.{function_subject}
 use Rattle.stk_spent_queries.specs.Spent.{spent_at}
@@ -21,29 +20,9 @@ use Rattle.stk_records.specs.Counts.{nothing_counted}
 use Rattle.stk_units.specs.Spots.{spot_at}
 use Rattle.stk_units.specs.Functions.{unit_typing, is_definition}
 use Rattle.stk_units.specs.Causes.{cause_of, body_cause}
+use Rattle.stk_units.specs.Counted.{one_skipped, one_judged}
 use Rattle.stk_unit_lines.specs.Lines.{findings_lines}
 use Rattle.stk_unit_lines.specs.Functions.{unit_placed, function_keys}
-
--- how many of some findings are reports, and how many of some fragments undecided
-abbrev pub unstable_count : List Finding → ℕ
-unstable_count [] = 0
-unstable_count (Clear ∷ xs) = unstable_count xs
-unstable_count (Unstable start needs ∷ xs) = unstable_count xs + 1
-unstable_count (Undecided phase ∷ xs) = unstable_count xs
-
-abbrev pub undecided_count : List Finding → ℕ
-undecided_count [] = 0
-undecided_count (Clear ∷ xs) = undecided_count xs
-undecided_count (Unstable start needs ∷ xs) = undecided_count xs
-undecided_count (Undecided phase ∷ xs) = undecided_count xs + 1
-
--- the counts of a unit that is skipped
-abbrev pub one_skipped : Counts
-one_skipped = record { functions = 0; candidates = 0; unstable = 0; undecided = 0; skipped = 1 }
-
--- the counts of a function with these findings
-abbrev pub one_judged : List Finding → Counts
-one_judged findings = record { functions = 1; candidates = length findings; unstable = unstable_count findings; undecided = undecided_count findings; skipped = 0 }
 
 -- the line of a unit that is skipped, which begins here
 abbrev pub skip_line : List ℕ → ℕ → Cause → Line

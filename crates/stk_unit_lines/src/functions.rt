@@ -17,7 +17,6 @@ ghost use Rattle.stk_units.specs.Known.{IsTypedFunction};
 ghost use Rattle.stk_unit_lines.specs.Parts.{IsJudged, AreFindingLines};
 ghost use Rattle.stk_unit_lines.specs.Wrote.{Wrote, HasStopped};
 
-use crate::counting::{one_function, with_finding};
 use crate::lines::{Told, write_finding};
 use crate::{LintedFile, key_texts, names_of};
 use stk_base::Sink;
@@ -29,6 +28,7 @@ use stk_path_runs::FunctionTables;
 use stk_query::{Decider, MOST_BUDGET};
 use stk_records::{Counts, Stop};
 use stk_tree::Function;
+use stk_units::{one_function, with_finding};
 
 // Judges the candidates of a function, in order, and writes the record of each as soon as it is judged.
 fn write_findings<J: Judge, K: Sink, D: Decider>(

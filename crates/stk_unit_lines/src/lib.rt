@@ -2,7 +2,6 @@
 //! judged, and the lines of a unit that is skipped.
 #![tactic(auto)]
 
-mod counting;
 mod file;
 mod functions;
 mod lines;

@@ -13,7 +13,7 @@ use stk_lex::Token;
 use stk_query::Decider;
 use stk_records::{Cause, Counts, Line, Options, Stop, write_record};
 use stk_tree::Function;
-use stk_units::{UnitVisitor, VisitedUnit, spot_at};
+use stk_units::{UnitVisitor, VisitedUnit, one_skipped, spot_at};
 
 // Writes the line of a unit that is skipped for a cause.
 fn write_skipped<K: Sink>(
@@ -30,10 +30,7 @@ fn write_skipped<K: Sink>(
 {
     let at = spot_at(file.alloc, file.input, tokens[0].span.from)?;
     write_record(file.alloc, file.options, &Line::Skipped { at, cause }, out)?;
-    Ok(Counts {
-        skipped: 1,
-        ..Counts::nothing()
-    })
+    Ok(one_skipped())
 }
 
 /// Writes the records of units, in the form that the options ask for, and has the counts of the last unit that has

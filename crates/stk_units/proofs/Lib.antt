@@ -3,3 +3,5 @@ pub mod Typed
 pub mod Reading
 pub mod Visits
 pub mod Exists
+pub mod Counts
+pub mod Going

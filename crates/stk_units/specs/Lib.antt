@@ -4,3 +4,6 @@ pub mod Causes
 pub mod Known
 pub mod Outcomes
 pub mod Visiting
+pub mod Counted
+pub mod Pieces
+pub mod Said

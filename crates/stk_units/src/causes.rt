@@ -56,7 +56,7 @@ pub(crate) fn rule_cause(
 }
 
 /// Why a function of this weight isn't judged: it is too heavy.
-pub(crate) fn weight_cause(weight: u64) -> Option<Cause>
+pub fn weight_cause(weight: u64) -> Option<Cause>
     ensures { result ≡ weight_cause weight }
 {
     if weight > MOST_WEIGHT {
@@ -66,7 +66,7 @@ pub(crate) fn weight_cause(weight: u64) -> Option<Cause>
 }
 
 /// The weight of a function whose body is typed, by its setting.
-pub(crate) fn function_weight(alloc: Global, setting: &Setting) -> Result<u64, NoMemory>
+pub fn function_weight(alloc: Global, setting: &Setting) -> Result<u64, NoMemory>
     requires whole { IsWhole setting.now }
     requires few { unit_nodes (view_unit setting.now.types.unit) ≤ 20000 }
     ensures { (f : FunctionTree) → IsDefinition (view_unit setting.now.types.unit) f → IfOk result (λ w. w ≡ weight (typing_in setting.now.types) setting.now.without f) }

@@ -18,11 +18,11 @@ use std::alloc::Global;
 use stk_base::{List, NoMemory};
 use stk_findings::SearchedFunction;
 use stk_function_env::KeyInfo;
-use stk_walk::walk_function;
 use stk_numbers::{Inputs, IntKind};
 use stk_symbols::Symbols;
 use stk_terms::{Residues, TermId, Terms};
 use stk_values::{Numbers, Step, Walked};
+use stk_walk::walk_function;
 
 /// How many functions were walked, and under how many maps; under how many of them the walk over numbers says what the
 /// path run does, and the walk over terms what the walk over numbers says. How many goals there are, and how many of

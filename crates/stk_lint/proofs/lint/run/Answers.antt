@@ -1,4 +1,4 @@
-use Rattle.stk_records.proofs.Budgets.{legal_least, legal_most, legal_few}
+use Rattle.stk_records.proofs.Budgets.{legal_least, legal_most, legal_few, legal_counted}
 use Rattle.stk_lint.proofs.lint.run.Goals as goal
 
 pub answer-requires-clause-least : goal.answer-requires-clause-least
@@ -9,3 +9,6 @@ answer-requires-clause-most g c = legal_most c.in-Ok.ensures.legal
 
 pub input_bytes-requires : goal.input_bytes-requires
 input_bytes-requires g c = legal_few c.in-Ok.ensures.legal
+
+pub answer-requires-clause-counted : goal.answer-requires-clause-counted
+answer-requires-clause-counted g c = legal_counted c.in-Ok.ensures.legal

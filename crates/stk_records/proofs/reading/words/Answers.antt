@@ -3,7 +3,7 @@ use Rattle.std.proofs.lemmas.List.{length-map}
 use Rattle.std.proofs.lemmas.Bool.{true≢false}
 use Rattle.std.specs.String.{string_bytes}
 use Rattle.stk_records.specs.Words.{AreItems, no_more, then_item}
-use Rattle.stk_records.proofs.Wholes.{goes_down, paired, shorter, some_word, none_left, same_tests, other_tests}
+use Rattle.stk_records.proofs.Wholes.{goes_down, paired, shorter, some_word, none_left}
 use Rattle.stk_records.proofs.reading.words.Goals as goal
 
 pub returns-then-has_come-clause-bad : goal.returns-then-has_come-clause-bad
@@ -27,11 +27,11 @@ items-preserved c =
       (λ o items. c.items.invariant.1 o (subst (λ ws. AreItems c.items.seen ws o) (sym w) (then_item c.in-Some-item.ensures.is (sym c.has_come.ensures ∙ c.if-has_come.false) (subst (λ s. AreItems s (map string_bytes c.in-Some-item.behind.now) o) c.with_item-seen.ensures items)))),
     )
 
-pub returns-clause-legal : goal.returns-clause-legal
-returns-clause-legal c =
-    c.items.invariant.1 c.options_of.result (subst (λ ws. AreItems c.items.seen (map string_bytes ws) c.options_of.result) (sym (none_left c.items.rest.now c.in_default.ensures.cases)) (no_more (sym c.is_some.ensures ∙ (same_tests _ _ c.if-is_some.false ∙ c.is_some-2.ensures)) c.options_of.ensures))
+pub returns-then-stand_together-clause-legal : goal.returns-then-stand_together-clause-legal
+returns-then-stand_together-clause-legal c =
+    c.items.invariant.1 c.options_of.result (subst (λ ws. AreItems c.items.seen (map string_bytes ws) c.options_of.result) (sym (none_left c.items.rest.now c.in_default.ensures.cases)) (no_more (sym c.stand_together.ensures ∙ c.if-stand_together.true) c.options_of.ensures))
 
-pub returns-then-is_some-clause-bad : goal.returns-then-is_some-clause-bad
-returns-then-is_some-clause-bad c o legal =
-    let pair = paired (ap (map string_bytes) (none_left c.items.rest.now c.in_default.ensures.cases)) (c.items.invariant.0 o legal) in
-    other_tests _ _ c.if-is_some.true (c.is_some.ensures ∙ (pair ∙ sym c.is_some-2.ensures))
+pub returns-clause-bad : goal.returns-clause-bad
+returns-clause-bad c o legal =
+    let together = paired (ap (map string_bytes) (none_left c.items.rest.now c.in_default.ensures.cases)) (c.items.invariant.0 o legal) in
+    true≢false (sym together ∙ (sym c.stand_together.ensures ∙ c.if-stand_together.false))

@@ -1,7 +1,6 @@
 use Rattle.std.proofs.Common.{ap}
 use Rattle.stk_records.specs.declared.line.Spot.{Spot}
 use Rattle.stk_records.specs.declared.line.Line.TheVariants.{Skipped}
-use Rattle.stk_records.specs.declared.counts.Counts.{Counts}
 use Rattle.stk_unit_lines.specs.Parts.{IsSkipLine}
 use Rattle.stk_unit_lines.specs.Wrote.{HasStopped}
 use Rattle.stk_unit_lines.proofs.Taking.{on_err, skip_wrote, skip_stopped}
@@ -17,4 +16,4 @@ pub returns-clause-written : goal.returns-clause-written
 returns-clause-written g c = λ n.
     let file = c.args.file.now in
     skip_wrote file.input.now c.args.tokens.now _ c.args.cause c.requires file.options (g.K.Sink.taken c.args.out.now) (g.K.Sink.taken c.write_record.new.out) (Skipped c.in_ok-at.at c.args.cause) (ap (λ (s : Spot). Skipped s c.args.cause) c.in_ok-at.ensures) n _
-    (ap (λ (k : Counts). record { functions = k.functions; candidates = k.candidates; unstable = k.unstable; undecided = k.undecided; skipped = 1 }) c.nothing.ensures) c.in_ok-write_record.ensures.all
+    c.one_skipped.ensures c.in_ok-write_record.ensures.all

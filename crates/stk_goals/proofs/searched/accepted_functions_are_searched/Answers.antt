@@ -1,5 +1,0 @@
-use Rattle.stk_goals.proofs.Searched.{accepted_functions_are_searched}
-use Rattle.stk_goals.proofs.searched.accepted_functions_are_searched.Goals as goal
-
-pub returns : goal.returns
-returns c = accepted_functions_are_searched
