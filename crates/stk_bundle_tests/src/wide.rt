@@ -1,6 +1,9 @@
 //! Bundles of functions of more than 16 input bits: which lines they have, and that each clause list and derivation is
 //! read back and accepted by the check of derivations.
 
+ghost use Rattle.std.specs.List.{All};
+ghost use Rattle.stk_clauses.specs.Literals.{AreBelow};
+
 use crate::writing::{NOTHING, bundled};
 use std::alloc::Global;
 use std::test::Fail;
@@ -84,7 +87,9 @@ fn are(parts: &[Part], kinds: &[Kind]) -> bool {
 }
 
 // Whether a text is a derivation that refutes a clause list.
-fn refutes(alloc: Global, list: &Cnf, text: &[u8]) -> Result<bool, NoMemory> {
+fn refutes(alloc: Global, list: &Cnf, text: &[u8]) -> Result<bool, NoMemory>
+    requires { All (AreBelow list.now.vars) list.now.store }
+{
     let Ok(derivation) = read_lrat(alloc, list.store.count(), text) else {
         return Ok(false);
     };
