@@ -553,7 +553,7 @@ test_collecting() {
     grep -q '^stack-build: 2 files checked, 1 failed' summary
 }
 
-# The lines of README.md, with a stand-in for ssh that takes this machine's own name.
+# The line of the head of stack-build, with a stand-in for ssh that takes this machine's own name.
 test_many_machines() {
     command -v parallel >/dev/null && command -v rsync >/dev/null || return 77
     mkdir tools machine

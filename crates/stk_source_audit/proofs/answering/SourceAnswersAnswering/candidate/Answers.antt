@@ -1,0 +1,7 @@
+use Rattle.stk_source_audit.proofs.AtHand.{candidate_there}
+use Rattle.stk_source_audit.proofs.answering.SourceAnswersAnswering.candidate.Goals as goal
+
+pub returns : goal.returns
+returns c =
+    let i = c.self.inside in
+    candidate_there (record { bytes = i.text.bytes.now; tokens = i.text.tokens.now; pieces = i.pieces.now }) i.names i.hand i.hits c.self.invariant.at_hand c.args.self.now c.self.view_is c.in-Some.hand c.in-Some.is c.args.node c.args.kind c.as_slice.result.now c.candidate_among.result c.as_slice.ensures.value c.candidate_among.ensures

@@ -1,0 +1,10 @@
+pub mod Reading
+pub mod Reader
+pub mod Definitions
+pub mod Functions
+pub mod Sources
+pub mod Finding
+pub mod Judged
+pub mod Taking
+pub mod Asked
+pub mod Keeping
