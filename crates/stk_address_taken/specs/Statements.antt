@@ -1,19 +1,11 @@
 -- The declarators whose names are operands of `&` in a function.
-use Rattle.std.specs.Prelude.{ℕ, Bool, true, false, List, [], ◌++◌, Option, Some, None}
-use Rattle.stk_tree.specs.declared.declaration.Storage.{Storage}
-use Rattle.stk_tree.specs.declared.declaration.Storage.TheVariants.{Typedef, Extern, Static}
-use Rattle.stk_tree.specs.Syntax.{DeclrTree, DeclrTrees, TailTree, ParamTree, ParamTrees, DeclarationTree, StartTree, LabelTree, LabelTrees, StmtTree, StmtTrees, MaybeStmtTree, StmtFormTree, PartTree, PartTrees, SectionTree, SectionTrees, FunctionTree}
+use Rattle.std.specs.Prelude.{ℕ, Bool, true, false, List, [], ◌++◌}
+use Rattle.stk_tree.specs.Syntax.{DeclrTree, DeclrTrees, ParamTree, ParamTrees, DeclarationTree, StartTree, LabelTree, LabelTrees, StmtTree, StmtTrees, MaybeStmtTree, StmtFormTree, PartTree, PartTrees, SectionTree, SectionTrees, FunctionTree}
 use Rattle.stk_tree.specs.Syntax as s
+use Rattle.stk_tree.specs.Parts.{is_static, declared_parameters}
 use Rattle.stk_address_taken.specs.declared.bindings.Binding.{Binding}
 use Rattle.stk_address_taken.specs.Bindings.{declarator_bindings, start_bindings, part_bindings, parameter_bindings, parameters_bindings}
 use Rattle.stk_address_taken.specs.Expressions.{expression_taken, maybe_taken, maybe_initialiser_taken, tail_taken}
-
--- the storage word is `static`
-abbrev pub is_static : Option Storage → Bool
-is_static None = false
-is_static (Some Typedef) = false
-is_static (Some Extern) = false
-is_static (Some Static) = true
 
 -- an initialiser; that of a `static` object isn't looked at
 abbrev pub initial_taken : Bool → List ℕ → List ℕ
@@ -93,16 +85,6 @@ parameter_taken bytes ms (s.parameter n b (s.declarator m count at t i)) = tail_
 abbrev pub parameters_taken : List ℕ → List Binding → ParamTrees → List ℕ
 parameters_taken bytes ms s.no_parameters = []
 parameters_taken bytes ms (s.then_parameter p ps) = parameter_taken bytes ms p ++ parameters_taken bytes (ms ++ parameter_bindings p) ps
-
--- the parameters of a function's declarator
-abbrev pub parameters_in : TailTree → ParamTrees
-parameters_in (s.arrays ds) = s.no_parameters
-parameters_in s.unspecified = s.no_parameters
-parameters_in s.void_parameters = s.no_parameters
-parameters_in (s.with_parameters ps more) = ps
-
-abbrev pub declared_parameters : DeclrTree → ParamTrees
-declared_parameters (s.declarator n count at t i) = parameters_in t
 
 -- the declarators of a function's parameters and local objects whose names are operands of `&`
 abbrev pub function_taken : List ℕ → FunctionTree → List ℕ

@@ -2,7 +2,7 @@
 use Rattle.std.specs.Prelude.{ℕ, Bool, true, false, List, [], ◌∷◌, ◌++◌}
 use Rattle.stk_tree.specs.Syntax.{DeclrTree, DeclrTrees, DeclarationTree, StartTree, StmtTree, StmtTrees, MaybeStmtTree, StmtFormTree, PartTree, PartTrees, SectionTree, SectionTrees, FunctionTree}
 use Rattle.stk_tree.specs.Syntax as s
-use Rattle.stk_address_taken.specs.Statements.{is_static}
+use Rattle.stk_tree.specs.Parts.{is_static}
 
 abbrev pub declarator_number : DeclrTree → ℕ
 declarator_number (s.declarator n count at t i) = n.number

@@ -5,7 +5,7 @@ ghost use Rattle.std.specs.Option.{option_map};
 ghost use Rattle.stk_tree.specs.View.{view_declarator, view_declaration, view_start, view_label, view_statement, view_part, view_section, view_parameter, view_initialiser, view_function, declarators, labels, statements, parts, sections, parameters, maybe_statement, maybe_initialiser};
 ghost use Rattle.stk_address_taken.specs.Bindings.{declarator_bindings, declarators_bindings, declaration_bindings, start_bindings, part_bindings, parts_bindings, parameter_bindings, parameters_bindings};
 ghost use Rattle.stk_address_taken.specs.Expressions.{maybe_initialiser_taken};
-ghost use Rattle.stk_address_taken.specs.Statements.{is_static, initial_taken, declarator_taken, declarators_taken, declaration_taken, start_taken, label_taken, labels_taken, statement_taken, statements_taken, maybe_statement_taken, part_taken, parts_taken, section_taken, sections_taken, parameter_taken, parameters_taken, declared_parameters, function_taken};
+ghost use Rattle.stk_address_taken.specs.Statements.{initial_taken, declarator_taken, declarators_taken, declaration_taken, start_taken, label_taken, labels_taken, statement_taken, statements_taken, maybe_statement_taken, part_taken, parts_taken, section_taken, sections_taken, parameter_taken, parameters_taken, function_taken};
 
 use crate::Binding;
 use crate::bindings::add_binding;
@@ -15,18 +15,8 @@ use std::alloc::Global;
 use stk_base::{Boxed, NoMemory};
 use stk_tree::{
     Declaration, Declr, Function, Init, Label, Param, Part, Section, Start, Stmt, StmtForm,
-    Storage, Tail,
+    is_static,
 };
-
-// Whether the storage word is `static`.
-pub(crate) fn is_static(word: Option<Storage>) -> bool
-    ensures { result ≡ is_static word }
-{
-    match word {
-        Some(Storage::Static) => true,
-        Some(Storage::Typedef) | Some(Storage::Extern) | None => false,
-    }
-}
 
 // Notes the same in an initialiser that is looked at.
 fn initial_taken(
@@ -317,16 +307,6 @@ fn parameters_taken(
     Ok(())
 }
 
-// The parameters of a function's declarator.
-fn parameters_of(d: &Declr) -> &[Param]
-    ensures { parameters (map view_parameter result.now) ≡ declared_parameters (view_declarator d.now) }
-{
-    match &d.tail {
-        Tail::Params(list, _) => list.as_slice(),
-        Tail::Arrays(_) | Tail::Unspecified | Tail::NoParams => &[],
-    }
-}
-
 /// The declarators of a function's parameters and local objects whose names are operands of `&`, parentheses aside, by
 /// the numbers of their nodes, in the order in which the `&` stand (C11 6.5.3.2); also where nothing is evaluated, but
 /// not in the initialisers of `static` objects.
@@ -335,7 +315,7 @@ pub fn taken_in(alloc: Global, bytes: &[u8], f: &Function) -> Result<Vec<u32>, N
 {
     let mut bindings = Vec::new(alloc);
     let mut out = Vec::new(alloc);
-    parameters_taken(bytes, &mut bindings, parameters_of(&f.declr), &mut out)?;
+    parameters_taken(bytes, &mut bindings, f.declr.parameters(), &mut out)?;
     statement_taken(bytes, &mut bindings, &f.body, &mut out)?;
     Ok(out)
 }

@@ -5,10 +5,9 @@ ghost use Rattle.std.specs.Option.{option_map};
 ghost use Rattle.stk_tree.specs.View.{view_declarator, view_declaration, view_start, view_statement, view_part, view_section, view_function, declarators, statements, parts, sections, maybe_statement};
 ghost use Rattle.stk_address_taken.specs.Statics.{declarators_numbers, declaration_statics, start_statics, statement_statics, statements_statics, maybe_statement_statics, part_statics, parts_statics, section_statics, sections_statics, function_statics};
 
-use crate::statements::is_static;
 use std::alloc::Global;
 use stk_base::{Boxed, NoMemory};
-use stk_tree::{Declaration, Declr, Function, Part, Section, Start, Stmt, StmtForm};
+use stk_tree::{Declaration, Declr, Function, Part, Section, Start, Stmt, StmtForm, is_static};
 
 // Notes declarators.
 fn declarators_numbers(list: &[Declr], out: &mut Vec<u32>) -> Result<(), NoMemory>

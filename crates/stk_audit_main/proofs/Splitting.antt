@@ -1,10 +1,10 @@
 -- An input is cut behind its first line `end`, in one way.
-use Rattle.std.proofs.Common.{◌≡◌, ◌≢◌, ℕ, ◌+◌, ◌-◌, ◌<◌, List, [], ◌∷◌, ◌++◌, length, length-append, take, drop, append_assoc, refl, sym, ap, subst, ◌∙◌, arith}
+use Rattle.std.proofs.Common.{◌≡◌, ◌≢◌, ℕ, ◌-◌, List, [], ◌∷◌, ◌++◌, length, length-append, take, drop, append_assoc, refl, sym, ap, subst, ◌∙◌, arith}
 use Rattle.std.specs.Prelude.{codes}
 use Rattle.std.proofs.lemmas.List.{append-nil}
 use Rattle.std.proofs.Math.Seq.{take-append_seam, drop-append_seam}
-use Rattle.stk_bundle.specs.Blocks.{IsFirst}
-use Rattle.stk_bundle.proofs.BlockTexts.{one_first}
+use Rattle.stk_line_reading.specs.Lines.{IsFirst}
+use Rattle.stk_line_reading.proofs.FirstLines.{one_first}
 use Rattle.stk_audit_main.specs.Parts.{IsSplit, ends, goes_on, all_of_it}
 
 -- lines that aren't `end` were passed: whatever cuts the rest cuts the whole

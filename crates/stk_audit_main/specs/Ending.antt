@@ -1,7 +1,7 @@
 -- How an audit of an input ends, and what it tells of a failure.
 use Rattle.std.specs.Prelude.{◌≡◌, ◌<◌, ◌⊎◌, ℕ, List, [], length, Option, Some, Result, Ok, Err, codes}
 use Rattle.stk_base.specs.declared.status.Status.{Status}
-use Rattle.stk_base.specs.declared.status.Status.TheVariants.{Stable, Found, Unsure, BadWords, ReadFault, WriteFault, TooLarge, NoMemory, NoCandidate}
+use Rattle.stk_base.specs.declared.status.Status.TheVariants.{Stable, Found, BadWords, ReadFault, WriteFault, TooLarge, NoMemory}
 use Rattle.stk_base.specs.Streams.{Came, Appended, AppendedPrefix, IsFlushed, IsSpent}
 use Rattle.stk_records.specs.declared.writing.Stop.{Stop}
 use Rattle.stk_records.specs.declared.writing.Stop.TheVariants as stops

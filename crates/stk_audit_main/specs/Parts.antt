@@ -1,6 +1,6 @@
 -- How an input stands for a bundle and its source.
 use Rattle.std.specs.Prelude.{◌≢◌, ◌<◌, ◌⊎◌, ℕ, List, [], ◌∷◌, ◌++◌, length, codes}
-use Rattle.stk_bundle.specs.Blocks.{IsFirst}
+use Rattle.stk_line_reading.specs.Lines.{IsFirst}
 
 -- The bundle goes up to the first line `end`, with its newline, and the source is what comes behind that. Where no line
 -- is `end`, all of the input is the bundle.

@@ -3,10 +3,10 @@
 ghost use Rattle.std.specs.Prelude.{◌++◌, ◌≡◌};
 ghost use Rattle.stk_audit_main.specs.Parts.{IsSplit};
 
-use stk_bundle::first_line;
+use stk_line_reading::first_line;
 
-/// Cuts an input behind its first line `end`: the bundle up to there, and the source. Where no line is `end`, all of it is
-/// the bundle.
+/// Cuts an input behind its first line `end`: the bundle up to there, and the source. Where no line is `end`, all of it
+/// is the bundle.
 pub(crate) fn split_input(text: &[u8]) -> (&[u8], &[u8])
     ensures { IsSplit text.now result.0.now result.1.now }
 {

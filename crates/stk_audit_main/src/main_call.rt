@@ -62,15 +62,16 @@ fn tell<E: Sink>(fault: &mut E, status: Status)
 /// behind that, audits the bundle by the source, writes the answer's line to a sink, and flushes it; tells of a failure
 /// on a third sink. There are no words. The answer says how it ended:
 ///
-/// - `Stable`: each line of the bundle holds, and each of its claims is true of the source: in the accepted function that
-///   begins there the candidate is unstable, its set of conditions suffices in path runs and in every execution, and each
-///   condition that a start shows is needed. The sink took `N claims hold`, where N is the number of the claims.
+/// - `Stable`: each line of the bundle holds, and each of its claims is true of the source: in the accepted function
+///   that begins there the candidate is unstable, its set of conditions suffices in path runs and in every execution,
+///   and each condition that a start shows is needed. The sink took `N claims hold`, where N is the number of the
+///   claims.
 /// - `Found`: line L of the bundle fails. The sink took `line L: WHY`, with the reason as `form`, `name`, `start`,
 ///   `tried`, `formula` or `derivation`.
 /// - `BadWords`: exactly where there are words. The source of bytes is unread.
 /// - `ReadFault`: only where the source of bytes counted a fault; after every other answer it counted none.
-/// - `TooLarge`: only where more than 1,090,519,040 bytes came before the end and before any failed call; or all came, and
-///   the bundle has more than 1,073,741,824 bytes or the source more than 16,777,216.
+/// - `TooLarge`: only where more than 1,090,519,040 bytes came before the end and before any failed call; or all came,
+///   and the bundle has more than 1,073,741,824 bytes or the source more than 16,777,216.
 /// - `WriteFault`: only where the sink counted a fault. It took some prefix of the line.
 /// - `NoMemory`: no clause says when it comes. The sink took nothing, or some prefix of the line.
 ///

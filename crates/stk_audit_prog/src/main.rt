@@ -1,5 +1,5 @@
-//! The auditor as a program: it reads a bundle and its source on standard input, writes the answer to standard output, and
-//! tells of a failure on standard error. The exit status is that of the top call.
+//! The auditor as a program: it reads a bundle and its source on standard input, writes the answer to standard output,
+//! and tells of a failure on standard error. The exit status is that of the top call.
 #![tactic(auto)]
 
 use std::process::ExitCode;

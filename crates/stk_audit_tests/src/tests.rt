@@ -1,5 +1,5 @@
-// A bundle of two claims whose input maps were all tried, and what is answered where one of its lines is changed; claims
-// with clauses and derivations.
+// A bundle of two claims whose input maps were all tried, and what is answered where one of its lines is changed;
+// claims with clauses and derivations.
 use crate::small::Small;
 use std::alloc::Global;
 use std::test::Fail;

@@ -6,10 +6,10 @@ use Rattle.std.proofs.lemmas.List.Folds.{list_any-append}
 use Rattle.stk_numbers.specs.declared.conditions.UbKind.{UbKind}
 use Rattle.stk_numbers.specs.declared.conditions.UbKind.TheVariants as ub
 use Rattle.stk_numbers.specs.Taken.{number_of}
-use Rattle.stk_bundle.specs.Cuts.{is_other, begins_or_ends, IsCut}
+use Rattle.stk_line_reading.specs.Cuts.{is_other, begins_or_ends, IsCut}
 use Rattle.stk_records.specs.Kinds.{kind_name}
 use Rattle.stk_bundle.specs.Kinds.{more_kinds, kinds_text, is_listed, StandOnce, AreKinds}
-use Rattle.stk_bundle.proofs.Texts.{one_cut}
+use Rattle.stk_line_reading.proofs.Texts.{one_cut}
 
 -- a name has no comma
 plain_name : (k : UbKind) → list_all (is_other 44) (kind_name k) ≡ true

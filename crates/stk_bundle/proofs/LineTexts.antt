@@ -5,11 +5,12 @@ use Rattle.stk_bundle.specs.declared.line.BundleLine.{BundleLine}
 use Rattle.stk_bundle.specs.declared.line.BundleLine.TheVariants as line
 use Rattle.stk_bundle.specs.declared.word.Word.{Word}
 use Rattle.stk_bundle.specs.declared.word.Word.TheVariants as word
-use Rattle.stk_bundle.specs.Cuts.{is_other, begins_or_ends, IsCut}
+use Rattle.stk_line_reading.specs.Cuts.{is_other, begins_or_ends, IsCut}
 use Rattle.stk_bundle.specs.Kinds.{kinds_text}
 use Rattle.stk_bundle.specs.Lines.{line_text, IsLine}
 use Rattle.stk_bundle.specs.Words.{word_text, word_of, behind_word, IsBehind}
-use Rattle.stk_bundle.proofs.Texts.{one_cut, numbers_end, one_list}
+use Rattle.stk_line_reading.proofs.Texts.{one_cut}
+use Rattle.stk_bundle.proofs.Texts.{numbers_end, one_list}
 use Rattle.stk_bundle.proofs.KindTexts.{one_list_of_kinds}
 
 -- the text of a line is its first word and what stands behind it

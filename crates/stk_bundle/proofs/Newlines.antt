@@ -6,12 +6,13 @@ use Rattle.stk_numbers.specs.declared.conditions.UbKind.{UbKind}
 use Rattle.stk_numbers.specs.declared.conditions.UbKind.TheVariants as ub
 use Rattle.stk_bundle.specs.declared.line.BundleLine.{BundleLine}
 use Rattle.stk_bundle.specs.declared.line.BundleLine.TheVariants as line
-use Rattle.stk_bundle.specs.Cuts.{is_other}
-use Rattle.stk_bundle.specs.Numbers.{numbers_text, IsNumber}
+use Rattle.stk_line_reading.specs.Cuts.{is_other}
+use Rattle.stk_line_reading.specs.Numbers.{IsNumber}
+use Rattle.stk_bundle.specs.Numbers.{numbers_text}
 use Rattle.stk_records.specs.Kinds.{kind_name}
 use Rattle.stk_bundle.specs.Kinds.{more_kinds, kinds_text}
 use Rattle.stk_bundle.specs.Lines.{line_text, FitsLine}
-use Rattle.stk_bundle.proofs.Texts.{other_number}
+use Rattle.stk_line_reading.proofs.Texts.{other_number}
 
 both_true : (a b : Bool) → a ≡ true → b ≡ true → a && b ≡ true
 both_true a b p q = ap (λ x. x && b) p ∙ q

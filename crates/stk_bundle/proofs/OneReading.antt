@@ -6,11 +6,13 @@ use Rattle.stk_bundle.specs.declared.line.BundleLine.{BundleLine}
 use Rattle.stk_bundle.specs.declared.stage.Stage.{Stage}
 use Rattle.stk_bundle.specs.declared.stage.Stage.TheVariants as stage
 use Rattle.stk_bundle.specs.Lines.{line_text}
-use Rattle.stk_bundle.specs.Blocks.{line_count, ends_line, IsFirst}
+use Rattle.stk_line_reading.specs.Lines.{IsFirst}
+use Rattle.stk_bundle.specs.Blocks.{line_count, ends_line}
 use Rattle.stk_bundle.specs.Grammar.{next_stage, stage_behind}
 use Rattle.stk_bundle.specs.Bundles.{LineBlock, block_lines, part_text, parts_text, IsPart, AreParts}
 use Rattle.stk_bundle.proofs.LineTexts.{one_line}
-use Rattle.stk_bundle.proofs.BlockTexts.{count_append, one_first}
+use Rattle.stk_line_reading.proofs.FirstLines.{one_first}
+use Rattle.stk_bundle.proofs.BlockTexts.{count_append}
 use Rattle.stk_bundle.proofs.Newlines.{no_newline_in}
 
 -- ---- blocks

@@ -9,11 +9,12 @@ use Rattle.stk_bundle.specs.declared.line.BundleLine.{BundleLine}
 use Rattle.stk_bundle.specs.declared.stage.Stage.{Stage}
 use Rattle.stk_bundle.specs.declared.stage.Stage.TheVariants as stage
 use Rattle.stk_bundle.specs.Lines.{line_text, IsLine}
-use Rattle.stk_bundle.specs.Blocks.{line_count, IsFirst, IsBlock}
+use Rattle.stk_line_reading.specs.Lines.{IsFirst}
+use Rattle.stk_bundle.specs.Blocks.{line_count, IsBlock}
 use Rattle.stk_bundle.specs.Grammar.{next_stage, stage_behind, is_ended}
 use Rattle.stk_bundle.specs.Bundles.{LineBlock, block_lines, part_text, parts_text, IsPart, IsNextLine, NoLineStands, IsBlockShort, IsNextPart, AreParts}
 use Rattle.stk_bundle.proofs.LineTexts.{one_line}
-use Rattle.stk_bundle.proofs.BlockTexts.{one_first}
+use Rattle.stk_line_reading.proofs.FirstLines.{one_first}
 use Rattle.stk_bundle.proofs.Newlines.{no_newline_in}
 
 first_of : (at : Stage) (text : List ℕ) (l : BundleLine) (behind : List ℕ) → IsNextLine at text l behind → IsFirst text (line_text l) behind

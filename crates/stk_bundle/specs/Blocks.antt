@@ -1,12 +1,5 @@
--- Lines of a text, and blocks of lines.
-use Rattle.std.specs.Prelude.{◌≡◌, ℕ, Bool, true, nat_eq, List, [], ◌∷◌, ◌++◌, count_by}
-use Rattle.std.specs.List.{list_all}
-use Rattle.stk_bundle.specs.Cuts.{is_other}
-
--- a text is this line with its newline, and what comes behind that
-pub record IsFirst (text line behind : List ℕ) : Type 0 where
-  pub whole : text ≡ line ++ 10 ∷ behind
-  pub others : list_all (is_other 10) line ≡ true
+-- How many lines a text has, and blocks of lines.
+use Rattle.std.specs.Prelude.{◌≡◌, ℕ, Bool, true, nat_eq, List, [], ◌∷◌, count_by}
 
 -- how many lines a text has, those that a newline ends
 abbrev pub line_count : List ℕ → ℕ

@@ -3,7 +3,8 @@ use Rattle.std.specs.Prelude.{◌≡◌, ℕ, List, [], ◌∷◌, ◌++◌, cod
 use Rattle.std.specs.List.{AllByRecursion}
 use Rattle.stk_bundle.specs.declared.line.BundleLine.{BundleLine}
 use Rattle.stk_bundle.specs.declared.line.BundleLine.TheVariants.{Head, Source, Without, Function, Unstable, Hit, Need, Open, Tried, Clauses, Steps, Left, End}
-use Rattle.stk_bundle.specs.Numbers.{IsNumber, numbers_text}
+use Rattle.stk_line_reading.specs.Numbers.{IsNumber}
+use Rattle.stk_bundle.specs.Numbers.{numbers_text}
 use Rattle.stk_bundle.specs.Kinds.{kinds_text, StandOnce}
 
 -- the text of a line, without its newline

@@ -1,19 +1,8 @@
 // Lines of a text, and blocks of lines.
-ghost use Rattle.std.specs.Prelude.{◌≡◌, ◌++◌, ◌∷◌, ◌<◌, ℕ, List, MatchOption};
-ghost use Rattle.stk_bundle.specs.Blocks.{line_count, IsFirst, IsBlock};
+ghost use Rattle.std.specs.Prelude.{◌≡◌, ◌++◌, ◌<◌, MatchOption};
+ghost use Rattle.stk_bundle.specs.Blocks.{line_count, IsBlock};
 
-use crate::cutting::cut_at;
-
-/// The first line of a text, without its newline, and what comes behind that; `None` exactly where no newline comes.
-pub fn first_line(text: &[u8]) -> Option<(&[u8], &[u8])>
-    ensures { MatchOption result ((line behind : List ℕ) → IsFirst text.now line behind → ⊥) (λ p. IsFirst text.now p.0.now p.1.now) }
-{
-    let (line, rest) = cut_at(text, b'\n');
-    match rest.split_first() {
-        Some((_, behind)) => Some((line, behind)),
-        None => None,
-    }
-}
+use stk_line_reading::first_line;
 
 /// How many lines a text has, those that a newline ends.
 pub fn line_count(text: &[u8]) -> usize
@@ -22,8 +11,8 @@ pub fn line_count(text: &[u8]) -> usize
     text.iter().filter(|byte| **byte == b'\n').count()
 }
 
-/// The first lines of a text, so many, each with its newline, and what comes behind them; `None` exactly where there are
-/// fewer.
+/// The first lines of a text, so many, each with its newline, and what comes behind them; `None` exactly where there
+/// are fewer.
 pub(crate) fn block_of(text: &[u8], lines: u64) -> Option<(&[u8], &[u8])>
     ensures { MatchOption result (line_count text.now < lines) (λ p. (text.now ≡ p.0.now ++ p.1.now) × IsBlock lines p.0.now) }
 {

@@ -1,13 +1,13 @@
-// The lines of reports, and of claims of functions whose maps were all tried.
+// The lines of reports.
 ghost use Rattle.std.specs.Prelude.{◌≡◌, ◌++◌, ◌^◌, pos, map, IfOk};
 ghost use Rattle.stk_numbers.specs.Kinds.{width_of, residue};
 ghost use Rattle.stk_numbers.specs.Values.{bits_of};
-ghost use Rattle.stk_bundle.specs.Claims.{candidate_number, residues, member_line, need_line, report_lines, left_line, claim_lines};
+ghost use Rattle.stk_bundle.specs.Claims.{candidate_number, residues, member_line, need_line, report_lines, left_line};
 
 use crate::BundleLine;
 use std::alloc::{AllocError, Global};
 use stk_base::{List, NoMemory};
-use stk_meaning::{Finding, Need};
+use stk_meaning::Need;
 use stk_numbers::{CandKind, Candidate, Inputs, IntKind};
 
 /// The number of a kind of candidates, from 1 to 4.
@@ -113,22 +113,4 @@ pub fn left_line(candidate: Candidate) -> BundleLine
         node: u64::from(candidate.node),
         kind: candidate_number(candidate.kind),
     }
-}
-
-/// The lines of a finding of a function whose maps were all tried: those of its claim where it is unstable, and else
-/// none. The kinds are those of the function's keys, in their order.
-pub fn claim_lines(
-    alloc: Global,
-    keys: &[IntKind],
-    candidate: Candidate,
-    finding: &Finding,
-) -> Result<Vec<BundleLine>, NoMemory>
-    ensures { IfOk result (λ lines. lines.items ≡ claim_lines keys.now candidate finding.now) }
-{
-    let Finding::Unstable { start, needs } = finding else {
-        return Ok(Vec::new(alloc));
-    };
-    let mut lines = report_lines(alloc, keys, candidate, start, needs.as_slice())?;
-    lines.push(BundleLine::Tried)?;
-    Ok(lines)
 }

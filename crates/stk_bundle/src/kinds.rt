@@ -5,10 +5,10 @@ ghost use Rattle.stk_proofs.specs.declared.text.Text.TheVariants as texts;
 ghost use Rattle.stk_records.specs.Kinds.{kind_name};
 ghost use Rattle.stk_bundle.specs.Kinds.{more_kinds, kinds_text, is_listed, StandOnce, AreKinds};
 
-use crate::cutting::cut_at;
 use crate::writing::add;
 use std::alloc::Global;
 use stk_base::{List, NoMemory};
+use stk_line_reading::cut_at;
 use stk_numbers::UbKind;
 use stk_proofs::Text;
 

@@ -3,7 +3,6 @@
 
 mod block;
 mod claims;
-mod cutting;
 mod head;
 mod kinds;
 mod laws;
@@ -15,13 +14,13 @@ mod stage;
 mod word;
 mod writing;
 
-pub use block::{first_line, line_count};
-pub use claims::{claim_lines, left_line, report_lines};
+pub use block::line_count;
+pub use claims::{left_line, report_lines};
 pub use head::head_lines;
 pub use laws::{claims_stand, texts_have_one_reading};
 pub use line::BundleLine;
 pub use parts::{NextPart, Part, PartFault, Reading, next_part, read_bundle};
-pub use reading::read_line;
+pub(crate) use reading::read_line;
 pub use stage::Stage;
 pub use writing::add_line;
 

@@ -4,10 +4,11 @@ ghost use Rattle.stk_bundle.specs.Blocks.{line_count};
 ghost use Rattle.stk_bundle.specs.declared.parts.PartFault.TheVariants as faults;
 ghost use Rattle.stk_bundle.specs.Bundles.{block_lines, line_block, NoLineStands, IsBlockShort, IsNextPart, AreParts, EndsSo};
 
-use crate::block::{block_of, first_line, line_count};
+use crate::block::{block_of, line_count};
 use crate::{BundleLine, Stage, read_line};
 use std::alloc::Global;
 use stk_base::NoMemory;
+use stk_line_reading::first_line;
 use stk_proofs::Text;
 
 /// A line of a bundle, and the block behind it: so many lines as it says, each with its newline. Where it says none,

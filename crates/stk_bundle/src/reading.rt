@@ -6,11 +6,11 @@ ghost use Rattle.stk_bundle.specs.Lines.{IsLine};
 ghost use Rattle.stk_bundle.specs.Words.{IsBehind};
 
 use crate::BundleLine;
-use crate::cutting::cut_at;
 use crate::kinds::kinds_behind;
 use crate::numbers::{numbers_in, one_number, two_and_more, two_numbers};
 use crate::word::{Word, word_in};
 use std::alloc::Global;
+use stk_line_reading::cut_at;
 use stk_proofs::Text;
 
 /// The line that begins with a word and has this behind it; `Bad` exactly where there is none.
@@ -67,7 +67,7 @@ fn line_of(alloc: Global, word: Word, behind: &[u8]) -> Result<BundleLine, Text>
 }
 
 /// The line that a text is, without its newline; `Bad` exactly where it is no line's text.
-pub fn read_line(alloc: Global, text: &[u8]) -> Result<BundleLine, Text>
+pub(crate) fn read_line(alloc: Global, text: &[u8]) -> Result<BundleLine, Text>
     ensures ok { IfOk result (IsLine text.now) }
     ensures bad { IfErr result (λ fault. fault ≡ texts.Bad → (line : Line) → IsLine text.now line → ⊥) }
 {

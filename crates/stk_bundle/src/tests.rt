@@ -1,5 +1,5 @@
 // Bundles that are read, and their lines as they are written back.
-use crate::{add_line, claim_lines, read_bundle};
+use crate::{BundleLine, add_line, read_bundle, report_lines};
 use std::alloc::Global;
 use std::test::Fail;
 use stk_base::{List, NoMemory};
@@ -114,7 +114,12 @@ fn claim_text(alloc: Global) -> Result<Vec<u8>, NoMemory> {
         kind: CandKind::AlwaysFalse,
     };
     let finding = finding(alloc)?;
-    let lines = claim_lines(alloc, &[IntKind::UChar, IntKind::Int], candidate, &finding)?;
+    let Finding::Unstable { start, needs } = &finding else {
+        return Ok(Vec::new(alloc));
+    };
+    let keys = [IntKind::UChar, IntKind::Int];
+    let mut lines = report_lines(alloc, &keys, candidate, start, needs.as_slice())?;
+    lines.push(BundleLine::Tried)?;
     let mut text = Vec::new(alloc);
     for line in &lines {
         add_line(&mut text, line)?;

@@ -91,13 +91,13 @@ fn finish<K: Sink>(alloc: Global, out: &mut K) -> Result<(), Stop>
     Ok(())
 }
 
-/// Judges the units of an input and writes its bundle, each claim as soon as its candidate is judged, and flushes it: the
-/// first lines say how many bytes the input has and which kinds of conditions are taken out; what is said of a unit is
-/// the line of the function that it defines, where this is judged and a candidate of it is unstable, and a claim for each
-/// report, in the order of its candidates, or that it has none; then comes the last line. A claim has a start, the set of
-/// conditions, and what closes it: in a function of at most 16 input bits that all maps were tried, and in a wider one
-/// clauses that stand for the query of the candidate for the set, with a derivation that refutes them. A report has no
-/// claim where that query is given up at this budget.
+/// Judges the units of an input and writes its bundle, each claim as soon as its candidate is judged, and flushes it:
+/// the first lines say how many bytes the input has and which kinds of conditions are taken out; what is said of a unit
+/// is the line of the function that it defines, where this is judged and a candidate of it is unstable, and a claim for
+/// each report, in the order of its candidates, or that it has none; then comes the last line. A claim has a start, the
+/// set of conditions, and what closes it: in a function of at most 16 input bits that all maps were tried, and in a
+/// wider one clauses that stand for the query of the candidate for the set, with a derivation that refutes them. A
+/// report has no claim where that query is given up at this budget.
 ///
 /// The answer is the status: `Found` where a candidate is unstable, `Unsure` where none is and one is undecided, else
 /// `Stable`. What findings or lines say was given up is told by the count of goals that the decider gave up.

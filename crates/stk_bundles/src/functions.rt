@@ -35,8 +35,8 @@ pub(crate) struct ClaimPlace<'a> {
     pub(crate) at: u64,
 }
 
-// Judges the candidates of a function, in order, and writes the claim of each report as soon as it is judged. The answer
-// is what the function counts for.
+// Judges the candidates of a function, in order, and writes the claim of each report as soon as it is judged. The
+// answer is what the function counts for.
 fn write_claims<J: Judge, K: Sink, D: Decider>(
     place: &ClaimPlace,
     searched: &SearchedFunction,

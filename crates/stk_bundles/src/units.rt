@@ -15,8 +15,8 @@ use stk_records::{Cause, Counts, Stop};
 use stk_tree::Function;
 use stk_units::{UnitVisitor, VisitedUnit, one_skipped, visit_unit};
 
-/// Writes the parts of units, with queries of this budget: how many clauses a search may learn, from 1 to 200,000. It has
-/// the counts of the last unit that has any.
+/// Writes the parts of units, with queries of this budget: how many clauses a search may learn, from 1 to 200,000. It
+/// has the counts of the last unit that has any.
 #[derive(Clone, Copy)]
 pub(crate) struct ClaimVisitor {
     pub(crate) budget: u32,
@@ -72,15 +72,15 @@ impl<K: Sink, D: Decider> UnitVisitor<K, D> for ClaimVisitor {
     }
 }
 
-/// Writes the part that a unit has in a bundle, with queries of this budget: how many clauses a search may learn, from 1
-/// to 200,000. It is that of the function that the unit defines, where this is accepted and judged: nothing where none of
-/// its candidates is unstable, and else its line, by the byte at which the unit begins, and for each report, in the order
-/// of its candidates, its claim, or that it has none. Every other unit has none. The answer is what the unit counts for;
-/// the names become those that it leaves in force.
+/// Writes the part that a unit has in a bundle, with queries of this budget: how many clauses a search may learn, from
+/// 1 to 200,000. It is that of the function that the unit defines, where this is accepted and judged: nothing where
+/// none of its candidates is unstable, and else its line, by the byte at which the unit begins, and for each report, in
+/// the order of its candidates, its claim, or that it has none. Every other unit has none. The answer is what the unit
+/// counts for; the names become those that it leaves in force.
 ///
-/// A claim is written as soon as its candidate is judged. Where the writing stops, the sink took nothing, or some prefix
-/// of the claims of the function's first candidates. `WriteFault` comes only where the sink counted a fault; the only
-/// other refusal is want of memory.
+/// A claim is written as soon as its candidate is judged. Where the writing stops, the sink took nothing, or some
+/// prefix of the claims of the function's first candidates. `WriteFault` comes only where the sink counted a fault; the
+/// only other refusal is want of memory.
 pub fn write_unit_part<K: Sink, D: Decider>(
     unit: &VisitedUnit,
     names: &mut Names,

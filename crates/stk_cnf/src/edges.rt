@@ -57,8 +57,8 @@ fn gather(clause: &mut Vec<Lit>, names: &[u32], vars: u32, edges: &[Edge]) -> Re
     Ok(true)
 }
 
-/// Appends the clause of some edges, unless one of them is the constant true. It is gathered in a buffer, which may hold
-/// anything before and after.
+/// Appends the clause of some edges, unless one of them is the constant true. It is gathered in a buffer, which may
+/// hold anything before and after.
 pub(crate) fn put(
     clause: &mut Vec<Lit>,
     names: &[u32],

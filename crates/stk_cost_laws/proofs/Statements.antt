@@ -6,11 +6,12 @@ use Rattle.stk_ctype.specs.Types.{TypeTree}
 use Rattle.stk_tree.specs.Syntax.{ExprTree, MaybeExprTree, InitTree, MaybeInitTree, ItemTree, ItemTrees, DeclrTree, DeclrTrees, DeclarationTree, StartTree, LabelTree, LabelTrees, StmtTree, StmtTrees, MaybeStmtTree, StmtFormTree, PartTree, PartTrees, SectionTree, SectionTrees}
 use Rattle.stk_tree.specs.Syntax as s
 use Rattle.stk_tree.specs.Nodes.{expression_nodes, maybe_expression_nodes, initialiser_nodes, items_nodes, item_nodes, maybe_initialiser_nodes, declarator_nodes, declarators_nodes, declaration_nodes, start_nodes, statement_nodes, statement_form_nodes, maybe_statement_nodes, statements_nodes, parts_nodes, part_nodes, sections_nodes, section_nodes}
+use Rattle.stk_tree.specs.Parts.{is_static}
 use Rattle.stk_numbers.specs.Kinds.{width_of, promote}
 use Rattle.stk_type_rules.specs.Types.{is_scalar}
 use Rattle.stk_meaning.specs.Typings.{type_in, number_kind}
 use Rattle.stk_meaning.specs.Places.{Setting, Target, in_register, in_kept, in_object, unnamed, target_at}
-use Rattle.stk_meaning.specs.Visits.{reading, as_test, is_static, expression_visits, maybe_visits, initialiser_visits, items_visits, item_visits, initial_visits, declarator_visits, declarators_visits, declaration_visits, start_visits, statement_visits, statement_form_visits, maybe_statement_visits, statements_visits, parts_visits, part_visits, sections_visits, section_visits}
+use Rattle.stk_meaning.specs.Visits.{reading, as_test, expression_visits, maybe_visits, initialiser_visits, items_visits, item_visits, initial_visits, declarator_visits, declarators_visits, declaration_visits, start_visits, statement_visits, statement_form_visits, maybe_statement_visits, statements_visits, parts_visits, part_visits, sections_visits, section_visits}
 use Rattle.stk_meaning.specs.Weights.{bits_in, initial_weight, scalar_weight, store_weight, label_weight, labels_weight, test_weight, statement_weight, visits_weight}
 use Rattle.stk_run_laws.specs.Visits.{EachVisit}
 use Rattle.stk_values.specs.Charges.{convert_charge}

@@ -4,5 +4,5 @@ pub mod Noting
 pub mod SizesOfTypes
 pub mod Placing
 pub mod Turning
-pub mod Building
 pub mod Staying
+pub mod MemberPlaces

@@ -20,7 +20,7 @@ later-none None = refl
 later-none (Some x) = refl
 
 -- ---- tags
-last-append : {M : Type 0} (word : List ℕ) (xs ys : List (List ℕ × M)) → last_meaning word (xs ++ ys) ≡ later_of (last_meaning word xs) (last_meaning word ys)
+pub last-append : {M : Type 0} (word : List ℕ) (xs ys : List (List ℕ × M)) → last_meaning word (xs ++ ys) ≡ later_of (last_meaning word xs) (last_meaning word ys)
 last-append word [] ys = sym (later-none (last_meaning word ys))
 last-append word (x ∷ xs) ys = ap (later_of (meaning_of word x)) (last-append word xs ys) ∙ later-assoc (meaning_of word x) (last_meaning word xs) (last_meaning word ys)
 

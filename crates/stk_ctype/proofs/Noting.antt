@@ -76,6 +76,7 @@ kept_more es e id (Some k) None so = so
 kept_more es e id (Some k) (Some s) so = record {
   at = omega (arith, so.at, length-append es (e ∷ []));
   members = get_or-append es (e ∷ []) (entry.Enumeration []) k.at so.at ∙ so.members;
+  places = so.places;
   offsets = so.offsets;
   size = so.size;
   some = so.some;
@@ -101,6 +102,7 @@ kept_less es e id (Some k) (Some s) so other =
     record {
       at = at;
       members = sym (get_or-append es (e ∷ []) (entry.Enumeration []) k.at at) ∙ so.members;
+      places = so.places;
       offsets = so.offsets;
       size = so.size;
       some = so.some;

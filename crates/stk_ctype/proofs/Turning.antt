@@ -1,12 +1,12 @@
 -- The loop that drops a type comes nearer to its end.
-use Rattle.std.proofs.Common.{◌≡◌, ◌<◌, ◌+◌, Option, None, MatchOption, arith, List, [], ◌∷◌, ◌++◌, ap, subst, ◌∙◌}
+use Rattle.std.proofs.Common.{◌≡◌, ◌<◌, ◌≤◌, ◌+◌, Option, None, MatchOption, arith, List, [], ◌∷◌, ◌++◌, ap, sym, subst, ◌∙◌}
 use Rattle.std.proofs.Common.{Some}
 use Rattle.stk_ctype.specs.declared.ctype.CType.{CType}
 use Rattle.stk_ctype.specs.declared.ctype.CType.TheVariants as ctype
 use Rattle.stk_ctype.specs.declared.ctype.Signature.{Signature}
 use Rattle.stk_ctype.specs.declared.ctype.Opened.{Opened}
 use Rattle.stk_ctype.specs.declared.ctype.Opened.TheVariants as opened
-use Rattle.stk_ctype.specs.Types.{SignatureTree, type_of, signature_of}
+use Rattle.stk_ctype.specs.Types.{SignatureTree, signature, type_of, signature_of}
 use Rattle.stk_ctype.specs.Turns.{turns, turns_of_types, turns_outside, turns_of_signature, turns_outside_signature, IsOpened}
 
 pub turns_append : (ts : List CType) (t : CType) → turns_of_types (ts ++ t ∷ []) ≡ turns_of_types ts + turns (type_of t)
@@ -53,3 +53,10 @@ pub less_into : (at r : CType) (ps row : List CType) (outer : CType) (o : Opened
 less_into at r ps row outer o old new is so inside outside =
     let here = subst (IsOpened at) is so in
     omega (arith, ap turns here, inside, outside)
+
+-- a function takes some turns, whatever is in it
+signature_some : (f : SignatureTree) → 1 ≤ turns_of_signature f
+signature_some (signature r ps more no_return) = omega arith
+
+pub function_some : (t : CType) (f : SignatureTree) → t ≡ ctype.Function f → 1 ≤ turns (type_of t)
+function_some t f is = subst (λ n. 1 ≤ n) (sym (ap (λ x. turns (type_of x)) is)) (signature_some f)

@@ -10,7 +10,7 @@ abbrev mutual
   depth (pointer_type t) = depth t + 1
   depth (array_type t n) = depth t + 1
   depth (struct_type id) = 0
-  depth (function_type f) = depth_of_signature f + 1
+  depth (function_type f) = depth_of_signature f + 2
 
   pub depth_of_signature : SignatureTree → ℕ
   depth_of_signature (signature r ps more no_return) = max (depth r) (depth_of_row ps)
@@ -18,3 +18,7 @@ abbrev mutual
   pub depth_of_row : TypeTrees → ℕ
   depth_of_row no_types = 0
   depth_of_row (then_type t ts) = max (depth t) (depth_of_row ts)
+
+-- how deep a signature is that may have several owners
+abbrev pub depth_of_shared : SignatureTree → ℕ
+depth_of_shared f = depth_of_signature f + 1

@@ -1,5 +1,6 @@
 -- What is kept beside the entries, so that look-ups are fast. No contract of a public call mentions it.
 use Rattle.std.specs.Prelude.{◌≡◌, ℕ, ◌+◌, ◌≤◌, ◌<◌, List, [], ◌∷◌, ◌++◌, length, slice_index_or, Option, Some, None}
+use Rattle.stk_ctype.specs.declared.symbol.MemberInfo.{MemberInfo}
 use Rattle.stk_ctype.specs.declared.symbol.Symbol.{Symbol}
 use Rattle.stk_ctype.specs.declared.symbol.NameEntry.{NameEntry}
 use Rattle.stk_ctype.specs.declared.symbol.NameEntry.TheVariants as entry
@@ -37,6 +38,11 @@ abbrev pub tag_words : ℕ → List NameEntry → List (List ℕ × Tag)
 tag_words count [] = []
 tag_words count (e ∷ es) = tag_word count e ++ tag_words (count + structs_in e) es
 
+-- the names of members with their places, counted from one on, the last member first
+abbrev pub member_words : ℕ → List MemberInfo → List (List ℕ × ℕ)
+member_words at [] = []
+member_words at (m ∷ ms) = member_words (at + 1) ms ++ (m.name, at) ∷ []
+
 -- the entry at a position
 abbrev pub entry_at : List NameEntry → ℕ → NameEntry
 entry_at es at = slice_index_or es at (entry.Enumeration [])
@@ -45,6 +51,7 @@ entry_at es at = slice_index_or es at (entry.Enumeration [])
 pub record IsLayoutOf (es : List NameEntry) (id : ℕ) (kept : Layout) (s : StructLayout) : Type 0 where
   pub at : kept.at < length es
   pub members : entry_at es kept.at ≡ entry.Members id s.members
+  pub places : IsIndexOf kept.places (member_words 0 s.members)
   pub offsets : kept.offsets.items ≡ s.offsets
   pub size : kept.size ≡ s.size
   pub some : 1 ≤ s.size

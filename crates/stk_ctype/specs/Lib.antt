@@ -3,6 +3,7 @@ pub mod Trees
 pub mod Codes
 pub mod Depths
 pub mod Types
+pub mod Held
 pub mod Falls
 pub mod Innermost
 pub mod Structs
@@ -11,5 +12,4 @@ pub mod Names
 pub mod Index
 pub mod Facts
 pub mod Turns
-pub mod Parts
 pub mod Named

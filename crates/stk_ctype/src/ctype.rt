@@ -1,15 +1,16 @@
-ghost use Rattle.std.specs.Prelude.{◌≡◌, [], ◌∷◌, ◌++◌, MatchOption};
+ghost use Rattle.std.specs.Prelude.{◌≡◌, [], ◌∷◌, ◌++◌, MatchOption, IfOk};
 ghost use Rattle.stk_ctype.specs.Turns.{IsOpened};
 
-use crate::{IntKind, OwnedSignature, SharedType};
+use crate::{IntKind, OwnedSignature, SharedSignature, SharedType};
+use std::alloc::AllocError;
 use std::mem;
 use stk_base::List;
 
 /// A type of C (C11 6.2.5): `void`, an integer type, a pointer to a type, an array of a type with its number of
 /// elements where that is known, a struct by its number, a function.
 ///
-/// Structs are numbered from 0 in the order in which names declare them. What a pointer points to, and the element of
-/// an array, are shared by all types that are made of them.
+/// Structs are numbered from 0 in the order in which names declare them. What a pointer points to, the element of an
+/// array, and the signature of a function, are shared by all types that are made of them.
 #[cycle(ctype)]
 pub enum CType {
     Void,
@@ -17,7 +18,7 @@ pub enum CType {
     Pointer(SharedType),
     Array(SharedType, Option<u64>),
     Struct(u32),
-    Function(OwnedSignature),
+    Function(SharedSignature),
 }
 
 /// What a function takes and gives: its result, its parameters in order, whether it takes more arguments, and whether
@@ -39,6 +40,20 @@ enum Opened {
 }
 
 impl CType {
+    /// An equal type. It takes no memory, and fails only where a part of it has more than 2^63 owners.
+    pub fn copy(&self) -> Result<CType, AllocError>
+        ensures { IfOk result (λ new. new ≡ self.now) }
+    {
+        match self {
+            CType::Void => Ok(CType::Void),
+            CType::Int(kind) => Ok(CType::Int(*kind)),
+            CType::Struct(id) => Ok(CType::Struct(*id)),
+            CType::Pointer(target) => Ok(CType::Pointer(target.share()?)),
+            CType::Array(element, count) => Ok(CType::Array(element.share()?, *count)),
+            CType::Function(signature) => Ok(CType::Function(signature.share()?)),
+        }
+    }
+
     /// What is in a type.
     fn open(self) -> Opened
         ensures { IsOpened self result }
@@ -48,7 +63,10 @@ impl CType {
                 Some(inner) => Opened::Inner(inner),
                 None => Opened::Nothing,
             },
-            CType::Function(inner) => Opened::Function(inner),
+            CType::Function(inner) => match inner.into_inner() {
+                Some(inner) => Opened::Function(inner),
+                None => Opened::Nothing,
+            },
             CType::Void | CType::Int(_) | CType::Struct(_) => Opened::Nothing,
         }
     }
@@ -73,15 +91,18 @@ impl Drop for CType {
                     Some(inner) => self = inner,
                     None => return,
                 },
-                CType::Function(inner) => {
-                    let Signature {
-                        result,
-                        params,
-                        more: _,
-                        no_return: _,
-                    } = inner.into_inner();
-                    return drop_row(result, params);
-                }
+                CType::Function(inner) => match inner.into_inner() {
+                    Some(inner) => {
+                        let Signature {
+                            result,
+                            params,
+                            more: _,
+                            no_return: _,
+                        } = inner.into_inner();
+                        return drop_row(result, params);
+                    }
+                    None => return,
+                },
                 CType::Void | CType::Int(_) | CType::Struct(_) => return,
             }
         }
@@ -102,7 +123,7 @@ fn drop_row(first: CType, types: List<CType>) {
             Opened::Inner(inner) => at = inner,
             Opened::Function(mut inner) => {
                 (at, row) = inner.replace(outer, row);
-                outer = CType::Function(inner);
+                outer = CType::Function(SharedSignature::lone(inner));
             }
             Opened::Nothing => {
                 let (rest, last) = split_last(row);

@@ -9,11 +9,12 @@ use crate::{NameEntry, Tag};
 use std::alloc::Global;
 use stk_base::{List, NoMemory};
 
-/// How a struct that has its members is laid out: the position of the entry with its members, the offset of each, its
-/// size and its alignment, in bytes.
+/// How a struct that has its members is laid out: the position of the entry with its members, the place of each among
+/// them by its name, the offset of each, its size and its alignment, in bytes.
 #[derive(Drop)]
 pub struct Layout {
     pub at: u32,
+    pub places: Index<usize>,
     pub offsets: Vec<u64>,
     pub size: u64,
     pub alignment: u64,

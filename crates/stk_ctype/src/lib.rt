@@ -2,13 +2,13 @@
 //! size of each type.
 #![tactic(auto)]
 
-mod copying;
 mod ctype;
 mod facts;
 mod index;
 mod kind;
 mod names;
 mod owned_signature;
+mod shared_signature;
 mod shared_type;
 mod sizes;
 mod symbol;
@@ -17,7 +17,8 @@ pub use ctype::{CType, Signature};
 pub use index::Index;
 pub use kind::IntKind;
 pub use names::Names;
-pub use owned_signature::OwnedSignature;
+pub(crate) use owned_signature::OwnedSignature;
+pub use shared_signature::SharedSignature;
 pub use shared_type::SharedType;
 pub use symbol::{MemberInfo, NameEntry, Symbol, Tag};
 

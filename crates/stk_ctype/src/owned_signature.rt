@@ -13,7 +13,7 @@ use stk_base::List;
 /// A signature with one owner, which contracts see as its tree.
 #[cycle(ctype)]
 #[derive(Drop)]
-pub struct OwnedSignature {
+pub(crate) struct OwnedSignature {
     inner: Box<Signature>,
 }
 

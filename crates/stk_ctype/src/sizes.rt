@@ -1,15 +1,18 @@
 // Sizes, alignments and members under the names in force.
 ghost use Rattle.std.specs.Prelude.{◌≡◌, ◌≤◌, ◌+◌, ◌*◌, length, IfOk, IfSome};
 ghost use Rattle.std.specs.Option.{option_copied, option_map};
-ghost use Rattle.stk_ctype.specs.Facts.{IsKept};
+ghost use Rattle.stk_ctype.specs.Facts.{IsKept, member_words};
+ghost use Rattle.stk_ctype.specs.Index.{IsIndexOf};
 ghost use Rattle.stk_ctype.specs.Types.{type_of, struct_type};
 ghost use Rattle.stk_ctype.specs.Structs.{structs_of, struct_at, size_of, alignment_of, size_limit, offset_behind, end_behind, offsets_behind, greatest_alignment, struct_size, layout_of, round_up, member_of, member_named};
 ghost use Rattle.stk_ctype.specs.Innermost.{size_inside};
 ghost use Rattle.stk_ctype.specs.Sound.{IsSound, AreMembers};
 
 use crate::facts::Layout;
+use crate::index::Index;
 use crate::shared_type::{Inmost, count_in, inmost_of};
 use crate::{CType, MemberInfo, NameEntry, Names};
+use std::alloc::Global;
 use stk_base::NoMemory;
 
 /// The greatest size of a type, in bytes.
@@ -147,6 +150,7 @@ impl Names {
         requires members { AreMembers (structs_of self.now) members.now }
         requires size { struct_size (structs_of self.now) members.now ≤ size_limit }
         ensures at { IfOk result (λ l. l.at ≡ length self.now) }
+        ensures places { IfOk result (λ l. IsIndexOf l.places (member_words 0 members.now)) }
         ensures offsets { IfOk result (λ l. l.offsets.items ≡ offsets_behind (structs_of self.now) 0 members.now) }
         ensures size { IfOk result (λ l. l.size ≡ struct_size (structs_of self.now) members.now) }
         ensures alignment { IfOk result (λ l. (l.alignment ≡ greatest_alignment (structs_of self.now) members.now) × (1 ≤ l.alignment) × (l.alignment ≤ 8)) }
@@ -162,6 +166,7 @@ impl Names {
         }
         Ok(Layout {
             at: self.count(),
+            places: places_of(self.alloc, members)?,
             offsets,
             size: round_up(alignment, behind),
             alignment,
@@ -171,7 +176,7 @@ impl Names {
     /// The member of a name that a type has: its offset in bytes and its type (C11 6.5.2.3).
     ///
     /// `None` exactly where the type isn't a struct that has a member of this name. The name is given as bytes, and the
-    /// member's type is sound.
+    /// member's type is sound. It takes time logarithmic in the number of members.
     pub fn member(&self, ty: &CType, name: &[u8]) -> Option<(u64, &CType)>
         ensures sound { IfSome result (λ p. IsSound (structs_of self.now) (type_of p.1.now)) }
         ensures value { option_map (λ p. (p.0, p.1.now)) result ≡ member_of (structs_of self.now) (type_of ty.now) name.now }
@@ -183,27 +188,38 @@ impl Names {
         let NameEntry::Members { id: _, members } = &self.entries[layout.at as usize] else {
             return None;
         };
-        member_named(members.as_slice(), layout.offsets.as_slice(), name)
+        member_named(members.as_slice(), layout, name)
     }
 }
 
-/// The first member of a name among members with their offsets.
+/// The first member of a name among those of a struct that is laid out so.
+#[tactic(auto, using(crate::proofs::MemberPlaces::no_member, crate::proofs::MemberPlaces::no_offset, crate::proofs::MemberPlaces::is_within, crate::proofs::MemberPlaces::is_member))]
 fn member_named<'a>(
     members: &'a [MemberInfo],
-    offsets: &[u64],
+    layout: &Layout,
     name: &[u8],
 ) -> Option<(u64, &'a CType)>
-    ensures { option_map (λ p. (p.0, p.1.now)) result ≡ member_named name.now members.now offsets.now }
+    requires { IsIndexOf layout.now.places (member_words 0 members.now) }
+    ensures { option_map (λ p. (p.0, p.1.now)) result ≡ member_named name.now members.now layout.now.offsets.items }
 {
-    let mut rest = offsets;
-    for member in members {
-        let Some((offset, behind)) = rest.split_first() else {
-            return None;
-        };
-        if member.name.as_slice() == name {
-            return Some((*offset, &member.ty));
-        }
-        rest = behind;
+    let Some(place) = layout.places.get(name) else {
+        return None;
+    };
+    let Some(offset) = layout.offsets.get(place) else {
+        return None;
+    };
+    Some((*offset, &members[place].ty))
+}
+
+/// The places of members by their names, the first of each name.
+fn places_of(alloc: Global, members: &[MemberInfo]) -> Result<Index<usize>, NoMemory>
+    ensures { IfOk result (λ places. IsIndexOf places (member_words 0 members.now)) }
+{
+    let mut places = Index::new(alloc);
+    let mut rest = members;
+    while let Some((member, before)) = rest.split_last() {
+        places.push(alloc, member.name.as_slice(), before.len())?;
+        rest = before;
     }
-    None
+    Ok(places)
 }

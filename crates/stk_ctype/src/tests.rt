@@ -1,7 +1,7 @@
 // Sizes, offsets, shadowing and cuts. Sizes and offsets are those that gcc gives on x86-64.
 use crate::checking::{are_members, is_sound, rests_on};
 use crate::{
-    CType, IntKind, MemberInfo, NameEntry, Names, OwnedSignature, SharedType, Signature, Symbol,
+    CType, IntKind, MemberInfo, NameEntry, Names, SharedSignature, SharedType, Signature, Symbol,
     Tag,
 };
 use std::alloc::Global;
@@ -322,7 +322,7 @@ fn function(alloc: Global, given: CType, param: CType) -> Result<CType, NoMemory
         more: true,
         no_return: false,
     };
-    Ok(CType::Function(OwnedSignature::new(alloc, signature)?))
+    Ok(CType::Function(SharedSignature::new(alloc, signature)?))
 }
 
 // A function whose last parameter points to such a function, and so on, and whose result does.
@@ -342,7 +342,7 @@ fn nested(alloc: Global, levels: u32) -> Result<CType, NoMemory> {
 #[test]
 fn types_that_nest_deep_are_copied_and_dropped(rt: HostRuntime) -> Result<(), Fail> {
     let ty = nested(rt.alloc(), 200_000)?;
-    let copied = ty.copy(rt.alloc())?;
+    let copied = ty.copy()?;
     assert!(rt; matches!(&copied, CType::Function(_)));
     Ok(())
 }

@@ -12,7 +12,7 @@ ghost use Rattle.stk_declarators.specs.Rows.{AreSoundTypes};
 use crate::Params;
 use std::alloc::Global;
 use stk_base::List;
-use stk_ctype::{CType, Names, OwnedSignature, Signature};
+use stk_ctype::{CType, Names, SharedSignature, Signature};
 use stk_type_rules::{Broken, NodeFact, is_complete};
 
 // Whether a function, of a definition or not, may return this type.
@@ -55,5 +55,5 @@ pub(crate) fn function_rule(
         more,
         no_return: false,
     };
-    Ok(NodeFact::declares(CType::Function(OwnedSignature::new(alloc, signature)?)))
+    Ok(NodeFact::declares(CType::Function(SharedSignature::new(alloc, signature)?)))
 }

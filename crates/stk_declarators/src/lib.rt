@@ -12,6 +12,7 @@ mod uses;
 pub use counting::given_count;
 pub use declarators::declarator_uses;
 pub use expressions::{dimensions_uses, expression_uses};
-pub use prototypes::{File, Params, parameters, scope};
+pub(crate) use prototypes::parameters;
+pub use prototypes::{File, Params, scope};
 pub use tails::{Tailed, are_scalars, tail, tail_type};
 pub use uses::{TagUse, base_uses};

@@ -67,11 +67,11 @@ impl Params {
 }
 
 // A type, declared.
-fn declared(alloc: Global, ty: &CType) -> Result<NodeFact, Broken>
+fn declared(ty: &CType) -> Result<NodeFact, Broken>
     ensures fact { MakesFact (Fits (declares (type_of ty.now))) result }
     ensures sound { (structs : Structs) → IsSound structs (type_of ty.now) → IfOk result (λ f. IsSound structs (type_of f.ty)) }
 {
-    let ty = ty.copy(alloc)?;
+    let ty = ty.copy()?;
     Ok(NodeFact::declares(ty))
 }
 
@@ -85,12 +85,7 @@ fn pointer(element: &SharedType) -> Result<NodeFact, Broken>
 }
 
 // A struct as a parameter.
-fn struct_parameter(
-    alloc: Global,
-    names: &Names,
-    defines: bool,
-    ty: &CType,
-) -> Result<NodeFact, Broken>
+fn struct_parameter(names: &Names, defines: bool, ty: &CType) -> Result<NodeFact, Broken>
     requires { IsSound (structs_of names.now) (type_of ty.now) }
     ensures fact { MakesFact (struct_parameter (structs_of names.now) defines (type_of ty.now)) result }
     ensures sound { IfOk result (λ f. IsSound (structs_of names.now) (type_of f.ty)) }
@@ -98,26 +93,25 @@ fn struct_parameter(
     if defines && !is_complete(names, ty) {
         return Err(Broken::Rule(4));
     }
-    declared(alloc, ty)
+    declared(ty)
 }
 
 // The type of a parameter that is declared with this type.
-fn adjusted(alloc: Global, names: &Names, defines: bool, ty: &CType) -> Result<NodeFact, Broken>
+fn adjusted(names: &Names, defines: bool, ty: &CType) -> Result<NodeFact, Broken>
     requires { IsSound (structs_of names.now) (type_of ty.now) }
     ensures fact { MakesFact (adjusted (structs_of names.now) defines (type_of ty.now)) result }
     ensures sound { IfOk result (λ f. IsSound (structs_of names.now) (type_of f.ty)) }
 {
     match ty {
         CType::Void | CType::Function(_) => Err(Broken::Rule(4)),
-        CType::Int(_) | CType::Pointer(_) => declared(alloc, ty),
+        CType::Int(_) | CType::Pointer(_) => declared(ty),
         CType::Array(element, _) => pointer(element),
-        CType::Struct(_) => struct_parameter(alloc, names, defines, ty),
+        CType::Struct(_) => struct_parameter(names, defines, ty),
     }
 }
 
 // The same of what array parts make.
 fn adjusted_from(
-    alloc: Global,
     names: &Names,
     defines: bool,
     made: Result<NodeFact, Broken>,
@@ -128,7 +122,7 @@ fn adjusted_from(
 {
     match made {
         Err(broken) => Err(broken),
-        Ok(fact) => adjusted(alloc, names, defines, &fact.ty),
+        Ok(fact) => adjusted(names, defines, &fact.ty),
     }
 }
 
@@ -148,7 +142,7 @@ fn parameter_rule(
         return Err(Broken::Rule(3));
     }
     let made = declared_type(s.alloc, s.names, sizes, ty);
-    adjusted_from(s.alloc, s.names, defines, made)
+    adjusted_from(s.names, defines, made)
 }
 
 // Whether one of the locals has this name.
@@ -176,7 +170,7 @@ fn by_parameter(
     ensures gives { Gives (IsAt (map fact_of facts.new.items)) (finish d.now.node.number (parameter_rule (structs_in (scope_of s.now)) defines (is_taken (scope_of s.now).locals (name_text s.now.bytes.now d.now.name)) sizes.now (starred d.now.stars (fact_at (map fact_of facts.old.items) i).ty))) result (map fact_of facts.old.items) (map fact_of facts.new.items) }
     ensures sound { OnOk result (AreSoundFacts (structs_of s.now.names.now) (map fact_of facts.new.items)) }
 {
-    let ty = starred(s.alloc, d.stars, fact(facts, i).ty.copy(s.alloc)?)?;
+    let ty = starred(s.alloc, d.stars, fact(facts, i).ty.copy()?)?;
     let made = parameter_rule(s, defines, is_taken(s, d.name), sizes, ty);
     own(facts, d.node.number, made)
 }
@@ -240,7 +234,7 @@ fn add_local(
         return Ok(());
     };
     let name = List::from_vec(Vec::from_slice(f.alloc, at.text(f.bytes))?);
-    let ty = ty.copy(f.alloc)?;
+    let ty = ty.copy()?;
     locals.push(LocalName { name, node, ty })
 }
 
@@ -250,7 +244,7 @@ fn add_type(f: &File, all: &mut Params, name: Option<Span>, ty: &CType) -> Resul
     ensures unnamed { OnOk result (all.new.unnamed ≡ (all.old.unnamed || not (is_some (name_text f.now.bytes.now name)))) }
     ensures sound { (structs : Structs) → IsSound structs (type_of ty.now) → AreSoundTypes structs all.old.types.items → OnOk result (AreSoundTypes structs all.new.types.items) }
 {
-    let ty = ty.copy(f.alloc)?;
+    let ty = ty.copy()?;
     all.types.push(ty)?;
     match name {
         Some(_) => {}
@@ -262,7 +256,7 @@ fn add_type(f: &File, all: &mut Params, name: Option<Span>, ty: &CType) -> Resul
 /// Types the parameters of a function, of a definition or not (C11 6.7.6.3): a fact for each of their nodes is put
 /// behind the others, and their names come into force behind the locals. The answer is their types and whether one has
 /// no name; or the first node that a rule refuses, by the lowest rule that does.
-pub fn parameters(
+pub(crate) fn parameters(
     f: &File,
     locals: &mut Locals,
     facts: &mut Vec<NodeFact>,

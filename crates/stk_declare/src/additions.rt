@@ -15,7 +15,7 @@ use crate::symbols::agreement;
 use std::alloc::Global;
 use stk_base::{List, NoMemory};
 use stk_compatible::Agreement;
-use stk_ctype::{CType, NameEntry, OwnedSignature, Signature, Symbol};
+use stk_ctype::{CType, NameEntry, SharedSignature, Signature, Symbol};
 
 // Whether a function was marked as not returning.
 fn was_marked(earlier: Option<&Symbol>) -> bool
@@ -35,7 +35,7 @@ pub(crate) fn copied_row(alloc: Global, row: &[CType]) -> Result<List<CType>, No
 {
     let mut all = Vec::new(alloc);
     for ty in row {
-        all.push(ty.copy(alloc)?)?;
+        all.push(ty.copy()?)?;
     }
     Ok(List::from_vec(all))
 }
@@ -46,7 +46,7 @@ fn marked(alloc: Global, mark: bool, f: &Signature) -> Result<Signature, NoMemor
     ensures sound { (structs : Structs) → IsSoundSignature structs (signature_of f.now) → IfOk result (λ g. IsSoundSignature structs (signature_of g)) }
 {
     Ok(Signature {
-        result: f.result.copy(alloc)?,
+        result: f.result.copy()?,
         params: copied_row(alloc, f.params.as_slice())?,
         more: f.more,
         no_return: mark,
@@ -71,11 +71,11 @@ fn meaning(alloc: Global, what: SymbolSort, mark: bool, ty: &CType) -> Result<Sy
     ensures sound { (structs : Structs) → IsSound structs (type_of ty.now) → IfOk result (IsSoundSymbol structs) }
 {
     match what {
-        SymbolSort::TypeName => Ok(Symbol::TypeDef(ty.copy(alloc)?)),
-        SymbolSort::Object => Ok(Symbol::Object(ty.copy(alloc)?)),
+        SymbolSort::TypeName => Ok(Symbol::TypeDef(ty.copy()?)),
+        SymbolSort::Object => Ok(Symbol::Object(ty.copy()?)),
         SymbolSort::Function => match signature_in(ty) {
             Some(f) => Ok(Symbol::Function(marked(alloc, mark, f)?)),
-            None => Ok(Symbol::Object(ty.copy(alloc)?)),
+            None => Ok(Symbol::Object(ty.copy()?)),
         },
     }
 }
@@ -86,7 +86,7 @@ fn as_type(alloc: Global, f: &Signature) -> Result<CType, NoMemory>
     ensures sound { (structs : Structs) → IsSoundSignature structs (signature_of f.now) → IfOk result (λ t. IsSound structs (type_of t)) }
 {
     let copy = marked(alloc, f.no_return, f)?;
-    Ok(CType::Function(OwnedSignature::new(alloc, copy)?))
+    Ok(CType::Function(SharedSignature::new(alloc, copy)?))
 }
 
 // What a name of this sort means whose type an earlier declaration gave.

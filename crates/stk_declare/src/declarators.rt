@@ -106,7 +106,7 @@ fn declared_entry(
     let mut locals = Locals::new(f.alloc);
     let mut facts = Vec::new(f.alloc);
     let tailed = tail(f, &mut locals, &mut facts, defines, &d.tail)?;
-    let whole = starred(f.alloc, d.stars, ty.copy(f.alloc)?)?;
+    let whole = starred(f.alloc, d.stars, ty.copy()?)?;
     let what = sort_of(word, &tailed, &whole);
     let fact = ruled(f, defines, word, d, whole, tailed)?;
     let name = declared_name(f.bytes, d.name);

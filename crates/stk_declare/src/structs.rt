@@ -251,7 +251,7 @@ fn member_type(
 {
     let sizes = file_sizes(alloc, bytes, names, array_parts(&d.tail))?;
     let parts = sizes.as_slice();
-    let whole = starred(alloc, d.stars, ty.copy(alloc)?)?;
+    let whole = starred(alloc, d.stars, ty.copy()?)?;
     let made = declared_type(alloc, names, parts, whole);
     let made = member_size_first(last, found, parts, made);
     let made = member_rule(names, last, found, member_name(bytes, d.name), made);
@@ -327,16 +327,11 @@ fn use_base(alloc: Global, bytes: &[u8], names: &mut Names, b: &Base) -> Result<
 }
 
 /// The type that a base without braces names; one with braces is refused.
-pub(crate) fn named_base(
-    alloc: Global,
-    bytes: &[u8],
-    names: &Names,
-    b: &Base,
-) -> Result<CType, Untyped>
+pub(crate) fn named_base(bytes: &[u8], names: &Names, b: &Base) -> Result<CType, Untyped>
     ensures gives { Answers (λ x t. type_of t ≡ x.ty) (base_typed (at_file bytes.now names.now) (view_base b.now)) result }
     ensures sound { IfOk result (λ t. IsSound (structs_of names.now) (type_of t)) }
 {
-    let fact = settled(b.node.number, base_rule(alloc, bytes, names, &b.form))?;
+    let fact = settled(b.node.number, base_rule(bytes, names, &b.form))?;
     Ok(fact.ty)
 }
 
@@ -348,7 +343,7 @@ fn plain_base(alloc: Global, bytes: &[u8], names: &mut Names, b: &Base) -> Resul
     ensures sound { IfOk result (λ t. IsSound (structs_of names.new) (type_of t)) }
 {
     use_base(alloc, bytes, names, b)?;
-    named_base(alloc, bytes, names, b)
+    named_base(bytes, names, b)
 }
 
 /// Declares what a base declares, and names its type (C11 6.7.2).

@@ -17,7 +17,7 @@ use crate::additions::copied_row;
 use std::alloc::Global;
 use stk_base::NoMemory;
 use stk_compatible::{Agreement, agree, agree_signature};
-use stk_ctype::{CType, Names, OwnedSignature, Signature, Symbol};
+use stk_ctype::{CType, Names, SharedSignature, Signature, Symbol};
 use stk_declarators::Tailed;
 use stk_tree::{Init, Storage};
 use stk_type_rules::{Broken, NodeFact, is_complete, is_void};
@@ -283,12 +283,12 @@ fn said_type(alloc: Global, whole: &CType, params: &[CType], more: bool) -> Resu
     ensures { IfOk result (λ t. type_of t ≡ function_type (signature (type_of whole.now) (row_of (map type_of params.now)) more false)) }
 {
     let signature = Signature {
-        result: whole.copy(alloc)?,
+        result: whole.copy()?,
         params: copied_row(alloc, params)?,
         more,
         no_return: false,
     };
-    Ok(CType::Function(OwnedSignature::new(alloc, signature)?))
+    Ok(CType::Function(SharedSignature::new(alloc, signature)?))
 }
 
 /// Whether a function's declarator says another type than an earlier declaration.

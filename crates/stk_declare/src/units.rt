@@ -92,7 +92,7 @@ fn head(s: &Shared, node: u32, names: &mut Names, b: &Base, d: &Declr) -> Result
     ensures gives { Answers (λ es u. names.new ≡ es) (head_declared s.now.bytes.now s.now.mark node names.old s.now.word (view_base b.now) (view_declarator d.now)) result }
     ensures extends { Extends names.old names.new }
 {
-    let ty = named_base(s.alloc, s.bytes, names, b)?;
+    let ty = named_base(s.bytes, names, b)?;
     let shared = Shared {
         alloc: s.alloc,
         bytes: s.bytes,

@@ -1,6 +1,5 @@
 pub mod Alone
 pub mod Arms
 pub mod Ending
-pub mod Forgetting
 pub mod LeavingLaws
 pub mod Views

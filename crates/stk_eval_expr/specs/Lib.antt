@@ -1,3 +1,4 @@
+pub mod Answering
 pub mod Shown
 pub mod Leaving
 pub mod Parts

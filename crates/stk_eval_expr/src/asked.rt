@@ -1,20 +1,17 @@
-//! What a path run asks of the function and of an input map.
+//! What a run asks of the function that it runs.
 
-ghost use Rattle.std.specs.Prelude.{◌≡◌, IfOk, ℕ, ℤ, map, pos, option_map};
+ghost use Rattle.std.specs.Prelude.{◌≡◌, IfOk, ℕ, map, option_map};
 ghost use Rattle.stk_ctype.specs.Types.{type_of, row_of};
 ghost use Rattle.stk_type_rules.specs.Types.{is_scalar, is_void};
 ghost use Rattle.stk_tree.specs.Syntax.{StmtFormTree};
-ghost use Rattle.stk_tree.specs.View.{view_expression, view_statement_form};
+ghost use Rattle.stk_tree.specs.View.{view_expression};
 ghost use Rattle.stk_meaning.specs.Typings.{number_kind, converted, is_array, stride_in, pointed};
-ghost use Rattle.stk_meaning.specs.Operations.{operation_of, step_operation, to_address};
+ghost use Rattle.stk_meaning.specs.Operations.{operation_of, step_operation};
 ghost use Rattle.stk_meaning.specs.Libraries.{called_library, called_signature, parameters_in, result_in, never_returns};
 ghost use Rattle.stk_meaning.specs.Conditions.{index_tests};
 ghost use Rattle.stk_meaning.specs.Replacements.{replacement};
 ghost use Rattle.stk_meaning.specs.Places.{Setting, target_at, object_named};
 ghost use Rattle.stk_meaning.specs.Statements.{is_number};
-ghost use Rattle.stk_meaning.specs.Changes.{assigned_in, forgotten_in};
-ghost use Rattle.stk_meaning.specs.Keys.{address_key, load_key, call_key, unset_key};
-ghost use Rattle.stk_meaning.specs.Paths.{InputMap, reset_all, forgotten};
 ghost use Rattle.stk_operators.specs.Shown.{operator_shown, operation_shown, library_shown};
 ghost use Rattle.stk_operators.specs.Checked.{tests_of};
 ghost use Rattle.stk_eval_expr.specs.Shown.{replacement_shown};
@@ -24,7 +21,7 @@ use stk_base::{NoMemory, Span};
 use stk_ctype::CType;
 use stk_numbers::{IntKind, Kinds};
 use stk_operators::{Library, NodeTests, Operation, Operator, Stride, Target, Word};
-use stk_tree::{Expr, StepOp, StmtForm};
+use stk_tree::{Expr, StepOp};
 
 /// What a comparison is replaced by: the kind of the operand that is kept, whether that is the right operand of the
 /// sum, whether the sum is the left side of the comparison, and whether 0 is the left side of what replaces it.
@@ -36,11 +33,9 @@ pub struct Replacement {
     pub zero_first: bool,
 }
 
-/// What a path run asks of the function that it runs, by the numbers of nodes, and of its input map.
-pub trait PathSetting {
+/// What a run asks of the function that it runs, by the numbers of nodes.
+pub trait RunSetting {
     ghost setting: { Self → Setting };
-
-    ghost inputs: { Self → InputMap };
 
     /// Whether it is known what the loop of this form at this node changes: so it is for each loop of the function that
     /// is run.
@@ -73,22 +68,6 @@ pub trait PathSetting {
     /// What a declarator or a first mention stands for.
     fn target_at(&self, node: u32) -> Target
         ensures { target_shown result ≡ target_at (setting self.now) node };
-
-    /// The address of an object.
-    fn address(&self, node: u32) -> u64
-        ensures { result ≡ to_address (inputs self.now (address_key node)) };
-
-    /// The number of a load.
-    fn loaded(&self, node: u32) -> Word
-        ensures { result ≡ inputs self.now (load_key node) };
-
-    /// The number of a call.
-    fn called(&self, node: u32) -> Word
-        ensures { result ≡ inputs self.now (call_key node) };
-
-    /// The number of a register without initialiser.
-    fn unset(&self, node: u32) -> Word
-        ensures { result ≡ inputs self.now (unset_key node) };
 
     /// What an operator does to operands of the types of two nodes.
     fn operation(&self, op: Operator, left: u32, right: u32) -> Operation
@@ -137,14 +116,4 @@ pub trait PathSetting {
     /// Whether the number of a node, in a kind, is this one.
     fn is_number(&self, kind: IntKind, number: Word, node: u32) -> bool
         ensures { result ≡ is_number kind number ((setting self.now).typing.number_at node) };
-
-    /// Sets the registers of a loop, by its node and its form.
-    fn reset(&self, node: u32, form: &StmtForm, registers: &mut Vec<Word>)
-        requires { knows self.now node (view_statement_form form.now) }
-        ensures { registers.new.items ≡ reset_all (inputs self.now) node (assigned_in (setting self.now) (view_statement_form form.now)) registers.old.items };
-
-    /// Forgets what a loop forgets, by its node and its form.
-    fn forget(&self, node: u32, form: &StmtForm, kept: &mut Vec<Option<Word>>)
-        requires { knows self.now node (view_statement_form form.now) }
-        ensures { kept.new.items ≡ forgotten (forgotten_in (setting self.now) (view_statement_form form.now)) kept.old.items };
 }

@@ -1,26 +1,24 @@
 //! Expressions.
 
-ghost use Rattle.std.specs.Prelude.{◌≡◌, [], ℤ, IfOk, true, false, pos, option_map, get_or, map, List};
+ghost use Rattle.std.specs.Prelude.{◌≡◌, IfOk, true, false, pos, map};
 ghost use Rattle.stk_ctype.specs.Types.{type_of, row_of};
 ghost use Rattle.stk_tree.specs.View.{view_expression, expressions};
 ghost use Rattle.stk_meaning.specs.Typings.{node_of, type_in};
 ghost use Rattle.stk_meaning.specs.Operations.{sort_of, operates, operation_of, assigned_operator};
 ghost use Rattle.stk_meaning.specs.Places.{target_of};
-ghost use Rattle.stk_meaning.specs.Worlds.{Cut, gives};
-ghost use Rattle.stk_meaning.specs.Paths.{path_world};
-ghost use Rattle.stk_meaning.specs.Expressions.{Meaning, meaning, own_number, indexed_from, place_value, right_operand, branch_value, unary_meaning, binary_meaning, operator_sides, assigned_value, arguments_values, passed, later_parameters};
+ghost use Rattle.stk_meaning.specs.Expressions.{meaning, own_number, indexed_from, place_value, right_operand, branch_value, unary_meaning, binary_meaning, operator_sides, assigned_value, arguments_values, passed, later_parameters};
 ghost use Rattle.stk_operators.specs.Shown.{operator_shown};
 ghost use Rattle.stk_tree.specs.Syntax as s;
 ghost use Rattle.stk_eval_expr.specs.Shown.{sides_shown};
-ghost use Rattle.stk_eval_expr.specs.Leaving.{Leaves, from, value_run, place_run, sides_run, test_run, meaning_in};
+ghost use Rattle.stk_eval_expr.specs.Leaving.{Leaves, Stops, from, value_run, place_run, sides_run, test_run};
 
-use crate::asked::PathSetting;
 use crate::state::{Sides, State};
 use crate::steps::{
     arrow_place, assigned_number, called_number, compared_number, compound_number, indexed_place,
     member_place, named_place, negated_number, node_of, operated_number, place_number, see,
     stepped_number, target_of, target_place,
 };
+use crate::world::World;
 use stk_base::NoMemory;
 use stk_ctype::CType;
 use stk_meaning::Entry;
@@ -32,8 +30,8 @@ use stk_tree::{AssignOp, BinaryOp, Expr, ExprForm, UnaryOp};
 
 /// The value of an expression.
 #[cycle(expression)]
-pub fn value<O: PathSetting>(out: &O, e: &Expr, state: &mut State) -> Result<Word, NoMemory>
-    ensures { IfOk result (λ v. Leaves (value_run (O.setting out.now) (O.inputs out.now) (view_expression e.now) state.old) v state.old state.new) }
+pub fn value<W: World>(out: &W, e: &Expr, state: &mut State<W::Kept>) -> Result<Word, NoMemory>
+    ensures { IfOk result (λ v. Leaves W.shown (value_run W.shown (W.setting out.now) (W.world out.now) (view_expression e.now) state.old) v state.old state.new) }
 {
     let k = e.node.number;
     match &e.form {
@@ -56,8 +54,9 @@ pub fn value<O: PathSetting>(out: &O, e: &Expr, state: &mut State) -> Result<Wor
             Ok(n.to_kind(out.kind_at(k)))
         }
         ExprForm::Step(op, x) => {
-            let _place = place(out, x.get(), true, state)?;
-            let n = stepped_number(out, k, *op, x.get(), state)?;
+            let x = x.get();
+            let address = place(out, x, true, state)?;
+            let n = stepped_number(out, k, *op, x, address, state)?;
             Ok(n)
         }
         ExprForm::Binary(op, a, b) => binary_value(out, k, *op, a.get(), b.get(), state),
@@ -80,8 +79,8 @@ pub fn value<O: PathSetting>(out: &O, e: &Expr, state: &mut State) -> Result<Wor
 }
 
 // The number that a node has by itself; 0 where it has none.
-fn own_number<O: PathSetting>(out: &O, node: u32) -> Word
-    ensures { (state : State) → Leaves (from ((own_number (O.setting out.now) node).value) state) result state state }
+fn own_number<W: World>(out: &W, node: u32) -> Word
+    ensures { (state : State W.Kept) → Leaves W.shown (from W.shown ((own_number (W.setting out.now) node).value) state) result state state }
 {
     match out.own_number(node) {
         Some(n) => n,
@@ -91,8 +90,8 @@ fn own_number<O: PathSetting>(out: &O, node: u32) -> Word
 
 // The value of a place: of an array its address, else its number.
 #[cycle(expression)]
-fn place_value<O: PathSetting>(out: &O, e: &Expr, state: &mut State) -> Result<Word, NoMemory>
-    ensures { IfOk result (λ v. Leaves (from (place_value (path_world (O.inputs out.now)) (target_of (O.setting out.now) (view_expression e.now)) (node_of (view_expression e.now)) (type_in (O.setting out.now).typing (view_expression e.now)) (meaning_in (O.setting out.now) (O.inputs out.now) (view_expression e.now)).place) state.old) v state.old state.new) }
+fn place_value<W: World>(out: &W, e: &Expr, state: &mut State<W::Kept>) -> Result<Word, NoMemory>
+    ensures { IfOk result (λ v. Leaves W.shown (from W.shown (place_value (W.world out.now) (target_of (W.setting out.now) (view_expression e.now)) (node_of (view_expression e.now)) (type_in (W.setting out.now).typing (view_expression e.now)) (meaning (W.setting out.now) (W.world out.now) (view_expression e.now)).place) state.old) v state.old state.new) }
 {
     let k = node_of(e);
     let address = place(out, e, !out.is_array_at(k), state)?;
@@ -100,14 +99,15 @@ fn place_value<O: PathSetting>(out: &O, e: &Expr, state: &mut State) -> Result<W
 }
 
 /// The address of a place, which is accessed or not. What is no place has none.
+#[tactic(auto, using(crate::proofs::LeavingLaws::stops_leave))]
 #[cycle(expression)]
-pub(crate) fn place<O: PathSetting>(
-    out: &O,
+pub(crate) fn place<W: World>(
+    out: &W,
     e: &Expr,
     accessed: bool,
-    state: &mut State,
+    state: &mut State<W::Kept>,
 ) -> Result<u64, NoMemory>
-    ensures { IfOk result (λ v. Leaves (place_run (O.setting out.now) (O.inputs out.now) (view_expression e.now) accessed state.old) v state.old state.new) }
+    ensures { IfOk result (λ v. Leaves W.shown (place_run W.shown (W.setting out.now) (W.world out.now) (view_expression e.now) accessed state.old) v state.old state.new) }
 {
     let k = e.node.number;
     match &e.form {
@@ -147,8 +147,8 @@ pub(crate) fn place<O: PathSetting>(
 }
 
 // What is no place: the run ends.
-fn no_place(state: &mut State) -> u64
-    ensures { Leaves (Cut []) result state.old state.new }
+fn no_place<K>(state: &mut State<K>) -> u64
+    ensures { Stops state.old state.new }
 {
     state.end();
     0
@@ -156,13 +156,13 @@ fn no_place(state: &mut State) -> u64
 
 // What stands before `[e]`: the address of an array, or the number of a pointer.
 #[cycle(expression)]
-fn indexed<O: PathSetting>(
-    out: &O,
+fn indexed<W: World>(
+    out: &W,
     accessed: bool,
     e: &Expr,
-    state: &mut State,
+    state: &mut State<W::Kept>,
 ) -> Result<Word, NoMemory>
-    ensures { IfOk result (λ v. Leaves (from (indexed_from (type_in (O.setting out.now).typing (view_expression e.now)) accessed (meaning_in (O.setting out.now) (O.inputs out.now) (view_expression e.now))) state.old) v state.old state.new) }
+    ensures { IfOk result (λ v. Leaves W.shown (from W.shown (indexed_from (type_in (W.setting out.now).typing (view_expression e.now)) accessed (meaning (W.setting out.now) (W.world out.now) (view_expression e.now))) state.old) v state.old state.new) }
 {
     if out.is_array_at(node_of(e)) {
         let address = place(out, e, accessed, state)?;
@@ -173,16 +173,17 @@ fn indexed<O: PathSetting>(
 }
 
 // The address of a unary operator as a place: of `*`.
+#[tactic(auto, using(crate::proofs::LeavingLaws::stops_leave))]
 #[cycle(expression)]
-fn unary_place<O: PathSetting>(
-    out: &O,
+fn unary_place<W: World>(
+    out: &W,
     k: u32,
     accessed: bool,
     op: UnaryOp,
     e: &Expr,
-    state: &mut State,
+    state: &mut State<W::Kept>,
 ) -> Result<u64, NoMemory>
-    ensures { IfOk result (λ v. Leaves (from ((unary_meaning (O.setting out.now) (path_world (O.inputs out.now)) k op (view_expression e.now) (meaning_in (O.setting out.now) (O.inputs out.now) (view_expression e.now))).place accessed) state.old) v state.old state.new) }
+    ensures { IfOk result (λ v. Leaves W.shown (from W.shown ((unary_meaning (W.setting out.now) (W.world out.now) k op (view_expression e.now) (meaning (W.setting out.now) (W.world out.now) (view_expression e.now))).place accessed) state.old) v state.old state.new) }
 {
     match op {
         UnaryOp::Deref => {
@@ -200,14 +201,14 @@ fn unary_place<O: PathSetting>(
 
 // The value of a unary operator (C11 6.5.3).
 #[cycle(expression)]
-fn unary_value<O: PathSetting>(
-    out: &O,
+fn unary_value<W: World>(
+    out: &W,
     k: u32,
     op: UnaryOp,
     e: &Expr,
-    state: &mut State,
+    state: &mut State<W::Kept>,
 ) -> Result<Word, NoMemory>
-    ensures { IfOk result (λ v. Leaves (from (unary_meaning (O.setting out.now) (path_world (O.inputs out.now)) k op (view_expression e.now) (meaning_in (O.setting out.now) (O.inputs out.now) (view_expression e.now))).value state.old) v state.old state.new) }
+    ensures { IfOk result (λ v. Leaves W.shown (from W.shown (unary_meaning (W.setting out.now) (W.world out.now) k op (view_expression e.now) (meaning (W.setting out.now) (W.world out.now) (view_expression e.now))).value state.old) v state.old state.new) }
 {
     match op {
         UnaryOp::Address => {
@@ -241,8 +242,8 @@ fn unary_value<O: PathSetting>(
 
 // An expression as a controlling one: it is seen without its parentheses.
 #[cycle(expression)]
-pub fn tested<O: PathSetting>(out: &O, e: &Expr, state: &mut State) -> Result<Word, NoMemory>
-    ensures { IfOk result (λ v. Leaves (test_run (O.setting out.now) (O.inputs out.now) (view_expression e.now) state.old) v state.old state.new) }
+pub fn tested<W: World>(out: &W, e: &Expr, state: &mut State<W::Kept>) -> Result<Word, NoMemory>
+    ensures { IfOk result (λ v. Leaves W.shown (test_run W.shown (W.setting out.now) (W.world out.now) (view_expression e.now) state.old) v state.old state.new) }
 {
     let n = value(out, e, state)?;
     see(e, n, state)?;
@@ -251,8 +252,8 @@ pub fn tested<O: PathSetting>(out: &O, e: &Expr, state: &mut State) -> Result<Wo
 
 // The right operand of `&&` and of `||`, which is entered.
 #[cycle(expression)]
-fn right_operand<O: PathSetting>(out: &O, e: &Expr, state: &mut State) -> Result<Word, NoMemory>
-    ensures { IfOk result (λ v. Leaves (from (right_operand (node_of (view_expression e.now)) (meaning_in (O.setting out.now) (O.inputs out.now) (view_expression e.now))) state.old) v state.old state.new) }
+fn right_operand<W: World>(out: &W, e: &Expr, state: &mut State<W::Kept>) -> Result<Word, NoMemory>
+    ensures { IfOk result (λ v. Leaves W.shown (from W.shown (right_operand (node_of (view_expression e.now)) (meaning (W.setting out.now) (W.world out.now) (view_expression e.now))) state.old) v state.old state.new) }
 {
     state.push(Entry::Enter(node_of(e)))?;
     let n = value(out, e, state)?;
@@ -261,8 +262,8 @@ fn right_operand<O: PathSetting>(out: &O, e: &Expr, state: &mut State) -> Result
 
 // A branch of `?:`, which is entered, converted to the type of the whole.
 #[cycle(expression)]
-fn branch<O: PathSetting>(out: &O, k: u32, e: &Expr, state: &mut State) -> Result<Word, NoMemory>
-    ensures { IfOk result (λ v. Leaves (from (branch_value ((O.setting out.now).typing.type_at k) (node_of (view_expression e.now)) (meaning_in (O.setting out.now) (O.inputs out.now) (view_expression e.now))) state.old) v state.old state.new) }
+fn branch<W: World>(out: &W, k: u32, e: &Expr, state: &mut State<W::Kept>) -> Result<Word, NoMemory>
+    ensures { IfOk result (λ v. Leaves W.shown (from W.shown (branch_value ((W.setting out.now).typing.type_at k) (node_of (view_expression e.now)) (meaning (W.setting out.now) (W.world out.now) (view_expression e.now))) state.old) v state.old state.new) }
 {
     state.push(Entry::Enter(node_of(e)))?;
     let n = value(out, e, state)?;
@@ -271,15 +272,15 @@ fn branch<O: PathSetting>(out: &O, k: u32, e: &Expr, state: &mut State) -> Resul
 
 // The value of a binary operator (C11 6.5.5 to 6.5.14, 6.5.17).
 #[cycle(expression)]
-fn binary_value<O: PathSetting>(
-    out: &O,
+fn binary_value<W: World>(
+    out: &W,
     k: u32,
     op: BinaryOp,
     a: &Expr,
     b: &Expr,
-    state: &mut State,
+    state: &mut State<W::Kept>,
 ) -> Result<Word, NoMemory>
-    ensures { IfOk result (λ v. Leaves (from (binary_meaning (O.setting out.now) k op (view_expression a.now) (view_expression b.now) (sort_of op) (meaning_in (O.setting out.now) (O.inputs out.now) (view_expression a.now)) (meaning_in (O.setting out.now) (O.inputs out.now) (view_expression b.now))).value state.old) v state.old state.new) }
+    ensures { IfOk result (λ v. Leaves W.shown (from W.shown (binary_meaning (W.setting out.now) k op (view_expression a.now) (view_expression b.now) (sort_of op) (meaning (W.setting out.now) (W.world out.now) (view_expression a.now)) (meaning (W.setting out.now) (W.world out.now) (view_expression b.now))).value state.old) v state.old state.new) }
 {
     match sort_of(op) {
         BinarySort::Operates(Operator::Comparing(how)) => {
@@ -323,17 +324,17 @@ fn binary_value<O: PathSetting>(
 
 // An operator on two numbers as a side of a comparison.
 #[cycle(expression)]
-fn operator_sides<O: PathSetting>(
-    out: &O,
+fn operator_sides<W: World>(
+    out: &W,
     k: u32,
     op: BinaryOp,
     how: Operator,
     a: &Expr,
     b: &Expr,
-    state: &mut State,
+    state: &mut State<W::Kept>,
 ) -> Result<Sides, NoMemory>
     requires { sort_of op ≡ operates (operator_shown how) }
-    ensures { IfOk result (λ v. let ty = (O.setting out.now).typing in let x = view_expression a.now in let y = view_expression b.now in Leaves (from (operator_sides (O.setting out.now) k (s.binary op x y) (operation_of ty (operator_shown how) (type_in ty x) (type_in ty y)) (meaning_in (O.setting out.now) (O.inputs out.now) x) (meaning_in (O.setting out.now) (O.inputs out.now) y)) state.old) (sides_shown v) state.old state.new) }
+    ensures { IfOk result (λ v. let ty = (W.setting out.now).typing in let x = view_expression a.now in let y = view_expression b.now in Leaves W.shown (from W.shown (operator_sides (W.setting out.now) k (s.binary op x y) (operation_of ty (operator_shown how) (type_in ty x) (type_in ty y)) (meaning (W.setting out.now) (W.world out.now) x) (meaning (W.setting out.now) (W.world out.now) y)) state.old) (sides_shown v) state.old state.new) }
 {
     let left = value(out, a, state)?;
     let right = value(out, b, state)?;
@@ -360,15 +361,15 @@ fn alone(number: Word) -> Sides
 
 // A binary operator as a side of a comparison.
 #[cycle(expression)]
-fn binary_sides<O: PathSetting>(
-    out: &O,
+fn binary_sides<W: World>(
+    out: &W,
     k: u32,
     op: BinaryOp,
     a: &Expr,
     b: &Expr,
-    state: &mut State,
+    state: &mut State<W::Kept>,
 ) -> Result<Sides, NoMemory>
-    ensures { IfOk result (λ v. Leaves (from (binary_meaning (O.setting out.now) k op (view_expression a.now) (view_expression b.now) (sort_of op) (meaning_in (O.setting out.now) (O.inputs out.now) (view_expression a.now)) (meaning_in (O.setting out.now) (O.inputs out.now) (view_expression b.now))).sides state.old) (sides_shown v) state.old state.new) }
+    ensures { IfOk result (λ v. Leaves W.shown (from W.shown (binary_meaning (W.setting out.now) k op (view_expression a.now) (view_expression b.now) (sort_of op) (meaning (W.setting out.now) (W.world out.now) (view_expression a.now)) (meaning (W.setting out.now) (W.world out.now) (view_expression b.now))).sides state.old) (sides_shown v) state.old state.new) }
 {
     match sort_of(op) {
         BinarySort::Operates(Operator::Arithmetic(how)) => {
@@ -398,8 +399,12 @@ fn binary_sides<O: PathSetting>(
 
 /// An expression as a side of a comparison: with the numbers of its operands, where it is a sum or difference.
 #[cycle(expression)]
-pub(crate) fn sides<O: PathSetting>(out: &O, e: &Expr, state: &mut State) -> Result<Sides, NoMemory>
-    ensures { IfOk result (λ v. Leaves (sides_run (O.setting out.now) (O.inputs out.now) (view_expression e.now) state.old) (sides_shown v) state.old state.new) }
+pub(crate) fn sides<W: World>(
+    out: &W,
+    e: &Expr,
+    state: &mut State<W::Kept>,
+) -> Result<Sides, NoMemory>
+    ensures { IfOk result (λ v. Leaves W.shown (sides_run W.shown (W.setting out.now) (W.world out.now) (view_expression e.now) state.old) (sides_shown v) state.old state.new) }
 {
     match &e.form {
         ExprForm::Paren(x) => sides(out, x.get(), state),
@@ -429,24 +434,23 @@ pub(crate) fn sides<O: PathSetting>(out: &O, e: &Expr, state: &mut State) -> Res
 
 // The value of an assignment (C11 6.5.16): the right side comes first.
 #[cycle(expression)]
-fn assigned_value<O: PathSetting>(
-    out: &O,
+fn assigned_value<W: World>(
+    out: &W,
     k: u32,
     op: AssignOp,
     a: &Expr,
     b: &Expr,
-    state: &mut State,
+    state: &mut State<W::Kept>,
 ) -> Result<Word, NoMemory>
-    ensures { IfOk result (λ v. Leaves (from (assigned_value (O.setting out.now) (path_world (O.inputs out.now)) k op (view_expression a.now) (view_expression b.now) (assigned_operator op) (meaning_in (O.setting out.now) (O.inputs out.now) (view_expression a.now)) (meaning_in (O.setting out.now) (O.inputs out.now) (view_expression b.now))) state.old) v state.old state.new) }
+    ensures { IfOk result (λ v. Leaves W.shown (from W.shown (assigned_value (W.setting out.now) (W.world out.now) k op (view_expression a.now) (view_expression b.now) (assigned_operator op) (meaning (W.setting out.now) (W.world out.now) (view_expression a.now)) (meaning (W.setting out.now) (W.world out.now) (view_expression b.now))) state.old) v state.old state.new) }
 {
     let n = value(out, b, state)?;
-    let _place = place(out, a, true, state)?;
+    let address = place(out, a, true, state)?;
     match assigned_operator(op) {
-        None => Ok(assigned_number(out, a, n, state)),
+        None => assigned_number(out, a, address, n, state),
         Some(how) => {
             let operation = out.operation(how, node_of(a), node_of(b));
-            let n = compound_number(out, k, operation, a, n, state)?;
-            Ok(n)
+            compound_number(out, k, operation, a, address, n, state)
         }
     }
 }
@@ -464,13 +468,13 @@ fn passed(params: &[CType], number: Word) -> (Word, &[CType])
 
 // The numbers of arguments, in order.
 #[cycle(expression)]
-fn arguments<O: PathSetting>(
-    out: &O,
+fn arguments<W: World>(
+    out: &W,
     list: &[Expr],
     params: &[CType],
-    state: &mut State,
+    state: &mut State<W::Kept>,
 ) -> Result<Vec<Word>, NoMemory>
-    ensures { IfOk result (λ v. Leaves (from (arguments_values (O.setting out.now) (path_world (O.inputs out.now)) (row_of (map type_of params.now)) (expressions (map view_expression list.now))) state.old) v.items state.old state.new) }
+    ensures { IfOk result (λ v. Leaves W.shown (from W.shown (arguments_values (W.setting out.now) (W.world out.now) (row_of (map type_of params.now)) (expressions (map view_expression list.now))) state.old) v.items state.old state.new) }
 {
     let mut numbers = Vec::new(state.alloc);
     let mut rest = params;

@@ -1,21 +1,15 @@
-//! Where a path run has come to, and what a step of it does.
+//! Where a run has come to, and what a step of it does.
 
-ghost use Rattle.std.specs.Prelude.{◌≡◌, ◌++◌, ◌∷◌, [], ℕ, ℤ, true, false, pos, IfOk, None, Option, Some, set, get_or};
-ghost use Rattle.stk_ctype.specs.declared.kind.IntKind.{IntKind};
-ghost use Rattle.stk_meaning.specs.Worlds.{Went, Cut, Ran, gives};
-ghost use Rattle.stk_meaning.specs.Paths.{path_world, all_forgotten, KeptNumbers, InputMap};
+ghost use Rattle.std.specs.Prelude.{◌≡◌, ◌∷◌, [], pos, IfOk, set, get_or};
 ghost use Rattle.stk_meaning.specs.Conditions.{violated};
-ghost use Rattle.stk_meaning.specs.Expressions.{number_in, stored_at};
 ghost use Rattle.stk_operators.specs.Checked.{kept_tests};
-ghost use Rattle.stk_operators.specs.Targets.{target_shown};
-ghost use Rattle.stk_eval_expr.specs.Leaving.{Leaves, Adds};
+ghost use Rattle.stk_eval_expr.specs.Leaving.{Adds, Stops};
 
-use crate::asked::PathSetting;
 use std::alloc::Global;
 use stk_base::NoMemory;
 use stk_meaning::Entry;
 use stk_numbers::Kinds;
-use stk_operators::{NodeTests, Target, Word, push_violated};
+use stk_operators::{NodeTests, Word, push_violated};
 
 /// How a statement ends (C11 6.8.6).
 #[derive(Clone, Copy, Debug)]
@@ -34,13 +28,12 @@ pub struct Sides {
     pub right: Word,
 }
 
-/// The registers by the numbers of their declarators, the numbers that are kept, by the positions of the kept objects,
-/// the entries so far, and whether the run is cut. A run that is cut adds no entry, and what it gives from then on
-/// doesn't matter.
+/// The registers by the numbers of their declarators, what the world keeps, the entries so far, and whether the run is
+/// cut. A run that is cut adds no entry, and what it gives from then on doesn't matter.
 #[derive(Drop)]
-pub struct State {
+pub struct State<K> {
     pub registers: Vec<Word>,
-    pub kept: Vec<Option<Word>>,
+    pub kept: K,
     pub entries: Vec<Entry>,
     pub cut: bool,
     pub alloc: Global,
@@ -55,39 +48,10 @@ pub fn put_word(list: &mut Vec<Word>, at: usize, number: Word)
     }
 }
 
-/// Puts what is kept in a place, where there is one.
-pub fn put_kept(list: &mut Vec<Option<Word>>, at: usize, number: Option<Word>)
-    ensures { list.new.items ≡ set list.old.items at number }
-{
-    if at < list.len() {
-        list[at] = number;
-    }
-}
-
-// What is kept in a place; nothing, where there is none.
-fn kept_at(list: &Vec<Option<Word>>, at: usize) -> Option<Word>
-    ensures { result ≡ get_or list.now.items at None }
-{
-    match list.get(at) {
-        Some(found) => *found,
-        None => None,
-    }
-}
-
-// Forgets all that is kept.
-fn forget_all(list: &mut Vec<Option<Word>>)
-    ensures { list.new.items ≡ all_forgotten list.old.items }
-{
-    for at in 0..list.len() {
-        list[at] = None;
-    }
-}
-
-impl State {
+impl<K> State<K> {
     /// Ends the run here.
     pub fn end(&mut self)
-        ensures address { (t : ℕ) → Leaves (Cut []) t self.old self.new }
-        ensures number { (t : ℤ) → Leaves (Cut []) t self.old self.new }
+        ensures { Stops self.old self.new }
     {
         self.cut = true;
     }
@@ -125,44 +89,6 @@ impl State {
         match self.registers.get(at as usize) {
             Some(number) => *number,
             None => Word::bit(false),
-        }
-    }
-
-    /// The number of a place that is read at a node: of a register its own, of a kept object the kept one, else the
-    /// input map's.
-    pub fn read<O: PathSetting>(&mut self, out: &O, target: Target, node: u32) -> Word
-        ensures { (kind : IntKind) (a : ℕ) → Leaves (number_in (path_world (O.inputs out.now)) (target_shown target) node kind a self.old.registers.items self.old.kept.items) result self.old self.new }
-    {
-        match target {
-            Target::Register(at) => self.register(at),
-            Target::Kept(at) => match kept_at(&self.kept, at as usize) {
-                Some(number) => number,
-                None => {
-                    let number = out.loaded(node);
-                    put_kept(&mut self.kept, at as usize, Some(number));
-                    number
-                }
-            },
-            Target::Object(_) | Target::Unnamed => out.loaded(node),
-        }
-    }
-
-    /// Forgets all that is kept: the outside may have written.
-    pub fn forget(&mut self)
-        ensures { (v : ℤ) → Leaves (Went v self.old.registers.items (all_forgotten self.old.kept.items) []) v self.old self.new }
-    {
-        forget_all(&mut self.kept);
-    }
-
-    /// Stores a number in a place.
-    pub fn store(&mut self, target: Target, number: Word)
-        ensures { (inputs : InputMap) (kind : IntKind) (a : ℕ) (z : ℤ) → Leaves (stored_at (path_world inputs) (target_shown target) kind a number z self.old.registers.items self.old.kept.items) z self.old self.new }
-    {
-        match target {
-            Target::Register(at) => put_word(&mut self.registers, at as usize, number),
-            Target::Kept(at) => put_kept(&mut self.kept, at as usize, Some(number)),
-            Target::Object(_) => {}
-            Target::Unnamed => forget_all(&mut self.kept),
         }
     }
 }

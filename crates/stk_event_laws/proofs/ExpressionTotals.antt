@@ -8,7 +8,8 @@ use Rattle.stk_tree.specs.declared.expression.BinaryOp.TheVariants as binary
 use Rattle.stk_tree.specs.declared.expression.AssignOp.TheVariants as assign
 use Rattle.stk_tree.specs.Syntax.{ExprTree, ExprTrees, ExprFormTree}
 use Rattle.stk_tree.specs.Syntax as s
-use Rattle.stk_meaning.specs.Typings.{node_of, type_in, is_array, bare}
+use Rattle.stk_tree.specs.Parts.{bare}
+use Rattle.stk_meaning.specs.Typings.{node_of, type_in, is_array}
 use Rattle.stk_meaning.specs.Replacements.{Replaced, replacement}
 use Rattle.stk_meaning.specs.Places.{Setting}
 use Rattle.stk_meaning.specs.Visits.{Use, read, accessed, taken, Role, reading, accessing, taking, as_arm, as_test, accesses, inner_role, inside, indexed_role, expression_visits, arguments_visits, type_name_visits}

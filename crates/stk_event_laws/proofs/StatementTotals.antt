@@ -4,9 +4,10 @@ use Rattle.std.specs.Prelude.{map}
 use Rattle.stk_numbers.specs.declared.conditions.CandKind.TheVariants.{Arm}
 use Rattle.stk_tree.specs.Syntax.{ExprTree, MaybeExprTree, InitTree, MaybeInitTree, ItemTree, ItemTrees, DeclrTree, DeclrTrees, DeclarationTree, StartTree, StmtTree, StmtTrees, MaybeStmtTree, StmtFormTree, PartTree, PartTrees, SectionTree, SectionTrees}
 use Rattle.stk_tree.specs.Syntax as s
+use Rattle.stk_tree.specs.Parts.{is_static}
 use Rattle.stk_meaning.specs.Typings.{statement_node}
 use Rattle.stk_meaning.specs.Places.{Setting}
-use Rattle.stk_meaning.specs.Visits.{Visits, reading, as_test, is_static, expression_visits, maybe_visits, initialiser_visits, items_visits, item_visits, designators_visits, tail_visits, declarator_visits, declarators_visits, declaration_visits, start_visits, labels_visits, statement_visits, statement_form_visits, maybe_statement_visits, statements_visits, parts_visits, part_visits, sections_visits, section_visits}
+use Rattle.stk_meaning.specs.Visits.{Visits, reading, as_test, expression_visits, maybe_visits, initialiser_visits, items_visits, item_visits, designators_visits, tail_visits, declarator_visits, declarators_visits, declaration_visits, start_visits, labels_visits, statement_visits, statement_form_visits, maybe_statement_visits, statements_visits, parts_visits, part_visits, sections_visits, section_visits}
 use Rattle.stk_meaning.specs.Lists.{arm_candidates}
 use Rattle.stk_run_laws.specs.Visits.{EachVisit}
 use Rattle.stk_run_laws.specs.TypedOperands.{VisitHasScalarOperand}

@@ -5,8 +5,7 @@ use Rattle.stk_tree.specs.Syntax as s
 use Rattle.stk_type_rules.specs.Types.{is_scalar}
 use Rattle.stk_meaning.specs.Places.{Setting}
 use Rattle.stk_meaning.specs.Worlds as worlds
-use Rattle.stk_meaning.specs.Worlds.{Ran, written}
-use Rattle.stk_meaning.specs.Paths.{InputMap, KeptNumbers, path_world}
+use Rattle.stk_meaning.specs.Worlds.{Ran, World, written}
 use Rattle.stk_meaning.specs.Declarations.{begun_with}
 use Rattle.stk_eval_expr.specs.declared.state.Flow.{Flow}
 use Rattle.stk_eval_expr.specs.declared.state.Flow.TheVariants as flow
@@ -43,5 +42,5 @@ loop_end worlds.Continue = None
 loop_end worlds.Return = Some worlds.Return
 
 -- the initialiser of an automatic object is stored in a scalar; the outside writes an array or a struct
-abbrev pub automatic_end : Setting → InputMap → ℕ → ℤ → List ℤ → KeptNumbers → Ran worlds.Flow KeptNumbers
-automatic_end g i k x r m = if is_scalar (g.typing.type_at k) then begun_with g (path_world i) k x r m else written worlds.Normal ((path_world i).write m) r
+abbrev pub automatic_end : {S : Type 0} → Setting → World S → ℕ → ℤ → List ℤ → S → Ran worlds.Flow S
+automatic_end g w k x r m = if is_scalar (g.typing.type_at k) then begun_with g w k x r m else written worlds.Normal (w.write m) r

@@ -4,13 +4,13 @@ ghost use Rattle.std.specs.Prelude.{◌≡◌, map};
 ghost use Rattle.stk_tree.specs.View.{view_label, labels, view_section, sections};
 ghost use Rattle.stk_meaning.specs.Statements.{is_case, has_case, is_default, has_default, sections_before, chosen};
 
-use stk_eval_expr::{PathSetting, node_of};
+use stk_eval_expr::{RunSetting, node_of};
 use stk_numbers::IntKind;
 use stk_operators::Word;
 use stk_tree::{Label, Section};
 
 // Whether a label is a case of this number in a kind.
-fn is_case<O: PathSetting>(out: &O, kind: IntKind, number: Word, label: &Label) -> bool
+fn is_case<O: RunSetting>(out: &O, kind: IntKind, number: Word, label: &Label) -> bool
     ensures { result ≡ is_case (O.setting out.now).typing kind number (view_label label.now) }
 {
     match label {
@@ -20,7 +20,7 @@ fn is_case<O: PathSetting>(out: &O, kind: IntKind, number: Word, label: &Label) 
 }
 
 // Whether labels have a case of this number in a kind.
-fn has_case<O: PathSetting>(out: &O, kind: IntKind, number: Word, list: &[Label]) -> bool
+fn has_case<O: RunSetting>(out: &O, kind: IntKind, number: Word, list: &[Label]) -> bool
     ensures { result ≡ has_case (O.setting out.now).typing kind number (labels (map view_label list.now)) }
 {
     for label in list {
@@ -54,7 +54,7 @@ fn has_default(list: &[Label]) -> bool
 }
 
 // The position of the first section that has a case of this number.
-fn case_at<O: PathSetting>(out: &O, kind: IntKind, number: Word, list: &[Section]) -> Option<usize>
+fn case_at<O: RunSetting>(out: &O, kind: IntKind, number: Word, list: &[Section]) -> Option<usize>
     ensures { result ≡ sections_before (has_case (O.setting out.now).typing kind number) (sections (map view_section list.now)) }
 {
     for (at, x) in list.iter().enumerate() {
@@ -79,7 +79,7 @@ pub fn default_at(list: &[Section]) -> Option<usize>
 
 /// The position of the section that control goes to: the one with the case of the number, else the one with `default`,
 /// where there is one.
-pub(crate) fn chosen<O: PathSetting>(
+pub(crate) fn chosen<O: RunSetting>(
     out: &O,
     kind: IntKind,
     number: Word,

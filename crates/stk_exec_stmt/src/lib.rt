@@ -1,4 +1,4 @@
-//! The path run of a function, one branch at a time.
+//! The run of a body, one branch at a time.
 #![tactic(auto)]
 
 mod choosing;
@@ -9,6 +9,5 @@ mod scopes;
 mod statements;
 
 pub use choosing::default_at;
-pub use declarations::is_static;
 pub use running::run_body;
 pub use statements::statement;

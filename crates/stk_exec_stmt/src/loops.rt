@@ -1,19 +1,18 @@
-//! How statements end, and what a path run does before and behind the one turn of a loop.
+//! How statements end, and how loops begin.
 
-ghost use Rattle.std.specs.Prelude.{◌≡◌, [], IfOk, option_map};
+ghost use Rattle.std.specs.Prelude.{◌≡◌, IfOk, option_map};
 ghost use Rattle.std.specs.Option.{option_copied};
 ghost use Rattle.stk_tree.specs.View.{view_statement, given_expression};
 ghost use Rattle.stk_meaning.specs.Typings.{statement_node};
-ghost use Rattle.stk_meaning.specs.Paths.{path_world, reset_all, forgotten};
-ghost use Rattle.stk_meaning.specs.Worlds.{Normal, Cut, again, gives};
+ghost use Rattle.stk_meaning.specs.Worlds.{Normal};
 ghost use Rattle.stk_meaning.specs.Statements.{discarded_run, return_run};
 ghost use Rattle.stk_meaning.specs.Changes.{assigned_in, forgotten_in};
 ghost use Rattle.stk_eval_expr.specs.Shown.{flow_shown};
 ghost use Rattle.stk_eval_expr.specs.Leaving.{Leaves, from};
-ghost use Rattle.stk_exec_stmt.specs.Ending.{is_normal, past_switch, loop_end, turned_shown, form_of};
+ghost use Rattle.stk_exec_stmt.specs.Ending.{is_normal, past_switch, loop_end, form_of};
 
 use stk_base::NoMemory;
-use stk_eval_expr::{Flow, PathSetting, State, value};
+use stk_eval_expr::{Flow, State, World, value};
 use stk_tree::{Expr, Stmt};
 
 /// Whether a statement ended as it should.
@@ -53,12 +52,12 @@ pub(crate) fn loop_end(flow: Flow) -> Option<Flow>
 }
 
 /// An expression whose value isn't used, and which may be missing (C11 6.8.3).
-pub(crate) fn discarded<O: PathSetting>(
-    out: &O,
+pub(crate) fn discarded<W: World>(
+    out: &W,
     e: Option<&Expr>,
-    state: &mut State,
+    state: &mut State<W::Kept>,
 ) -> Result<(), NoMemory>
-    ensures { IfOk result (λ _. Leaves (from (discarded_run (O.setting out.now) (path_world (O.inputs out.now)) (given_expression (option_copied e.entry))) state.old) Normal state.old state.new) }
+    ensures { IfOk result (λ _. Leaves W.shown (from W.shown (discarded_run (W.setting out.now) (W.world out.now) (given_expression (option_copied e.entry))) state.old) Normal state.old state.new) }
 {
     match e {
         None => Ok(()),
@@ -70,12 +69,12 @@ pub(crate) fn discarded<O: PathSetting>(
 }
 
 /// `return`, with the value of its expression (C11 6.8.6.4).
-pub(crate) fn returned<O: PathSetting>(
-    out: &O,
+pub(crate) fn returned<W: World>(
+    out: &W,
     e: Option<&Expr>,
-    state: &mut State,
+    state: &mut State<W::Kept>,
 ) -> Result<Flow, NoMemory>
-    ensures { IfOk result (λ v. Leaves (from (return_run (O.setting out.now) (path_world (O.inputs out.now)) (given_expression (option_copied e.entry))) state.old) (flow_shown v) state.old state.new) }
+    ensures { IfOk result (λ v. Leaves W.shown (from W.shown (return_run (W.setting out.now) (W.world out.now) (given_expression (option_copied e.entry))) state.old) (flow_shown v) state.old state.new) }
 {
     match e {
         None => Ok(Flow::Return),
@@ -86,28 +85,15 @@ pub(crate) fn returned<O: PathSetting>(
     }
 }
 
-/// What a loop does before its turn: its registers get numbers of the input map, and what it may change is forgotten.
-pub(crate) fn begin_loop<O: PathSetting>(out: &O, whole: &Stmt, state: &mut State)
-    requires { O.knows out.now (statement_node (view_statement whole.now)) (form_of (view_statement whole.now)) }
-    ensures registers { state.new.registers.items ≡ reset_all (O.inputs out.now) (statement_node (view_statement whole.now)) (assigned_in (O.setting out.now) (form_of (view_statement whole.now))) state.old.registers.items }
-    ensures kept { state.new.kept.items ≡ forgotten (forgotten_in (O.setting out.now) (form_of (view_statement whole.now))) state.old.kept.items }
+/// What a loop does before its turns: its registers are set, and what it may change is forgotten, as the world has it.
+pub(crate) fn begin_loop<W: World>(out: &W, whole: &Stmt, state: &mut State<W::Kept>)
+    requires { W.knows out.now (statement_node (view_statement whole.now)) (form_of (view_statement whole.now)) }
+    ensures registers { state.new.registers.items ≡ (W.world out.now).reset (statement_node (view_statement whole.now)) (assigned_in (W.setting out.now) (form_of (view_statement whole.now))) state.old.registers.items }
+    ensures kept { W.shown state.new.kept ≡ (W.world out.now).forget (forgotten_in (W.setting out.now) (form_of (view_statement whole.now))) (W.shown state.old.kept) }
     ensures cut { state.new.cut ≡ state.old.cut }
     ensures entries { state.new.entries.items ≡ state.old.entries.items }
 {
     let node = whole.node.number;
     out.reset(node, &whole.form, &mut state.registers);
     out.forget(node, &whole.form, &mut state.kept);
-}
-
-/// How a loop ends whose turn ended so: one that asks for another turn ends the run.
-pub(crate) fn end_loop(turn: Option<Flow>, state: &mut State) -> Flow
-    ensures { Leaves (again (gives (turned_shown turn) state.old.registers.items state.old.kept.items) (λ r m. Cut [])) (flow_shown result) state.old state.new }
-{
-    match turn {
-        Some(flow) => flow,
-        None => {
-            state.end();
-            Flow::Normal
-        }
-    }
 }

@@ -1,9 +1,8 @@
 //! The registers that a scope declares, which get back their numbers from before.
 
-ghost use Rattle.std.specs.Prelude.{◌≡◌, ℕ, ◌++◌, IfOk, OnOk, map, get_or, pos};
+ghost use Rattle.std.specs.Prelude.{◌≡◌, ◌++◌, IfOk, OnOk, map};
 ghost use Rattle.stk_tree.specs.View.{view_part, parts, view_start, view_declaration, view_declarator, declarators};
 ghost use Rattle.stk_meaning.specs.Visits.{part_declares, parts_declare, start_declares, declared_in, declared_by};
-ghost use Rattle.stk_meaning.specs.Worlds.{restored};
 ghost use Rattle.stk_exec_stmt.specs.Saved.{saved_of, given_back};
 
 use stk_base::NoMemory;
@@ -19,7 +18,11 @@ pub struct Saved {
 }
 
 // Adds the numbers of the registers that declarators declare.
-fn save_declared(list: &[Declr], state: &State, saved: &mut Vec<Saved>) -> Result<(), NoMemory>
+fn save_declared<K>(
+    list: &[Declr],
+    state: &State<K>,
+    saved: &mut Vec<Saved>,
+) -> Result<(), NoMemory>
     ensures { OnOk result (saved.new.items ≡ saved.old.items ++ saved_of (declared_by (declarators (map view_declarator list.now))) state.now.registers.items) }
 {
     for d in list {
@@ -31,14 +34,18 @@ fn save_declared(list: &[Declr], state: &State, saved: &mut Vec<Saved>) -> Resul
 }
 
 // Adds those of a declaration.
-fn save_declaration(d: &Declaration, state: &State, saved: &mut Vec<Saved>) -> Result<(), NoMemory>
+fn save_declaration<K>(
+    d: &Declaration,
+    state: &State<K>,
+    saved: &mut Vec<Saved>,
+) -> Result<(), NoMemory>
     ensures { OnOk result (saved.new.items ≡ saved.old.items ++ saved_of (declared_in (view_declaration d.now)) state.now.registers.items) }
 {
     save_declared(d.list.as_slice(), state, saved)
 }
 
 // Adds those of a part of a block.
-fn save_part(part: &Part, state: &State, saved: &mut Vec<Saved>) -> Result<(), NoMemory>
+fn save_part<K>(part: &Part, state: &State<K>, saved: &mut Vec<Saved>) -> Result<(), NoMemory>
     ensures { OnOk result (saved.new.items ≡ saved.old.items ++ saved_of (part_declares (view_part part.now)) state.now.registers.items) }
 {
     match part {
@@ -48,7 +55,7 @@ fn save_part(part: &Part, state: &State, saved: &mut Vec<Saved>) -> Result<(), N
 }
 
 /// The numbers of the registers that the parts of a block declare, without the blocks in it.
-pub(crate) fn saved_parts(list: &[Part], state: &State) -> Result<Vec<Saved>, NoMemory>
+pub(crate) fn saved_parts<K>(list: &[Part], state: &State<K>) -> Result<Vec<Saved>, NoMemory>
     ensures { IfOk result (λ saved. saved.items ≡ saved_of (parts_declare (parts (map view_part list.now))) state.now.registers.items) }
 {
     let mut saved = Vec::new(state.alloc);
@@ -59,7 +66,7 @@ pub(crate) fn saved_parts(list: &[Part], state: &State) -> Result<Vec<Saved>, No
 }
 
 /// The numbers of the registers that the first part of a `for` declares.
-pub(crate) fn saved_start(start: &Start, state: &State) -> Result<Vec<Saved>, NoMemory>
+pub(crate) fn saved_start<K>(start: &Start, state: &State<K>) -> Result<Vec<Saved>, NoMemory>
     ensures { IfOk result (λ saved. saved.items ≡ saved_of (start_declares (view_start start.now)) state.now.registers.items) }
 {
     let mut saved = Vec::new(state.alloc);

@@ -12,4 +12,4 @@ mod reading;
 pub use front::{base, basic_base, begins_type, is_named};
 pub use parse::Parse;
 pub use reader::{FoundDimensions, array_parts, higher};
-pub use reading::{Leading, expr, expression, stopped};
+pub use reading::{Leading, expr, stopped};

@@ -94,7 +94,7 @@ pub struct Leading<'a> {
 ///
 /// The tree is well placed, fits the names, is at most `room` high and is followed by a stop, as with `expr`. `NoTree`
 /// comes exactly where the tokens begin with no such expression. The records of its nodes aren't set.
-pub fn expression<'a>(
+pub(crate) fn expression<'a>(
     alloc: Global,
     bytes: &[u8],
     names: &Names,

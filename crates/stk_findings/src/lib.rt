@@ -1,5 +1,5 @@
-//! The findings of a function, one candidate after the other, whatever the number of its input bits; those of a function
-//! of more than 16 by the goals of its queries, which are asked of a decider.
+//! The findings of a function, one candidate after the other, whatever the number of its input bits; those of a
+//! function of more than 16 by the goals of its queries, which are asked of a decider.
 #![tactic(auto)]
 
 mod asking;

@@ -85,16 +85,16 @@ fn numbers_of(alloc: Global, types: &FunctionTypes, f: &Function) -> Result<Vec<
     Ok(numbers)
 }
 
-/// The choices of the first input maps of a function: 40 of each function, then up to 4,000 of the numbers that stand in
-/// it, ascending. An input that is compared with a constant, or that chooses a section of a `switch`, is likely to be
-/// one of them. No clause says which there are, since a search may begin with any.
-pub fn choices_of(
+/// The choices of the numbers that stand in a function, up to 4,000 of them, ascending, without those that each
+/// function is tried with. An input that is compared with a constant, or that chooses a section of a `switch`, is
+/// likely to be one of them. No clause says which there are, since a search may begin with any.
+pub fn number_choices(
     alloc: Global,
     types: &FunctionTypes,
     f: &Function,
 ) -> Result<Vec<Choice>, NoMemory> {
     let numbers = numbers_of(alloc, types, f)?;
-    let mut choices = Vec::from_slice(alloc, &CHOICES)?;
+    let mut choices = Vec::new(alloc);
     for number in numbers.iter().take(MOST_NUMBERS) {
         if !is_choice(*number) {
             choices.push(Choice::Same(*number))?;

@@ -8,7 +8,7 @@ mod placed;
 mod placing;
 mod words;
 
-pub use choices::{CHOICES, Choice, choices_of};
+pub use choices::{CHOICES, Choice, number_choices};
 pub use mapping::map_of_choice;
 pub use placing::is_valid;
 pub use words::words_of;

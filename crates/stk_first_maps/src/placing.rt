@@ -12,7 +12,7 @@ ghost use Rattle.stk_first_maps.specs.Placed.{placed_object};
 use crate::placed::{PlacedObject, are_placed};
 use std::alloc::Global;
 use stk_base::NoMemory;
-use stk_eval_expr::PathSetting;
+use stk_eval_expr::World;
 use stk_function_env::{Key, KeyInfo};
 use stk_function_types::FunctionTypes;
 use stk_operators::Word;

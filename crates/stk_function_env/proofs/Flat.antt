@@ -6,9 +6,10 @@ use Rattle.stk_tree.specs.Syntax as s
 use Rattle.stk_tree.specs.declared.statement.Stmt.{Stmt}
 use Rattle.stk_tree.specs.declared.statement.Section.{Section, out-Section, fold_out-Section}
 use Rattle.stk_tree.specs.View.{part_step, statement_form_step, section_step, statement_step, view_section, view_statement, view_label, labels, statements}
+use Rattle.stk_tree.specs.Parts.{is_static}
 use Rattle.stk_meaning.specs.Typings.{Typing}
 use Rattle.stk_meaning.specs.Places.{Setting}
-use Rattle.stk_meaning.specs.Visits.{Role, reading, Visits, no_visit, one_visit, both_visits, scope, unevaluated, is_static, expression_visits, form_visits, arguments_visits, type_name_visits, dimensions_visits, dimension_visits, maybe_visits, initialiser_visits, items_visits, item_visits, designators_visits, designator_visits, tail_visits, parameters_visits, parameter_visits, head_visits, initial_visits, declarator_visits, declarators_visits, declaration_visits, start_visits, label_visits, labels_visits, statements_visits, section_visits}
+use Rattle.stk_meaning.specs.Visits.{Role, reading, Visits, no_visit, one_visit, both_visits, scope, unevaluated, expression_visits, form_visits, arguments_visits, type_name_visits, dimensions_visits, dimension_visits, maybe_visits, initialiser_visits, items_visits, item_visits, designators_visits, designator_visits, tail_visits, parameters_visits, parameter_visits, head_visits, initial_visits, declarator_visits, declarators_visits, declaration_visits, start_visits, label_visits, labels_visits, statements_visits, section_visits}
 use Rattle.stk_function_types.specs.Visits.{marked_visits}
 use Rattle.stk_function_types.specs.Gathered.{gathered}
 use Rattle.stk_function_types.proofs.Gathering.{gathered-append, gathered-unevaluated}

@@ -7,6 +7,7 @@ use Rattle.std.proofs.lemmas.List.Elements.{filter-append}
 use Rattle.stk_base.specs.declared.span.Span.{Span}
 use Rattle.stk_tree.specs.Syntax.{TailTree, DeclrTree, ParamTrees, FunctionTree}
 use Rattle.stk_tree.specs.Syntax as s
+use Rattle.stk_tree.specs.Parts.{declared_parameters, parameters_in}
 use Rattle.stk_numbers.specs.declared.conditions.Kinds.{Kinds}
 use Rattle.stk_type_rules.specs.Types.{is_scalar}
 use Rattle.stk_meaning.specs.Typings.{Typing, declarator_node}
@@ -16,7 +17,7 @@ use Rattle.stk_meaning.specs.Visits.{collected}
 use Rattle.stk_function_types.specs.Visits.{MarkedVisit, marked_visits}
 use Rattle.stk_function_types.specs.Gathered.{gathered}
 use Rattle.stk_function_types.proofs.Gathering.{gathered-marked_visits}
-use Rattle.stk_function_env.specs.Listed.{tail_list, head_list, is_register_parameter, parameters_registers, register_parameter_keys, memory_parameter_keys, key_kept, keys_kept}
+use Rattle.stk_function_env.specs.Listed.{is_register_parameter, parameters_registers, register_parameter_keys, memory_parameter_keys, key_kept, keys_kept}
 use Rattle.stk_function_env.proofs.Filters.{filter-cons}
 
 -- ---- parameters
@@ -49,32 +50,32 @@ memory-keys-list ty (s.then_parameter p ps) =
     ∙ ap (λ xs. xs ++ map (memory_info ty) (filter (λ d. not (fits_register ty (declarator_node d))) (parameter_declarators ps))) (by_memory (is_register_parameter ty p) (memory_info ty) (parameter_declarator p))
     ∙ ap (λ xs. (if is_register_parameter ty p then [] else memory_info ty (parameter_declarator p) ∷ []) ++ xs) (memory-keys-list ty ps)
 
-tail-parameters : (d : DeclrTree) → head_parameters d ≡ parameter_declarators (head_list d)
+tail-parameters : (d : DeclrTree) → head_parameters d ≡ parameter_declarators (declared_parameters d)
 tail-parameters (s.declarator n count at (s.arrays sizes) init) = refl
 tail-parameters (s.declarator n count at s.unspecified init) = refl
 tail-parameters (s.declarator n count at s.void_parameters init) = refl
 tail-parameters (s.declarator n count at (s.with_parameters ps more) init) = refl
 
-function-parameters : (f : FunctionTree) → parameters_of f ≡ parameter_declarators (head_list (head_of f))
+function-parameters : (f : FunctionTree) → parameters_of f ≡ parameter_declarators (declared_parameters (head_of f))
 function-parameters (s.function word specifiers d body) = tail-parameters d
 
 -- ---- the parts of a setting
-pub registers_are : (ty : Typing) (f : FunctionTree) (ps : ParamTrees) (ms : List MarkedVisit) (registers : List ℕ) → ps ≡ head_list (head_of f) → ms ≡ marked_visits true (function_visits ty f) → registers ≡ parameters_registers ty ps ++ gathered (visit_registers ty) ms → registers ≡ registers_of ty f
+pub registers_are : (ty : Typing) (f : FunctionTree) (ps : ParamTrees) (ms : List MarkedVisit) (registers : List ℕ) → ps ≡ declared_parameters (head_of f) → ms ≡ marked_visits true (function_visits ty f) → registers ≡ parameters_registers ty ps ++ gathered (visit_registers ty) ms → registers ≡ registers_of ty f
 registers_are ty f ps ms registers hp hm hr =
-    hr ∙ ap (λ qs. parameters_registers ty qs ++ gathered (visit_registers ty) ms) hp ∙ ap (λ ns. parameters_registers ty (head_list (head_of f)) ++ gathered (visit_registers ty) ns) hm ∙ ap (λ xs. parameters_registers ty (head_list (head_of f)) ++ xs) (gathered-marked_visits (visit_registers ty) (function_visits ty f)) ∙ ap (λ xs. xs ++ collected (visit_registers ty) (function_visits ty f)) (sym (registers-list ty (head_list (head_of f)))) ∙ ap (λ ds. filter (λ k. fits_register ty k) (map declarator_node ds) ++ collected (visit_registers ty) (function_visits ty f)) (sym (function-parameters f))
+    hr ∙ ap (λ qs. parameters_registers ty qs ++ gathered (visit_registers ty) ms) hp ∙ ap (λ ns. parameters_registers ty (declared_parameters (head_of f)) ++ gathered (visit_registers ty) ns) hm ∙ ap (λ xs. parameters_registers ty (declared_parameters (head_of f)) ++ xs) (gathered-marked_visits (visit_registers ty) (function_visits ty f)) ∙ ap (λ xs. xs ++ collected (visit_registers ty) (function_visits ty f)) (sym (registers-list ty (declared_parameters (head_of f)))) ∙ ap (λ ds. filter (λ k. fits_register ty k) (map declarator_node ds) ++ collected (visit_registers ty) (function_visits ty f)) (sym (function-parameters f))
 
 pub mentions_are : (ty : Typing) (f : FunctionTree) (ms : List MarkedVisit) (mentions : List Mention) → ms ≡ marked_visits true (function_visits ty f) → mentions ≡ gathered (visit_mentions ty) ms → mentions ≡ collected (visit_mentions ty) (function_visits ty f)
 mentions_are ty f ms mentions hm h = h ∙ ap (gathered (visit_mentions ty)) hm ∙ gathered-marked_visits (visit_mentions ty) (function_visits ty f)
 
-pub keys_are : (ty : Typing) (without : Kinds) (f : FunctionTree) (g : Setting) (ps : ParamTrees) (ms : List MarkedVisit) (keys : List KeyInfo) → g ≡ first_setting ty without f → ps ≡ head_list (head_of f) → ms ≡ marked_visits true (function_visits ty f) → keys ≡ register_parameter_keys ty ps ++ (memory_parameter_keys ty ps ++ gathered (visit_keys g) ms) → keys ≡ keys_of ty without f
+pub keys_are : (ty : Typing) (without : Kinds) (f : FunctionTree) (g : Setting) (ps : ParamTrees) (ms : List MarkedVisit) (keys : List KeyInfo) → g ≡ first_setting ty without f → ps ≡ declared_parameters (head_of f) → ms ≡ marked_visits true (function_visits ty f) → keys ≡ register_parameter_keys ty ps ++ (memory_parameter_keys ty ps ++ gathered (visit_keys g) ms) → keys ≡ keys_of ty without f
 keys_are ty without f g ps ms keys hg hp hm hk =
     hk
     ∙ ap (λ h. register_parameter_keys ty ps ++ (memory_parameter_keys ty ps ++ gathered (visit_keys h) ms)) hg
     ∙ ap (λ qs. register_parameter_keys ty qs ++ (memory_parameter_keys ty qs ++ gathered (visit_keys (first_setting ty without f)) ms)) hp
-    ∙ ap (λ ns. register_parameter_keys ty (head_list (head_of f)) ++ (memory_parameter_keys ty (head_list (head_of f)) ++ gathered (visit_keys (first_setting ty without f)) ns)) hm
-    ∙ ap (λ xs. register_parameter_keys ty (head_list (head_of f)) ++ (memory_parameter_keys ty (head_list (head_of f)) ++ xs)) (gathered-marked_visits (visit_keys (first_setting ty without f)) (function_visits ty f))
-    ∙ ap (λ xs. xs ++ (memory_parameter_keys ty (head_list (head_of f)) ++ collected (visit_keys (first_setting ty without f)) (function_visits ty f))) (sym (register-keys-list ty (head_list (head_of f))))
-    ∙ ap (λ xs. map (parameter_info ty) (filter (λ d. fits_register ty (declarator_node d)) (parameter_declarators (head_list (head_of f)))) ++ (xs ++ collected (visit_keys (first_setting ty without f)) (function_visits ty f))) (sym (memory-keys-list ty (head_list (head_of f))))
+    ∙ ap (λ ns. register_parameter_keys ty (declared_parameters (head_of f)) ++ (memory_parameter_keys ty (declared_parameters (head_of f)) ++ gathered (visit_keys (first_setting ty without f)) ns)) hm
+    ∙ ap (λ xs. register_parameter_keys ty (declared_parameters (head_of f)) ++ (memory_parameter_keys ty (declared_parameters (head_of f)) ++ xs)) (gathered-marked_visits (visit_keys (first_setting ty without f)) (function_visits ty f))
+    ∙ ap (λ xs. xs ++ (memory_parameter_keys ty (declared_parameters (head_of f)) ++ collected (visit_keys (first_setting ty without f)) (function_visits ty f))) (sym (register-keys-list ty (declared_parameters (head_of f))))
+    ∙ ap (λ xs. map (parameter_info ty) (filter (λ d. fits_register ty (declarator_node d)) (parameter_declarators (declared_parameters (head_of f)))) ++ (xs ++ collected (visit_keys (first_setting ty without f)) (function_visits ty f))) (sym (memory-keys-list ty (declared_parameters (head_of f))))
     ∙ ap (λ ds. map (parameter_info ty) (filter (λ d. fits_register ty (declarator_node d)) ds) ++ (map (memory_info ty) (filter (λ d. not (fits_register ty (declarator_node d))) ds) ++ collected (visit_keys (first_setting ty without f)) (function_visits ty f))) (sym (function-parameters f))
 
 -- ---- kept objects

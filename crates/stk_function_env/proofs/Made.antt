@@ -1,6 +1,7 @@
 -- The setting that is made is that of the function.
 use Rattle.std.proofs.Common.{ℕ, ◌≡◌, true, List, [], ◌++◌, take, ap, ◌∙◌}
 use Rattle.stk_tree.specs.Syntax.{ParamTrees, FunctionTree}
+use Rattle.stk_tree.specs.Parts.{declared_parameters}
 use Rattle.stk_numbers.specs.declared.conditions.Kinds.{Kinds}
 use Rattle.stk_meaning.specs.Places.{Setting}
 use Rattle.stk_meaning.specs.Keys.{KeyInfo, head_of, function_visits, visit_registers, visit_mentions, visit_keys, first_setting, setting_of, keys_of}
@@ -8,7 +9,7 @@ use Rattle.stk_function_types.specs.Units.{TypedUnit}
 use Rattle.stk_function_types.specs.Nodes.{typing_in}
 use Rattle.stk_function_types.specs.Visits.{MarkedVisit, marked_visits}
 use Rattle.stk_function_types.specs.Gathered.{gathered}
-use Rattle.stk_function_env.specs.Listed.{head_list, parameters_registers, register_parameter_keys, memory_parameter_keys, keys_kept}
+use Rattle.stk_function_env.specs.Listed.{parameters_registers, register_parameter_keys, memory_parameter_keys, keys_kept}
 use Rattle.stk_function_env.specs.Settings.{FunctionPlaces, setting_in}
 use Rattle.stk_function_env.proofs.Listing.{registers_are, mentions_are, keys_are, kept_are}
 
@@ -34,7 +35,7 @@ pub record IsFirst (T : TypedUnit) (w : Kinds) (ps : ParamTrees) (ms : List Mark
   pub mentions : first.mentions ≡ gathered (visit_mentions (typing_in T)) ms
   pub kept : first.kept ≡ []
 
-pub made : (T : TypedUnit) (w : Kinds) (f : FunctionTree) (ps : ParamTrees) (ms : List MarkedVisit) (first r : FunctionPlaces) (ks : List KeyInfo) (all few : List ℕ) → ps ≡ head_list (head_of f) → ms ≡ marked_visits true (function_visits (typing_in T) f) → IsFirst T w ps ms first → ks ≡ register_parameter_keys (typing_in first.types) ps ++ (memory_parameter_keys (typing_in first.types) ps ++ gathered (visit_keys (setting_in first)) ms) → all ≡ keys_kept (typing_in T) ks → few ≡ take 32 all → r ≡ record first { keys = ks; kept = few } → IsMade T w f r
+pub made : (T : TypedUnit) (w : Kinds) (f : FunctionTree) (ps : ParamTrees) (ms : List MarkedVisit) (first r : FunctionPlaces) (ks : List KeyInfo) (all few : List ℕ) → ps ≡ declared_parameters (head_of f) → ms ≡ marked_visits true (function_visits (typing_in T) f) → IsFirst T w ps ms first → ks ≡ register_parameter_keys (typing_in first.types) ps ++ (memory_parameter_keys (typing_in first.types) ps ++ gathered (visit_keys (setting_in first)) ms) → all ≡ keys_kept (typing_in T) ks → few ≡ take 32 all → r ≡ record first { keys = ks; kept = few } → IsMade T w f r
 made T w f ps ms first r ks all few hp hm h hk ha hf e =
     let registers = registers_are (typing_in T) f ps ms first.registers hp hm h.registers in
     let mentions = mentions_are (typing_in T) f ms first.mentions hm h.mentions in

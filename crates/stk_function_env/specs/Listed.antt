@@ -2,21 +2,11 @@
 use Rattle.std.specs.Prelude.{ℕ, Bool, true, false, ◌&&◌, if◌then◌else◌, List, [], ◌∷◌, ◌++◌, Option}
 use Rattle.std.specs.Option.{is_some}
 use Rattle.stk_base.specs.declared.span.Span.{Span}
-use Rattle.stk_tree.specs.Syntax.{TailTree, DeclrTree, ParamTree, ParamTrees}
+use Rattle.stk_tree.specs.Syntax.{ParamTree, ParamTrees}
 use Rattle.stk_tree.specs.Syntax as s
 use Rattle.stk_type_rules.specs.Types.{is_scalar}
 use Rattle.stk_meaning.specs.Typings.{Typing, declarator_node}
 use Rattle.stk_meaning.specs.Keys.{Key, parameter_key, address_key, unset_key, load_key, call_key, loop_key, KeyInfo, fits_register, parameter_declarator, parameter_info, memory_info}
-
--- the parameters that a declarator of a function has
-abbrev pub tail_list : TailTree → ParamTrees
-tail_list (s.arrays sizes) = s.no_parameters
-tail_list s.unspecified = s.no_parameters
-tail_list s.void_parameters = s.no_parameters
-tail_list (s.with_parameters ps more) = ps
-
-abbrev pub head_list : DeclrTree → ParamTrees
-head_list (s.declarator n count at tail init) = tail_list tail
 
 -- whether a parameter is a register
 abbrev pub is_register_parameter : Typing → ParamTree → Bool

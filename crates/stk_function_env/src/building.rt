@@ -1,13 +1,13 @@
 //! The setting of a function.
 
 ghost use Rattle.std.specs.Prelude.{◌≡◌, ◌≤◌, ◌++◌, [], length, map, take, IfOk};
-ghost use Rattle.stk_tree.specs.View.{view_declarator, view_parameter, view_function, parameters};
+ghost use Rattle.stk_tree.specs.View.{view_parameter, view_function, parameters};
 ghost use Rattle.stk_function_types.specs.Nodes.{typing_in};
 ghost use Rattle.stk_meaning.specs.Keys.{visit_registers, visit_mentions, setting_of, keys_of};
 ghost use Rattle.stk_function_types.specs.Visits.{marked_visit};
 ghost use Rattle.stk_function_types.specs.Gathered.{gathered};
 ghost use Rattle.stk_function_env.specs.Infos.{info_in};
-ghost use Rattle.stk_function_env.specs.Listed.{head_list, parameters_registers};
+ghost use Rattle.stk_function_env.specs.Listed.{parameters_registers};
 ghost use Rattle.stk_function_env.specs.Settings.{setting_in, mention_in};
 
 use crate::keys::{kept_among, keys_among};
@@ -19,17 +19,7 @@ use stk_address_taken::NodeSet;
 use stk_base::NoMemory;
 use stk_function_types::{FunctionTypes, Visit, function_visits};
 use stk_numbers::Kinds;
-use stk_tree::{Declr, Function, Param, Tail};
-
-// The parameters that a declarator of a function has.
-fn parameters_of(d: &Declr) -> &[Param]
-    ensures { parameters (map view_parameter result.now) ≡ head_list (view_declarator d.now) }
-{
-    match &d.tail {
-        Tail::Params(list, _) => list.as_slice(),
-        Tail::Arrays(_) | Tail::Unspecified | Tail::NoParams => &[],
-    }
-}
+use stk_tree::{Function, Param};
 
 // A setting of these registers and mentions, without kept objects and keys.
 fn with_registers<'a>(
@@ -106,7 +96,7 @@ impl<'a> Setting<'a> {
     {
         let all = function_visits(alloc, types, f)?;
         let visits = all.as_slice();
-        let list = parameters_of(&f.declr);
+        let list = f.declr.parameters();
         let first = first_setting(alloc, types, without, list, visits)?;
         let keys = keys_among(alloc, &first, list, visits)?;
         let kept = kept_among(alloc, types, keys.as_slice())?;

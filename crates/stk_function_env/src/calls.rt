@@ -12,31 +12,13 @@ use stk_base::Span;
 use stk_ctype::Signature;
 use stk_function_types::FunctionTypes;
 use stk_operators::{Library, library_named};
-use stk_tree::{Expr, ExprForm};
+use stk_tree::Expr;
 
 // The name that a call calls: a function is called by its name (C11 6.5.2.2).
 fn called_name(callee: &Expr) -> Option<Span>
     ensures { result ≡ called_name (view_expression callee.now) }
 {
-    match &callee.form {
-        ExprForm::Name(at) => Some(*at),
-        ExprForm::Number(_)
-        | ExprForm::Character(_)
-        | ExprForm::Text(_)
-        | ExprForm::Paren(_)
-        | ExprForm::Index(_, _)
-        | ExprForm::Call(_, _)
-        | ExprForm::Dot(_, _)
-        | ExprForm::Arrow(_, _)
-        | ExprForm::Step(_, _)
-        | ExprForm::Unary(_, _)
-        | ExprForm::SizeExpr(_)
-        | ExprForm::SizeName(_)
-        | ExprForm::Cast(_, _)
-        | ExprForm::Binary(_, _, _)
-        | ExprForm::Choice(_, _, _)
-        | ExprForm::Assign(_, _, _) => None,
-    }
+    callee.form.as_name()
 }
 
 /// The signature of what a call calls; none where it doesn't call a function by its name.

@@ -1,6 +1,6 @@
 //! What a part of a function changes, of registers and kept objects.
 
-ghost use Rattle.std.specs.Prelude.{◌≡◌, ◌++◌, [], ◌∷◌, OnOk, IfOk, map, true, filter, Bool};
+ghost use Rattle.std.specs.Prelude.{◌≡◌, ◌++◌, [], ◌∷◌, OnOk, IfOk, map, true, filter, Bool, ℕ};
 ghost use Rattle.std.specs.Option.{option_map};
 ghost use Rattle.stk_ctype.specs.Types.{type_of};
 ghost use Rattle.stk_tree.specs.View.{view_expression, view_expression_form, given_expression, view_declaration, view_start, view_statement, view_statement_form, view_part, view_section, view_declarator, view_initialiser, declarators, statements, parts, sections, maybe_statement, maybe_initialiser};
@@ -549,8 +549,8 @@ fn is_of_kept(change: Change, position: u32) -> bool
     }
 }
 
-// Whether one of some changes may be of the kept object at a position.
-fn is_any_of_kept(list: &[Change], position: u32) -> bool
+/// Whether one of some changes may be of the kept object at a position.
+pub fn is_any_of_kept(list: &[Change], position: u32) -> bool
     ensures { result ≡ changed_by_any list.now (kept_spot position) }
 {
     for change in list {
@@ -561,16 +561,15 @@ fn is_any_of_kept(list: &[Change], position: u32) -> bool
     false
 }
 
-/// Whether each turn of a loop may change the kept object at this position; of another statement it changes none. It
-/// takes memory for as long as it runs.
-pub fn forgotten(
+/// What each turn of a loop may change, of registers and kept objects; nothing of another statement. Whether it may
+/// change a kept object is what `is_any_of_kept` says of the list.
+pub fn changed_in_turn(
     alloc: Global,
     setting: &Setting,
     f: &StmtForm,
-    position: u32,
-) -> Result<bool, NoMemory>
-    ensures { IfOk result (λ b. b ≡ forgotten_in (setting_in setting.now) (view_statement_form f.now) position) }
+) -> Result<Vec<Change>, NoMemory>
+    ensures { IfOk result (λ list. (q : ℕ) → changed_by_any list.items (kept_spot q) ≡ forgotten_in (setting_in setting.now) (view_statement_form f.now) q) }
 {
     let list = turn_changes(alloc, setting, f)?;
-    Ok(is_any_of_kept(list.as_slice(), position))
+    Ok(list)
 }

@@ -12,7 +12,7 @@ mod registers;
 mod setting;
 
 pub use calls::{called_library, called_signature};
-pub use changes::{assigned, forgotten};
+pub use changes::{Change, assigned, changed_in_turn, is_any_of_kept};
 pub use infos::{Key, KeyInfo};
 pub use mentions::Mention;
 pub use registers::fits_register;

@@ -7,6 +7,7 @@ use Rattle.stk_ctype.specs.Structs.{Structs}
 use Rattle.stk_tree.specs.Syntax.{DeclrTree, DeclrTrees, DeclarationTree, InitTree, MaybeInitTree}
 use Rattle.stk_tree.specs.Syntax as s
 use Rattle.stk_tree.specs.Nodes.{initialiser_nodes}
+use Rattle.stk_tree.specs.Parts.{is_static}
 use Rattle.stk_type_rules.specs.Facts.{Fact, Ruled, Breaks, Fits, plain}
 use Rattle.stk_type_rules.specs.Outcome.{Outcome, Good, and_then, finish}
 use Rattle.stk_type_rules.specs.Types.{is_complete, is_scalar}
@@ -24,7 +25,6 @@ use Rattle.stk_declarators.specs.Counting.{given_count}
 use Rattle.stk_declarators.specs.Parameters.{array_parts, with_locals}
 use Rattle.stk_declarators.specs.Tails.{counted_sizes, are_scalars}
 use Rattle.stk_address_taken.specs.Sets.{is_listed}
-use Rattle.stk_address_taken.specs.Statements.{is_static}
 use Rattle.stk_function_types.specs.Bodies.{Body, with_more, is_in_block}
 
 -- the name of a declarator

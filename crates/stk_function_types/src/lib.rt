@@ -11,7 +11,5 @@ mod visits;
 pub use expressions::expression_visits;
 pub use function_types::FunctionTypes;
 pub use roles::{Role, Use, accesses};
-pub use statements::{
-    declaration_visits, function_visits, statement_form_visits, statement_visits, turn_visits,
-};
+pub use statements::{declaration_visits, function_visits};
 pub use visits::{Visit, VisitForm};

@@ -4,7 +4,7 @@ ghost use Rattle.std.specs.Prelude.{◌≡◌, ◌++◌, OnOk, IfOk, map, true};
 ghost use Rattle.std.specs.Option.{option_map};
 ghost use Rattle.stk_tree.specs.View.{view_declarator, view_declaration, view_start, view_label, view_statement, view_statement_form, view_part, view_section, view_function, declarators, labels, statements, parts, sections, maybe_statement};
 ghost use Rattle.stk_function_types.specs.Nodes.{typing_in};
-ghost use Rattle.stk_meaning.specs.Visits.{is_static, declarator_visits, declarators_visits, declaration_visits, start_visits, label_visits, labels_visits, statement_visits, statement_form_visits, maybe_statement_visits, statements_visits, parts_visits, part_visits, sections_visits, section_visits, turn_visits};
+ghost use Rattle.stk_meaning.specs.Visits.{declarator_visits, declarators_visits, declaration_visits, start_visits, label_visits, labels_visits, statement_visits, statement_form_visits, maybe_statement_visits, statements_visits, parts_visits, part_visits, sections_visits, section_visits};
 ghost use Rattle.stk_meaning.specs.Keys.{function_visits};
 ghost use Rattle.stk_function_types.specs.Visits.{marked_visits, marked_visit};
 
@@ -15,18 +15,8 @@ use crate::{FunctionTypes, Role, Visit, VisitForm};
 use std::alloc::Global;
 use stk_base::{Boxed, NoMemory};
 use stk_tree::{
-    Declaration, Declr, Function, Label, Part, Section, Start, Stmt, StmtForm, Storage,
+    Declaration, Declr, Function, Label, Part, Section, Start, Stmt, StmtForm, is_static,
 };
-
-/// Whether a storage word is `static`.
-pub(crate) fn is_static(word: Option<Storage>) -> bool
-    ensures { result ≡ is_static word }
-{
-    match word {
-        Some(Storage::Static) => true,
-        Some(Storage::Typedef | Storage::Extern) | None => false,
-    }
-}
 
 // Puts the visits of the declarator of a local object.
 fn declarator_visits<'a>(
@@ -121,7 +111,7 @@ fn labels_visits<'a>(
 /// Puts the visits of a statement, which is entered as a branch or not, behind the others: its parts in order, and then
 /// the statement.
 #[cycle(statement_visits)]
-pub fn statement_visits<'a>(
+pub(crate) fn statement_visits<'a>(
     x: &'a Stmt,
     types: &FunctionTypes,
     is_arm: bool,
@@ -143,7 +133,7 @@ pub fn statement_visits<'a>(
 
 /// Puts the visits of the parts of a statement behind the others, in order.
 #[cycle(statement_visits)]
-pub fn statement_form_visits<'a>(
+pub(crate) fn statement_form_visits<'a>(
     f: &'a StmtForm,
     types: &FunctionTypes,
     out: &mut Vec<Visit<'a>>,
@@ -275,39 +265,6 @@ fn section_visits<'a>(
         },
         out,
     )
-}
-
-/// Puts the visits of what a loop evaluates again in each turn behind the others: its test, its step and its body;
-/// nothing of another statement.
-pub fn turn_visits<'a>(
-    f: &'a StmtForm,
-    types: &FunctionTypes,
-    out: &mut Vec<Visit<'a>>,
-) -> Result<(), NoMemory>
-    ensures { OnOk result (map marked_visit out.new.items ≡ map marked_visit out.old.items ++ marked_visits true (turn_visits (typing_in types.now) (view_statement_form f.now))) }
-{
-    match f {
-        StmtForm::Block(_)
-        | StmtForm::Plain(_)
-        | StmtForm::Return(_)
-        | StmtForm::If(_, _, _)
-        | StmtForm::Switch(_, _)
-        | StmtForm::Break
-        | StmtForm::Continue => Ok(()),
-        StmtForm::While(e, x) => {
-            expression_visits(e, types, true, Role::as_test(), out)?;
-            statement_visits(x.get(), types, true, out)
-        }
-        StmtForm::Do(x, e) => {
-            statement_visits(x.get(), types, true, out)?;
-            expression_visits(e, types, true, Role::as_test(), out)
-        }
-        StmtForm::For(_, test, step, x) => {
-            maybe_visits(test, types, Role::as_test(), out)?;
-            maybe_visits(step, types, Role::reading(), out)?;
-            statement_visits(x.get(), types, true, out)
-        }
-    }
 }
 
 /// The visits of a function, in the order of their nodes.

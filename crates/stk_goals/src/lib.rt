@@ -1,5 +1,5 @@
-//! The goals of a function's queries: which functions are searched, and terms that are 1 exactly for the maps that answer
-//! a query.
+//! The goals of a function's queries: which functions are searched, and terms that are 1 exactly for the maps that
+//! answer a query.
 #![tactic(auto)]
 
 mod laws;

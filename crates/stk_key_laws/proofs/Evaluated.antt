@@ -3,8 +3,9 @@ use Rattle.std.proofs.Common.{◌≡◌, ℕ, ◌+◌, ◌≤◌, Bool, true, fa
 use Rattle.stk_tree.specs.Syntax.{ExprTree, ExprTrees, MaybeExprTree, ExprFormTree, TypeNameTree, DimensionTree, DimensionTrees, InitTree, MaybeInitTree, ItemTree, ItemTrees, DesigTree, DesigTrees, TailTree, ParamTree, ParamTrees, DeclrTree, DeclrTrees, DeclarationTree, StartTree, LabelTree, LabelTrees, StmtTree, StmtTrees, MaybeStmtTree, StmtFormTree, PartTree, PartTrees, SectionTree, SectionTrees, FunctionTree}
 use Rattle.stk_tree.specs.Syntax as s
 use Rattle.stk_tree.specs.Nodes.{expression_nodes, expressions_nodes, expression_form_nodes, maybe_expression_nodes, initialiser_nodes, maybe_initialiser_nodes, item_nodes, items_nodes, declarator_nodes, declarators_nodes, declaration_nodes, start_nodes, statement_nodes, statements_nodes, maybe_statement_nodes, statement_form_nodes, part_nodes, parts_nodes, section_nodes, sections_nodes, function_nodes}
+use Rattle.stk_tree.specs.Parts.{is_static}
 use Rattle.stk_meaning.specs.Typings.{Typing, type_in}
-use Rattle.stk_meaning.specs.Visits.{Role, reading, as_test, as_arm, inner_role, inside, indexed_role, unary_role, left_role, right_role, assigned_role, is_static, Visit, at_expression, at_declarator, at_statement, at_section, Visits, no_visit, one_visit, both_visits, scope, unevaluated, declared_by, declared_in, part_declares, parts_declare, start_declares}
+use Rattle.stk_meaning.specs.Visits.{Role, reading, as_test, as_arm, inner_role, inside, indexed_role, unary_role, left_role, right_role, assigned_role, Visit, at_expression, at_declarator, at_statement, at_section, Visits, no_visit, one_visit, both_visits, scope, unevaluated, declared_by, declared_in, part_declares, parts_declare, start_declares}
 use Rattle.stk_meaning.specs.Visits.{expression_visits, form_visits, arguments_visits, type_name_visits, dimensions_visits, dimension_visits, maybe_visits, initialiser_visits, items_visits, item_visits, designators_visits, designator_visits, tail_visits, parameters_visits, parameter_visits, head_visits, initial_visits, declarator_visits, declarators_visits, declaration_visits, start_visits, label_visits, labels_visits, statement_visits, statement_form_visits, maybe_statement_visits, statements_visits, parts_visits, part_visits, sections_visits, section_visits}
 use Rattle.stk_meaning.specs.Keys.{function_visits}
 

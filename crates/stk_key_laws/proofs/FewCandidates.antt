@@ -4,10 +4,11 @@ use Rattle.stk_tree.specs.declared.node.Node.{Node}
 use Rattle.stk_tree.specs.Syntax.{ExprTree, ExprTrees, MaybeExprTree, ExprFormTree, InitTree, MaybeInitTree, ItemTree, ItemTrees, DesigTrees, TypeNameTree, DimensionTrees, TailTree, ParamTree, ParamTrees, DeclrTree, DeclrTrees, DeclarationTree, StartTree, LabelTrees, StmtTree, StmtTrees, MaybeStmtTree, StmtFormTree, PartTree, PartTrees, SectionTree, SectionTrees, FunctionTree}
 use Rattle.stk_tree.specs.Syntax as s
 use Rattle.stk_tree.specs.Nodes.{declarators_nodes, initialiser_nodes, maybe_initialiser_nodes, item_nodes, items_nodes, expression_nodes, expressions_nodes, maybe_expression_nodes, expression_form_nodes, declaration_nodes, start_nodes, statement_nodes, statements_nodes, maybe_statement_nodes, statement_form_nodes, part_nodes, parts_nodes, section_nodes, sections_nodes, function_nodes, unit_nodes}
+use Rattle.stk_tree.specs.Parts.{is_static}
 use Rattle.stk_meaning.specs.Typings.{Typing, type_in}
 use Rattle.stk_meaning.specs.Operations.{arithmetic, shifting, comparing, BinarySort, operates, joins, or_else, and_also, sort_of}
 use Rattle.stk_meaning.specs.Replacements.{Replaced, replacement}
-use Rattle.stk_meaning.specs.Visits.{Role, reading, as_arm, as_test, inside, inner_role, indexed_role, unary_role, left_role, right_role, assigned_role, Visit, at_expression, at_declarator, at_statement, at_section, Visits, no_visit, one_visit, both_visits, scope, unevaluated, collected, expression_visits, form_visits, arguments_visits, type_name_visits, dimensions_visits, maybe_visits, initialiser_visits, items_visits, item_visits, designators_visits, tail_visits, parameters_visits, parameter_visits, head_visits, is_static, initial_visits, declarators_visits, declaration_visits, start_visits, labels_visits, statement_visits, statement_form_visits, maybe_statement_visits, statements_visits, parts_visits, part_visits, sections_visits, section_visits}
+use Rattle.stk_meaning.specs.Visits.{Role, reading, as_arm, as_test, inside, inner_role, indexed_role, unary_role, left_role, right_role, assigned_role, Visit, at_expression, at_declarator, at_statement, at_section, Visits, no_visit, one_visit, both_visits, scope, unevaluated, collected, expression_visits, form_visits, arguments_visits, type_name_visits, dimensions_visits, maybe_visits, initialiser_visits, items_visits, item_visits, designators_visits, tail_visits, parameters_visits, parameter_visits, head_visits, initial_visits, declarators_visits, declaration_visits, start_visits, labels_visits, statement_visits, statement_form_visits, maybe_statement_visits, statements_visits, parts_visits, part_visits, sections_visits, section_visits}
 use Rattle.stk_meaning.specs.Keys.{function_visits}
 use Rattle.stk_meaning.specs.Lists.{arm_candidates, seen_candidates, replaced_candidates, binary_candidates, form_candidates, visit_candidates, candidates}
 

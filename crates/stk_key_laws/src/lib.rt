@@ -1,5 +1,5 @@
-//! Laws of what a function has: the kinds of its input keys, how many they are beside its weight, and how many candidates
-//! it has.
+//! Laws of what a function has: the kinds of its input keys, how many they are beside its weight, and how many
+//! candidates it has.
 #![tactic(auto)]
 
 mod candidates;

@@ -13,6 +13,7 @@ use Rattle.stk_tree.specs.declared.expression.BinaryOp.TheVariants as binary
 use Rattle.stk_tree.specs.declared.expression.AssignOp.{AssignOp}
 use Rattle.stk_tree.specs.Syntax.{ExprTree, ExprFormTree}
 use Rattle.stk_tree.specs.Syntax as s
+use Rattle.stk_tree.specs.Parts.{bare}
 use Rattle.stk_numbers.specs.declared.operators.ArithOp.{ArithOp}
 use Rattle.stk_numbers.specs.declared.operators.ArithOp.TheVariants as arith_op
 use Rattle.stk_numbers.specs.declared.operators.ShiftOp.{ShiftOp}
@@ -25,7 +26,7 @@ use Rattle.stk_type_rules.specs.Facts.{Fact, Breaks, Fits, value, constant}
 use Rattle.stk_type_rules.specs.Types.{decayed, kind_of, pointee, is_struct, stride}
 use Rattle.stk_type_rules.specs.Rules.{has_scalar, paren_rule, promoted_rule, integer, unary_rule, assigned, unstepped, step_rule, common_rule, arithmetic_rule, moved_pointer, sum_rule, distance_rule, apart, difference_rule, shift_rule, compared_as, comparison_rule, logical_rule, comma_rule, binary_rule, assign_refused, assign_rule}
 use Rattle.stk_type_rules.specs.Constants.{negated, flipped, arithmetic, shift, both, logical, denied}
-use Rattle.stk_meaning.specs.Typings.{Typing, type_in, number_kind, is_array, stride_in, bare, is_among}
+use Rattle.stk_meaning.specs.Typings.{Typing, type_in, number_kind, is_array, stride_in, is_among}
 use Rattle.stk_meaning.specs.Operations.{arithmetic_of, operation_of, BinarySort, operates, joins, or_else, and_also, sort_of}
 use Rattle.stk_meaning.specs.Places.{Setting, Target, in_register, in_kept, in_object, unnamed, object_named, position_behind, object_target, target_at, target_of, form_target, member_target}
 use Rattle.stk_meaning.specs.Keys.{Object}

@@ -4,11 +4,11 @@ use Rattle.std.specs.Prelude.{if◌then◌else◌}
 use Rattle.stk_ctype.specs.Types.{TypeTree}
 use Rattle.stk_ctype.specs.Structs.{structs_of}
 use Rattle.stk_tree.specs.declared.declaration.Storage.{Storage}
-use Rattle.stk_tree.specs.declared.declaration.Storage.TheVariants as storage
 use Rattle.stk_tree.specs.Syntax.{DeclrTree, DeclrTrees, DeclarationTree, MaybeInitTree}
 use Rattle.stk_tree.specs.Syntax as s
 use Rattle.stk_tree.specs.Nodes.{base_nodes, declarator_nodes, dimensions_nodes, initialiser_nodes, maybe_initialiser_nodes}
 use Rattle.stk_tree.specs.Placed.{has_name, has_arrays, local_declarators, local_placed, local_storage, is_unbraced, base_placed, some_declarators, declarators_placed}
+use Rattle.stk_tree.specs.Parts.{is_static}
 use Rattle.stk_type_rules.specs.Facts.{Fact, Ruled}
 use Rattle.stk_type_rules.specs.Outcome.{Good, and_then, finish}
 use Rattle.stk_typing.specs.declared.arrays.Size.{Size}
@@ -18,10 +18,9 @@ use Rattle.stk_typing.specs.Arrays.{starred, declared_type}
 use Rattle.stk_typing.specs.Typing.{base_typed, dimensions_typed}
 use Rattle.stk_typing.specs.declared.initialiser_leaves.Leaves.{Leaves}
 use Rattle.stk_typing.specs.Leaves.{no_leaf}
-use Rattle.stk_address_taken.specs.Statements.{is_static as taken_static}
 use Rattle.stk_function_types.specs.Bodies.{Body, with_more, is_in_block}
 use Rattle.stk_function_types.specs.Locals.{local_name, is_local_register, plain_nodes, initial_scope, initial_typed, is_untyped, declared_rule, own_local, local_by, local_sized, local_declared, locals_declared, declaration_typed}
-use Rattle.stk_meaning.specs.Visits.{is_static, initial_visits, declarator_visits, declarators_visits, declaration_visits}
+use Rattle.stk_meaning.specs.Visits.{initial_visits, declarator_visits, declarators_visits, declaration_visits}
 use Rattle.stk_run_laws.specs.Visits.{EachVisit}
 use Rattle.stk_type_laws.proofs.Stretches.{Counts, counts_then, counts_own, counts_given, counts_mapped, Stand, first_stands, rest_stands, steps, mapped, finished}
 use Rattle.stk_type_laws.proofs.TypedCounts.{base_count, dimensions_count}
@@ -123,17 +122,10 @@ locals_ruled c (s.then_declarator d ds) static n ls a t new ts placed eq stand f
       locals_ruled c ds static (n + declarator_nodes d) (ls ++ o.value) a t m.value o.rest well.rest m.gives stand_b from.1,
     )
 
-same_static : (word : Option Storage) → taken_static word ≡ is_static word
-same_static None = refl
-same_static (Some storage.Typedef) = refl
-same_static (Some storage.Extern) = refl
-same_static (Some storage.Static) = refl
-
 pub declaration_ruled : (c : Ground) (d : DeclarationTree) (n : ℕ) (ls : List Local) (a : Around) (new : List Local) (ts : List Fact) → local_placed d ≡ true
     → declaration_typed (body_in c ls a) d ≡ Good new ts → Stand c.facts n ts → declaration_from n d → EachVisit (RuledVisit c) (declaration_visits (typing c) d)
 declaration_ruled c (s.declaration word specifiers ds) n ls a new ts placed eq stand from =
     let b = body_in c ls a in
-    let o = steps (base_typed (in_force c ls None) specifiers) (λ x. locals_declared b (taken_static word) x.ty ds) new ts eq in
+    let o = steps (base_typed (in_force c ls None) specifiers) (λ x. locals_declared b (is_static word) x.ty ds) new ts eq in
     let stand_b = rest_stands c.facts n (base_nodes specifiers) ts o.first o.rest o.all ((base_count specifiers (in_force c ls None)).by o.value o.first o.gives) stand in
-    let typed : locals_declared b (is_static word) o.value.ty ds ≡ Good new o.rest = subst (λ z. locals_declared b z o.value.ty ds ≡ Good new o.rest) (same_static word) o.then in
-    locals_ruled c ds (is_static word) (n + base_nodes specifiers) ls a o.value.ty new o.rest (declarators_of word specifiers ds placed) typed stand_b from
+    locals_ruled c ds (is_static word) (n + base_nodes specifiers) ls a o.value.ty new o.rest (declarators_of word specifiers ds placed) o.then stand_b from

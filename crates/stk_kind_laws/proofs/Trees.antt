@@ -2,9 +2,10 @@
 use Rattle.std.proofs.Common.{ℕ, Bool, true, false}
 use Rattle.stk_tree.specs.Syntax.{ExprTree, ExprTrees, MaybeExprTree, ExprFormTree, InitTree, MaybeInitTree, ItemTree, ItemTrees, DeclrTree, DeclrTrees, DeclarationTree, StartTree, StmtTree, StmtTrees, MaybeStmtTree, StmtFormTree, PartTree, PartTrees, SectionTree, SectionTrees, FunctionTree}
 use Rattle.stk_tree.specs.Syntax as s
+use Rattle.stk_tree.specs.Parts.{is_static}
 use Rattle.stk_meaning.specs.Typings.{type_in}
 use Rattle.stk_meaning.specs.Places.{Setting}
-use Rattle.stk_meaning.specs.Visits.{Role, Visit, at_expression, at_declarator, at_statement, at_section, reading, as_test, as_arm, inner_role, inside, indexed_role, unary_role, left_role, right_role, assigned_role, is_static}
+use Rattle.stk_meaning.specs.Visits.{Role, Visit, at_expression, at_declarator, at_statement, at_section, reading, as_test, as_arm, inner_role, inside, indexed_role, unary_role, left_role, right_role, assigned_role}
 use Rattle.stk_meaning.specs.Visits.{expression_visits, form_visits, arguments_visits, maybe_visits, initialiser_visits, items_visits, item_visits, initial_visits, declarator_visits, declarators_visits, declaration_visits, start_visits, statement_visits, statement_form_visits, maybe_statement_visits, statements_visits, parts_visits, part_visits, sections_visits, section_visits}
 use Rattle.stk_meaning.specs.Keys.{function_visits}
 use Rattle.stk_run_laws.specs.Visits.{EachVisit}

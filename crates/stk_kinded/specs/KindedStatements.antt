@@ -3,9 +3,9 @@
 use Rattle.std.specs.Prelude.{Bool, true, false}
 use Rattle.stk_tree.specs.Syntax.{MaybeExprTree, InitTree, MaybeInitTree, ItemTree, ItemTrees, DeclrTree, DeclrTrees, DeclarationTree, StartTree, StmtTree, StmtTrees, MaybeStmtTree, StmtFormTree, PartTree, PartTrees, SectionTree, SectionTrees, FunctionTree}
 use Rattle.stk_tree.specs.Syntax as s
+use Rattle.stk_tree.specs.Parts.{is_static}
 use Rattle.stk_meaning.specs.Typings.{number_kind}
 use Rattle.stk_meaning.specs.Places.{Setting, target_at}
-use Rattle.stk_meaning.specs.Visits.{is_static}
 use Rattle.stk_meaning.specs.Keys.{body_of}
 use Rattle.stk_kinded.specs.Kinds.{Suits}
 use Rattle.stk_kinded.specs.Kinded.{Kinded}

@@ -3,7 +3,8 @@ use Rattle.std.specs.Prelude.{ℕ, ◌≡◌, get_or}
 use Rattle.stk_ctype.specs.declared.kind.IntKind.{IntKind}
 use Rattle.stk_ctype.specs.declared.kind.IntKind.TheVariants.{Int, Long, ULong}
 use Rattle.stk_tree.specs.Syntax.{ExprTree}
-use Rattle.stk_meaning.specs.Typings.{type_in, number_kind, bare}
+use Rattle.stk_tree.specs.Parts.{bare}
+use Rattle.stk_meaning.specs.Typings.{type_in, number_kind}
 use Rattle.stk_meaning.specs.Operations.{Operation, in_kind, shift_in, compare_in, move, move_behind, measure}
 use Rattle.stk_meaning.specs.Places.{Setting, Target, in_register, in_kept, in_object, unnamed, target_of}
 use Rattle.stk_meaning.specs.Keys.{Key, parameter_key, address_key, unset_key, load_key, call_key, loop_key}

@@ -317,20 +317,20 @@ fn tell<E: Sink>(fault: &mut E, status: Status)
 /// on a third sink. The words ask for options: `--json`, `--budget N`, `--without LIST`, `--generate M` with
 /// `--functions N`, `--bundle`, and `--smt N` or `--smt-hit N` (stk_records). With `--generate` the source is left
 /// unread: the bytes that are judged are the text that M generates, of N functions (stk_gen), and of the records the
-/// summary alone is written. With `--bundle` no records are written: what is written of the same findings is a bundle, a
-/// claim for each report with what closes it, or that the candidate has none (stk_bundles). With `--smt` and `--smt-hit`
-/// no records are written either, and no decider is asked: what is written is the SMT-LIB script of the query of the N-th
-/// candidate of all functions that are judged, counted from 1 in the order of their records, clear ones included, for all
-/// conditions of its function, or for none. It denotes exactly the residues of the valid input maps whose path run hits
-/// that candidate where no condition of that set has been violated before (Wang, Zeldovich, Kaashoek, Solar-Lezama, SOSP
-/// 2013, section 3). The answer says how it ended:
+/// summary alone is written. With `--bundle` no records are written: what is written of the same findings is a bundle,
+/// a claim for each report with what closes it, or that the candidate has none (stk_bundles). With `--smt` and
+/// `--smt-hit` no records are written either, and no decider is asked: what is written is the SMT-LIB script of the
+/// query of the N-th candidate of all functions that are judged, counted from 1 in the order of their records, clear
+/// ones included, for all conditions of its function, or for none. It denotes exactly the residues of the valid input
+/// maps whose path run hits that candidate where no condition of that set has been violated before (Wang, Zeldovich,
+/// Kaashoek, Solar-Lezama, SOSP 2013, section 3). The answer says how it ended:
 ///
 /// - `Stable`, `Found` and `Unsure`: the source was read to its end, or a text was generated; the sink took a text that
 ///   is lawful for these bytes and the options, and was flushed; `Found` where at least one candidate is unstable,
 ///   `Unsure` where none is and at least one is undecided. What the findings say is undecided or open, with the reports
 ///   that have no claim in a bundle, is at most as much as the count of goals that the decider gave up rose by, or that
-///   stands at the last value of a u64; and it is nothing where it didn't rise. With `--smt` and `--smt-hit` the text is
-///   the script, and it ends `Stable`.
+///   stands at the last value of a u64; and it is nothing where it didn't rise. With `--smt` and `--smt-hit` the text
+///   is the script, and it ends `Stable`.
 /// - `NoCandidate`: only where the words ask for a script, the source was read to its end, and there are fewer than N
 ///   candidates. The sink took nothing.
 /// - `BadWords`: exactly where the words aren't legal. The source is unread.

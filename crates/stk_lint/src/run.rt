@@ -7,8 +7,8 @@ use stk_query::Cdcl;
 use stk_real::{RealSink, RealSource, command_words};
 
 /// Runs the checker on the words of the command line: C comes from `input`, each record goes to `output` as soon as its
-/// line is whole, and what failed is told on `errors`. The answer is that of the top call; it is `BadWords` also where a
-/// word isn't UTF-8, and `NoMemory` may come before anything is read. What was written before `NoMemory` is flushed.
+/// line is whole, and what failed is told on `errors`. The answer is that of the top call; it is `BadWords` also where
+/// a word isn't UTF-8, and `NoMemory` may come before anything is read. What was written before `NoMemory` is flushed.
 pub fn run_checker<R: Env + AllocGlobal, I: Read + Drop, O: Write + Drop, E: Write + Drop>(
     rt: &R,
     input: I,

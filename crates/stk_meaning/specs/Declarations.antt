@@ -3,10 +3,10 @@
 use Rattle.std.specs.Prelude.{ℕ, Bool, if◌then◌else◌, List, ℤ, set}
 use Rattle.stk_tree.specs.Syntax.{InitTree, MaybeInitTree, ItemTree, ItemTrees, DeclrTree, DeclrTrees, DeclarationTree}
 use Rattle.stk_tree.specs.Syntax as s
+use Rattle.stk_tree.specs.Parts.{is_static}
 use Rattle.stk_type_rules.specs.Types.{is_scalar}
 use Rattle.stk_meaning.specs.Typings.{number_kind, converted}
 use Rattle.stk_meaning.specs.Places.{Setting, Target, in_register, in_kept, in_object, unnamed, target_at}
-use Rattle.stk_meaning.specs.Visits.{is_static}
 use Rattle.stk_meaning.specs.Worlds.{Ran, World, and_then, gives, answered, written, Flow, Normal}
 use Rattle.stk_meaning.specs.Expressions.{value_of, stored_at, address_of}
 

@@ -10,13 +10,14 @@ use Rattle.stk_tree.specs.declared.expression.BinaryOp.{BinaryOp}
 use Rattle.stk_tree.specs.declared.expression.AssignOp.{AssignOp}
 use Rattle.stk_tree.specs.Syntax.{ExprTree, ExprTrees, MaybeExprTree, ExprFormTree}
 use Rattle.stk_tree.specs.Syntax as s
+use Rattle.stk_tree.specs.Parts.{bare}
 use Rattle.stk_numbers.specs.declared.operators.ArithOp.TheVariants as arith_op
 use Rattle.stk_numbers.specs.declared.operators.CompareOp.{CompareOp}
 use Rattle.stk_numbers.specs.Kinds.{wrap, promote}
 use Rattle.stk_numbers.specs.Values.{moved, absolute}
 use Rattle.stk_meaning.specs.declared.entry.Entry.{Entry}
 use Rattle.stk_meaning.specs.declared.entry.Entry.TheVariants.{Seen}
-use Rattle.stk_meaning.specs.Typings.{Typing, node_of, type_in, number_kind, converted, is_array, pointed, stride_in, bare}
+use Rattle.stk_meaning.specs.Typings.{Typing, node_of, type_in, number_kind, converted, is_array, pointed, stride_in}
 use Rattle.stk_meaning.specs.Operations.{Operator, arithmetic, shifting, comparing, Operation, in_kind, BinarySort, operates, joins, or_else, and_also, sort_of, assigned_operator, gives_old, operation_of, step_operation, truth, bit, to_address, operated}
 use Rattle.stk_meaning.specs.Libraries.{Library, absolute_in, copy_bytes, called_library, called_signature, parameters_in, result_in, never_returns}
 use Rattle.stk_meaning.specs.Conditions.{tests_at, violated}

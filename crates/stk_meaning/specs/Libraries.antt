@@ -6,8 +6,9 @@ use Rattle.stk_base.specs.Text.{text_of, same_text}
 use Rattle.stk_ctype.specs.declared.kind.IntKind.{IntKind}
 use Rattle.stk_ctype.specs.declared.kind.IntKind.TheVariants as kind
 use Rattle.stk_ctype.specs.Types.{TypeTree, void_type, integer_type, pointer_type, array_type, struct_type, function_type, TypeTrees, no_types, then_type, SignatureTree, signature}
-use Rattle.stk_tree.specs.Syntax.{ExprTree, ExprFormTree}
+use Rattle.stk_tree.specs.Syntax.{ExprTree}
 use Rattle.stk_tree.specs.Syntax as s
+use Rattle.stk_tree.specs.Parts.{name_in}
 use Rattle.stk_numbers.specs.Kinds.{rank, is_signed}
 use Rattle.stk_type_rules.specs.Types.{is_void}
 use Rattle.stk_meaning.specs.Typings.{Typing}
@@ -67,27 +68,8 @@ library_named name f =
     else None)))
 
 -- the name that a call calls: a function is called by its name (C11 6.5.2.2)
-abbrev pub called_form : ExprFormTree → Option Span
-called_form (s.name at) = Some at
-called_form (s.number at) = None
-called_form (s.character at) = None
-called_form (s.text parts) = None
-called_form (s.paren e) = None
-called_form (s.index a b) = None
-called_form (s.call e es) = None
-called_form (s.dot e at) = None
-called_form (s.arrow e at) = None
-called_form (s.step op e) = None
-called_form (s.unary op e) = None
-called_form (s.size_expression e) = None
-called_form (s.size_name t) = None
-called_form (s.cast t e) = None
-called_form (s.binary op a b) = None
-called_form (s.choice a b c) = None
-called_form (s.assign op a b) = None
-
 abbrev pub called_name : ExprTree → Option Span
-called_name (s.expression n f) = called_form f
+called_name (s.expression n f) = name_in f
 
 -- the signature of what a call calls
 abbrev pub called_signature : Typing → ExprTree → Option SignatureTree

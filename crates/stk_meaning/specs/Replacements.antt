@@ -15,12 +15,13 @@ use Rattle.stk_tree.specs.Syntax.{ExprTree, ExprTrees, ExprFormTree}
 use Rattle.stk_tree.specs.Syntax as s
 use Rattle.stk_tree.specs.Tokens.{expression_tokens}
 use Rattle.stk_tree.specs.Spelling.{spelling_of}
+use Rattle.stk_tree.specs.Parts.{bare}
 use Rattle.stk_numbers.specs.declared.operators.CompareOp.{CompareOp}
 use Rattle.stk_numbers.specs.declared.operators.CompareOp.TheVariants as compare_op
 use Rattle.stk_numbers.specs.Kinds.{wrap, common}
 use Rattle.stk_numbers.specs.Values.{compared}
 use Rattle.stk_type_rules.specs.Types.{kind_of}
-use Rattle.stk_meaning.specs.Typings.{Typing, type_in, bare}
+use Rattle.stk_meaning.specs.Typings.{Typing, type_in}
 
 -- the spelling of a token
 abbrev pub spelled : List ℕ → Lexeme → List ℕ

@@ -12,7 +12,7 @@ use Rattle.stk_ctype.specs.Types.{TypeTree, void_type, integer_type, pointer_typ
 use Rattle.stk_ctype.specs.Structs.{member_of, structs_of}
 use Rattle.stk_ctype.specs.Structs as structs
 use Rattle.stk_ctype.specs.Names.{find}
-use Rattle.stk_tree.specs.Syntax.{ExprTree, ExprFormTree, DeclrTree, StmtTree}
+use Rattle.stk_tree.specs.Syntax.{ExprTree, DeclrTree, StmtTree}
 use Rattle.stk_tree.specs.Syntax as s
 use Rattle.stk_numbers.specs.Kinds.{wrap}
 use Rattle.stk_type_rules.specs.Facts.{Fact, fact_at}
@@ -117,27 +117,3 @@ object_size ty t = unwrap_or (ty.size_of t) 1
 -- by how many bytes a number moves a pointer of this type (C11 6.5.6p8); one to `void` by 1
 abbrev pub stride_in : Typing → TypeTree → ℕ
 stride_in ty t = object_size ty (pointed t)
-
--- an expression without the parentheses round it (C11 6.5.1p5)
-abbrev mutual
-  pub bare : ExprTree → ExprTree
-  bare (s.expression n f) = bare_form (s.expression n f) f
-
-  pub bare_form : ExprTree → ExprFormTree → ExprTree
-  bare_form whole (s.name at) = whole
-  bare_form whole (s.number at) = whole
-  bare_form whole (s.character at) = whole
-  bare_form whole (s.text parts) = whole
-  bare_form whole (s.paren e) = bare e
-  bare_form whole (s.index a b) = whole
-  bare_form whole (s.call e es) = whole
-  bare_form whole (s.dot e at) = whole
-  bare_form whole (s.arrow e at) = whole
-  bare_form whole (s.step op e) = whole
-  bare_form whole (s.unary op e) = whole
-  bare_form whole (s.size_expression e) = whole
-  bare_form whole (s.size_name t) = whole
-  bare_form whole (s.cast t e) = whole
-  bare_form whole (s.binary op a b) = whole
-  bare_form whole (s.choice a b c) = whole
-  bare_form whole (s.assign op a b) = whole

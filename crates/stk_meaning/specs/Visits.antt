@@ -3,11 +3,9 @@
 -- are read off them. Not evaluated are the operand of `sizeof`, the size of an array, a case label and a designator
 -- (C11 6.5.3.4p2, 6.7.6.2, 6.8.4.2p3, 6.7.9p7); the initialiser of a `static` object isn't even typed, so its nodes
 -- aren't among these (C11 6.7.9p4).
-use Rattle.std.specs.Prelude.{ℕ, Bool, true, false, if◌then◌else◌, List, [], ◌∷◌, ◌++◌, Option, Some, None}
+use Rattle.std.specs.Prelude.{ℕ, Bool, true, false, if◌then◌else◌, List, [], ◌∷◌, ◌++◌, Option}
 use Rattle.stk_base.specs.declared.span.Span.{Span}
 use Rattle.stk_ctype.specs.Types.{TypeTree}
-use Rattle.stk_tree.specs.declared.declaration.Storage.{Storage}
-use Rattle.stk_tree.specs.declared.declaration.Storage.TheVariants as storage
 use Rattle.stk_tree.specs.declared.expression.UnaryOp.{UnaryOp}
 use Rattle.stk_tree.specs.declared.expression.UnaryOp.TheVariants as unary
 use Rattle.stk_tree.specs.declared.expression.BinaryOp.{BinaryOp}
@@ -16,6 +14,7 @@ use Rattle.stk_tree.specs.declared.expression.AssignOp.{AssignOp}
 use Rattle.stk_tree.specs.declared.expression.AssignOp.TheVariants as assign
 use Rattle.stk_tree.specs.Syntax.{ExprTree, ExprTrees, MaybeExprTree, ExprFormTree, InitTree, MaybeInitTree, ItemTree, ItemTrees, DesigTree, DesigTrees, TypeNameTree, DimensionTree, DimensionTrees, TailTree, ParamTree, ParamTrees, DeclrTree, DeclrTrees, DeclarationTree, StartTree, LabelTree, LabelTrees, StmtTree, StmtTrees, MaybeStmtTree, StmtFormTree, PartTree, PartTrees, SectionTree, SectionTrees}
 use Rattle.stk_tree.specs.Syntax as s
+use Rattle.stk_tree.specs.Parts.{is_static}
 use Rattle.stk_meaning.specs.Typings.{Typing, type_in, is_array, declarator_node}
 
 -- how a place is used: its number is read; it is accessed, as a member of it is or as it is written; its address is
@@ -243,13 +242,6 @@ abbrev mutual
   -- a declarator of a parameter, or of a function
   pub head_visits : Typing → DeclrTree → Visits
   head_visits ty (s.declarator n count at tail init) = tail_visits ty tail
-
--- whether a storage word is `static`
-abbrev pub is_static : Option Storage → Bool
-is_static None = false
-is_static (Some storage.Typedef) = false
-is_static (Some storage.Extern) = false
-is_static (Some storage.Static) = true
 
 -- the initialiser of a local object, which isn't evaluated where the object is `static`
 abbrev pub initial_visits : Typing → Bool → MaybeInitTree → Visits

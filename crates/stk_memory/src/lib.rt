@@ -6,7 +6,7 @@ mod image;
 mod numbers;
 
 pub use bytes::Bytes;
-pub use image::{Cell, MemoryImage};
+pub use image::{Cell, MemoryImage, Reply};
 
 #[cfg(test)]
 mod tests;

@@ -2,6 +2,7 @@
 #![tactic(auto)]
 
 mod bits;
+mod kept;
 mod key_index;
 mod loop_rows;
 mod mapped;

@@ -4,18 +4,19 @@ ghost use Rattle.std.specs.Prelude.{◌≡◌, ◌++◌, ◌∷◌, ◌||◌, �
 ghost use Rattle.std.specs.Option.{option_copied, is_some};
 ghost use Rattle.stk_tree.specs.View.{view_statement_form};
 ghost use Rattle.stk_function_types.specs.Nodes.{typing_in};
-ghost use Rattle.stk_meaning.specs.Changes.{forgotten_in};
+ghost use Rattle.stk_meaning.specs.Changes.{kept_spot};
 ghost use Rattle.stk_meaning.specs.Keys as runs;
 ghost use Rattle.stk_function_types.specs.Visits.{marked_visit};
 ghost use Rattle.stk_function_types.specs.Gathered.{given, gathered};
 ghost use Rattle.stk_function_env.specs.Settings.{setting_in};
+ghost use Rattle.stk_function_env.specs.Changed.{changed_by_any};
 ghost use Rattle.stk_path_runs.specs.Places.{IsKeyIndex, slot_in};
 ghost use Rattle.stk_path_runs.specs.Rows.{loop_slots, forgets_in, is_loop, form_loops, visit_loops, IsRowOf, AreRowsOf, AddsRows, AreRowPlaces, row_at};
 
 use crate::{KeyIndex, Slots};
 use std::alloc::Global;
 use stk_base::NoMemory;
-use stk_function_env::{Setting, assigned, forgotten};
+use stk_function_env::{Change, Setting, assigned, changed_in_turn, is_any_of_kept};
 use stk_function_types::{Visit, VisitForm};
 use stk_tree::StmtForm;
 
@@ -73,26 +74,25 @@ fn loop_slots(
     Ok(out)
 }
 
-// Notes a position, where the loop of a form changes the kept object at it.
-fn note_position(
-    alloc: Global,
-    setting: &Setting,
-    f: &StmtForm,
-    position: u32,
-    kept: &mut Slots,
-) -> Result<(), NoMemory>
-    ensures { OnOk result ((q : ℕ) → is_some (slot_in kept.new q) ≡ ((position == q && forgotten_in (setting_in setting.now) (view_statement_form f.now) position) || is_some (slot_in kept.old q))) }
+// Notes a position, where one of some changes may be of the kept object at it.
+fn note_position(changes: &[Change], position: u32, kept: &mut Slots) -> Result<(), NoMemory>
+    ensures { OnOk result ((q : ℕ) → is_some (slot_in kept.new q) ≡ ((position == q && changed_by_any changes.now (kept_spot position)) || is_some (slot_in kept.old q))) }
 {
-    if !forgotten(alloc, setting, f, position)? {
+    if !is_any_of_kept(changes, position) {
         return Ok(());
     }
     kept.put(position, 0)
 }
 
-// The positions of the kept objects that the loop of a form changes, each with a place; none where all are known to be
+// The positions of the kept objects of which some changes may be, each with a place; none where all are known to be
 // changed.
-fn kept_slots(alloc: Global, setting: &Setting, f: &StmtForm, each: bool) -> Result<Slots, NoMemory>
-    ensures { each ≡ false → IfOk result (λ kept. (q : ℕ) → is_some (slot_in kept q) ≡ (nat_lt q (length (setting_in setting.now).kept) && forgotten_in (setting_in setting.now) (view_statement_form f.now) q)) }
+fn kept_slots(
+    alloc: Global,
+    setting: &Setting,
+    changes: &[Change],
+    each: bool,
+) -> Result<Slots, NoMemory>
+    ensures { each ≡ false → IfOk result (λ kept. (q : ℕ) → is_some (slot_in kept q) ≡ (nat_lt q (length (setting_in setting.now).kept) && changed_by_any changes.now (kept_spot q))) }
 {
     let mut kept = Slots::new(alloc);
     if each {
@@ -100,7 +100,7 @@ fn kept_slots(alloc: Global, setting: &Setting, f: &StmtForm, each: bool) -> Res
     }
     let count = setting.kept().len() as u32;
     for position in 0..count {
-        note_position(alloc, setting, f, position, &mut kept)?;
+        note_position(changes, position, &mut kept)?;
     }
     Ok(kept)
 }
@@ -119,8 +119,9 @@ fn loop_row(
     let _ = setting.kept();
     let list = assigned(alloc, setting, f)?;
     let registers = loop_slots(alloc, index, node, list.as_slice())?;
-    let each_kept = forgotten(alloc, setting, f, 32)?;
-    let kept = kept_slots(alloc, setting, f, each_kept)?;
+    let changes = changed_in_turn(alloc, setting, f)?;
+    let each_kept = is_any_of_kept(changes.as_slice(), 32);
+    let kept = kept_slots(alloc, setting, changes.as_slice(), each_kept)?;
     Ok(LoopRow {
         node,
         registers,

@@ -1,19 +1,18 @@
-//! What a path run asks of a function and of an input map.
+//! A function under an input map, as its path runs ask.
 
-ghost use Rattle.std.specs.Prelude.{◌≡◌, ℤ, map, pos, IfOk, Some, None, Option, if◌then◌else◌, set};
-ghost use Rattle.std.specs.Option.{option_map, option_copied};
+ghost use Rattle.std.specs.Prelude.{◌≡◌, Some, None, Option, get_or};
 ghost use Rattle.stk_meaning.specs.Keys.{parameter_key, address_key, unset_key, load_key, call_key};
-ghost use Rattle.stk_meaning.specs.Paths.{number_under, forgotten};
+ghost use Rattle.stk_meaning.specs.Paths.{KeptNumbers, number_under, kept_or, path_world};
 ghost use Rattle.stk_function_env.specs.Settings.{setting_in};
-ghost use Rattle.stk_operators.specs.Targets.{target_shown};
 ghost use Rattle.stk_path_runs.specs.Places.{number_in};
-ghost use Rattle.stk_path_runs.specs.Rows.{slots_set, forgets_in, Knows};
+ghost use Rattle.stk_path_runs.specs.Rows.{slots_set, Knows};
 
-use crate::{FunctionTables, LoopRow, LoopSlot, types};
+use crate::kept::{forget_all, forget_changed, kept_at, put_kept};
+use crate::{FunctionTables, LoopSlot, types};
 use std::alloc::Global;
 use stk_base::{NoMemory, Span};
 use stk_ctype::CType;
-use stk_eval_expr::{PathSetting, Replacement, put_kept, put_word};
+use stk_eval_expr::{Replacement, RunSetting, World, put_word};
 use stk_function_env::called_library;
 use stk_function_types::FunctionTypes;
 use stk_numbers::{IntKind, Kinds};
@@ -56,24 +55,6 @@ fn set_slots(list: &[LoopSlot], numbers: &[Word], registers: &mut Vec<Word>)
     }
 }
 
-// Forgets what is kept at a position, where a row has it as changed.
-fn forget_one(row: &LoopRow, position: usize, kept: &mut Vec<Option<Word>>)
-    ensures { kept.new.items ≡ (if forgets_in row.now position then set kept.old.items position None else kept.old.items) }
-{
-    if row.forgets(position) {
-        put_kept(kept, position, None);
-    }
-}
-
-// Forgets what a row has as changed.
-fn forget_changed(row: &LoopRow, kept: &mut Vec<Option<Word>>)
-    ensures { kept.new.items ≡ forgotten (forgets_in row.now) kept.old.items }
-{
-    for position in 0..kept.len() {
-        forget_one(row, position, kept);
-    }
-}
-
 impl<'a> MappedFunction<'a> {
     // The types of the function.
     fn types(&self) -> &'a FunctionTypes<'a>
@@ -103,6 +84,21 @@ impl<'a> MappedFunction<'a> {
         number_in(self.tables.index().load(node), self.numbers)
     }
 
+    // The number of a kept object that is read at a node: the kept one, and else that of the load's key, which is then
+    // kept.
+    fn load_kept(&self, position: usize, node: u32, kept: &mut Vec<Option<Word>>) -> Word
+        ensures { (result, kept.new.items) ≡ kept_or position (number_under self.now.tables.now.places.keys self.now.numbers.now (load_key node)) (get_or kept.old.items position None) kept.old.items }
+    {
+        match kept_at(kept, position) {
+            Some(number) => number,
+            None => {
+                let number = self.load_number(node);
+                put_kept(kept, position, Some(number));
+                number
+            }
+        }
+    }
+
     // The number of the key of a call.
     fn call_number(&self, node: u32) -> Word
         ensures { result ≡ number_under self.now.tables.now.places.keys self.now.numbers.now (call_key node) }
@@ -118,10 +114,8 @@ impl<'a> MappedFunction<'a> {
     }
 }
 
-impl<'a> PathSetting for MappedFunction<'a> {
+impl<'a> RunSetting for MappedFunction<'a> {
     ghost setting = { λ s. setting_in s.tables.now.places };
-
-    ghost inputs = { λ s. number_under s.tables.now.places.keys s.numbers.now };
 
     ghost knows = { λ s. Knows (setting_in s.tables.now.places) s.tables.now.places.keys s.tables.now.rows };
 
@@ -151,22 +145,6 @@ impl<'a> PathSetting for MappedFunction<'a> {
 
     fn target_at(&self, node: u32) -> Target {
         self.tables.setting().target_at(node)
-    }
-
-    fn address(&self, node: u32) -> u64 {
-        self.address_number(node).to_address()
-    }
-
-    fn loaded(&self, node: u32) -> Word {
-        self.load_number(node)
-    }
-
-    fn called(&self, node: u32) -> Word {
-        self.call_number(node)
-    }
-
-    fn unset(&self, node: u32) -> Word {
-        self.unset_number(node)
     }
 
     fn operation(&self, op: Operator, left: u32, right: u32) -> Operation {
@@ -217,6 +195,77 @@ impl<'a> PathSetting for MappedFunction<'a> {
     fn is_number(&self, kind: IntKind, number: Word, node: u32) -> bool {
         types::is_number(self.types(), kind, number, node)
     }
+}
+
+impl<'a> World for MappedFunction<'a> {
+    type Kept = Vec<Option<Word>>;
+
+    ghost Shown = { KeptNumbers };
+
+    ghost shown = { λ kept. kept.items };
+
+    // A path run knows a place by its name alone, and the numbers of its keys are those of their kinds.
+    ghost world = { λ s. path_world (number_under s.tables.now.places.keys s.numbers.now) };
+
+    fn address(&self, node: u32) -> u64 {
+        self.address_number(node).to_address()
+    }
+
+    fn load(
+        &self,
+        target: Target,
+        node: u32,
+        _kind: IntKind,
+        _at: u64,
+        kept: &mut Vec<Option<Word>>,
+    ) -> Word {
+        match target {
+            Target::Kept(position) => self.load_kept(position as usize, node, kept),
+            Target::Register(_) | Target::Object(_) | Target::Unnamed => self.load_number(node),
+        }
+    }
+
+    fn store(
+        &self,
+        target: Target,
+        _kind: IntKind,
+        _at: u64,
+        number: Word,
+        kept: &mut Vec<Option<Word>>,
+    ) -> Result<(), NoMemory> {
+        match target {
+            Target::Kept(position) => put_kept(kept, position as usize, Some(number)),
+            Target::Unnamed => forget_all(kept),
+            Target::Register(_) | Target::Object(_) => {}
+        }
+        Ok(())
+    }
+
+    fn call(
+        &self,
+        node: u32,
+        callee: &Expr,
+        kept: &mut Vec<Option<Word>>,
+    ) -> Result<Option<Word>, NoMemory> {
+        forget_all(kept);
+        if types::gives_nothing(self.types(), callee) {
+            return Ok(Some(Word::bit(false)));
+        }
+        Ok(Some(self.call_number(node)))
+    }
+
+    fn write(&self, kept: &mut Vec<Option<Word>>) -> Result<bool, NoMemory> {
+        forget_all(kept);
+        Ok(true)
+    }
+
+    fn unset(&self, node: u32, _kind: IntKind, _kept: &mut Vec<Option<Word>>) -> Option<Word> {
+        Some(self.unset_number(node))
+    }
+
+    fn begin_kept(&self, position: u32, kept: &mut Vec<Option<Word>>) {
+        put_kept(kept, position as usize, None);
+    }
 
     fn reset(&self, node: u32, form: &StmtForm, registers: &mut Vec<Word>) {
         // The row of the node stands for the form.
@@ -232,5 +281,9 @@ impl<'a> PathSetting for MappedFunction<'a> {
         if let Some(row) = self.tables.row(node) {
             forget_changed(row, kept);
         }
+    }
+
+    fn turns(&self) -> u32 {
+        1
     }
 }

@@ -10,6 +10,7 @@ ghost use Rattle.stk_eval_expr.specs.Loops.{EachLoop};
 ghost use Rattle.stk_function_env.specs.Settings.{setting_in};
 ghost use Rattle.stk_path_runs.specs.Rows.{Knows};
 
+use crate::kept::nothing_kept;
 use crate::starting::start_registers;
 use crate::{FunctionTables, MappedFunction};
 use std::alloc::Global;
@@ -36,6 +37,6 @@ pub fn path_run(
         alloc,
     };
     let registers = start_registers(alloc, &out, f)?;
-    let kept = tables.setting().kept().len();
+    let kept = nothing_kept(alloc, tables.setting().kept().len())?;
     run_body(alloc, &out, &f.body, registers, kept)
 }

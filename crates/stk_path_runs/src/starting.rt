@@ -1,12 +1,12 @@
 //! The registers that a path run starts from.
 
 ghost use Rattle.std.specs.Prelude.{◌≡◌, ℤ, ℕ, IfOk, map, pos, replicate, if◌then◌else◌, set};
-ghost use Rattle.stk_tree.specs.View.{view_declarator, view_function, view_parameter, parameters};
+ghost use Rattle.stk_tree.specs.View.{view_function, view_parameter, parameters};
 ghost use Rattle.stk_meaning.specs.Keys.{parameter_key, parameter_declarator};
 ghost use Rattle.stk_meaning.specs.Typings.{declarator_node};
 ghost use Rattle.stk_meaning.specs.Paths.{number_under, start_registers};
 ghost use Rattle.stk_function_types.specs.Nodes.{typing_in};
-ghost use Rattle.stk_function_env.specs.Listed.{head_list, is_register_parameter};
+ghost use Rattle.stk_function_env.specs.Listed.{is_register_parameter};
 ghost use Rattle.stk_path_runs.specs.Starting.{parameters_set};
 
 use crate::mapped::MappedFunction;
@@ -15,17 +15,7 @@ use stk_base::NoMemory;
 use stk_eval_expr::put_word;
 use stk_function_env::fits_register;
 use stk_operators::Word;
-use stk_tree::{Declr, Function, Param, Tail};
-
-// The parameters that a declarator of a function has.
-fn parameters_of(d: &Declr) -> &[Param]
-    ensures { parameters (map view_parameter result.now) ≡ head_list (view_declarator d.now) }
-{
-    match &d.tail {
-        Tail::Params(list, _) => list.as_slice(),
-        Tail::Arrays(_) | Tail::Unspecified | Tail::NoParams => &[],
-    }
-}
+use stk_tree::{Function, Param};
 
 // So many registers with 0 in them.
 fn zeros(alloc: Global, count: u32) -> Result<Vec<Word>, NoMemory>
@@ -68,6 +58,6 @@ pub(crate) fn start_registers(
     ensures { IfOk result (λ registers. registers.items ≡ start_registers (typing_in out.now.tables.now.places.types) (view_function f.now) (λ k. number_under out.now.tables.now.places.keys out.now.numbers.now (parameter_key k))) }
 {
     let mut registers = zeros(alloc, f.body.node.number)?;
-    set_parameters(out, parameters_of(&f.declr), &mut registers);
+    set_parameters(out, f.declr.parameters(), &mut registers);
     Ok(registers)
 }

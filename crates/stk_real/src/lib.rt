@@ -1,4 +1,5 @@
-//! The trusted edge: the real source and the real sinks, over std's reader and writer, and the words of the command line.
+//! The trusted edge: the real source and the real sinks, over std's reader and writer, and the words of the command
+//! line.
 #![tactic(auto)]
 
 mod real;

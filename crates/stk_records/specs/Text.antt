@@ -1,5 +1,5 @@
 -- The text of lines.
-use Rattle.std.specs.Prelude.{ℕ, nat_le, ◌&&◌, if◌then◌else◌, List, [], ◌∷◌, ◌++◌, Option, Some, None, map, codes, decimal}
+use Rattle.std.specs.Prelude.{ℕ, nat_le, ◌&&◌, if◌then◌else◌, List, [], ◌∷◌, ◌++◌, Option, Some, None, map, ℤ, codes, decimal}
 use Rattle.std.specs.Fmt.{signed_decimal}
 use Rattle.stk_numbers.specs.declared.conditions.UbKind.{UbKind}
 use Rattle.stk_numbers.specs.declared.conditions.UbKind.TheVariants as kinds
@@ -48,6 +48,12 @@ fragment_text what x = spot_text x.at ++ what ++ claim_text x.claim ++ codes " i
 -- `KEY=NUMBER`
 abbrev pub input_text : Input → List ℕ
 input_text x = printed x.key ++ codes "=" ++ signed_decimal x.number
+
+-- a number for each key, by the texts of the keys
+abbrev pub inputs_of : List (List ℕ) → List ℤ → List Input
+inputs_of [] xs = []
+inputs_of (k ∷ ks) [] = []
+inputs_of (k ∷ ks) (x ∷ xs) = record { key = k; number = x } ∷ inputs_of ks xs
 
 -- the inputs behind the first, each behind a space
 abbrev pub more_inputs : List Input → List ℕ

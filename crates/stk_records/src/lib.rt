@@ -18,5 +18,5 @@ pub use json::add_json_line;
 pub use line::{Cause, Claim, Fragment, Input, Line, Needed, Spot, StartInputs};
 pub use options::{AskedScript, ConditionSet, Options, WordsFault};
 pub use reading::words;
-pub use text::add_line;
+pub use text::{add_claim, add_line, add_spot, kind_text, printed_byte};
 pub use writing::{Stop, write_record, write_summary};

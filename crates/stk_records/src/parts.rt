@@ -8,7 +8,7 @@ ghost use Rattle.stk_records.specs.Kinds.{kind_name};
 ghost use Rattle.stk_records.specs.Text.{printed, file_text, kind_text};
 ghost use Rattle.stk_records.specs.Json.{name_data, number_data, input_data, start_data, without_data, needed_data, claim_word, phase_word, with_spot, spot_data, all_kinds, taken_words};
 
-use crate::text::printed;
+use crate::text::printed_byte;
 use crate::{Claim, Input, Needed, Spot, StartInputs};
 use serde_json::{Map, Number, Value, json};
 use std::alloc::Global;
@@ -22,7 +22,7 @@ pub(crate) fn name_text(alloc: Global, name: &[u8]) -> Result<String, NoMemory>
 {
     let mut text = String::new(alloc);
     for byte in name {
-        text.push(char::from(printed(*byte)))?;
+        text.push(char::from(printed_byte(*byte)))?;
     }
     Ok(text)
 }

@@ -117,8 +117,8 @@ fn options_of(seen: Seen) -> Options
 /// The options that the words on the command line ask for, in any order, each at most once: `--json`; `--budget N`,
 /// from 1 to 200,000; `--without LIST`, LIST being one or more of overflow, zero, shift, null, pointer, bounds, abs and
 /// copy, each at most once, with a comma between each two; `--generate M`, from 0 to 2^64 - 1, and `--functions N`,
-/// from 1 to 1,000, one exactly where the other stands; and at most one of `--smt N` and `--smt-hit N`, from 1 to
-/// 2^64 - 1, a script for all conditions or for none, and `--bundle`, and none of these beside `--json`, `--generate` and
+/// from 1 to 1,000, one exactly where the other stands; and at most one of `--smt N` and `--smt-hit N`, from 1 to 2^64
+/// - 1, a script for all conditions or for none, and `--bundle`, and none of these beside `--json`, `--generate` and
 /// `--functions`. The word behind an item may stand in the same word, behind `=`; a number is 1 to 20 decimal digits.
 /// `Bad` exactly where the words are no such list. It takes no memory.
 pub fn words(words: &[String]) -> Result<Options, WordsFault>

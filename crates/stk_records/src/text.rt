@@ -33,7 +33,7 @@ fn add_number(text: &mut Vec<u8>, number: i128) -> Result<(), NoMemory>
 }
 
 /// A byte of a name as it is printed: itself from 32 to 126, and else `?`.
-pub(crate) fn printed(byte: u8) -> u8
+pub fn printed_byte(byte: u8) -> u8
     ensures { result ≡ printed_byte byte }
 {
     if 32 <= byte && byte <= 126 {
@@ -48,7 +48,7 @@ fn add_printed(text: &mut Vec<u8>, name: &[u8]) -> Result<(), NoMemory>
     ensures { IfOk result (λ _. text.new.items ≡ text.old.items ++ printed name.now) }
 {
     for byte in name {
-        text.push(printed(*byte))?;
+        text.push(printed_byte(*byte))?;
     }
     Ok(())
 }
@@ -63,8 +63,9 @@ fn add_file(text: &mut Vec<u8>, file: &Option<List<u8>>) -> Result<(), NoMemory>
     }
 }
 
-// Adds a place.
-fn add_spot(text: &mut Vec<u8>, at: &Spot) -> Result<(), NoMemory>
+/// Adds a place to a text: `FILE:LINE:COLUMN`, where `-` stands for the input itself. After `NoMemory` the text is of
+/// no use.
+pub fn add_spot(text: &mut Vec<u8>, at: &Spot) -> Result<(), NoMemory>
     ensures { IfOk result (λ _. text.new.items ≡ text.old.items ++ spot_text at.now) }
 {
     add_file(text, &at.file)?;
@@ -74,8 +75,8 @@ fn add_spot(text: &mut Vec<u8>, at: &Spot) -> Result<(), NoMemory>
     add_count(text, u64::from(at.column))
 }
 
-// Adds what is claimed of a fragment.
-fn add_claim(text: &mut Vec<u8>, claim: &Claim) -> Result<(), NoMemory>
+/// Adds what is claimed of a fragment to a text. After `NoMemory` the text is of no use.
+pub fn add_claim(text: &mut Vec<u8>, claim: &Claim) -> Result<(), NoMemory>
     ensures { IfOk result (λ _. text.new.items ≡ text.old.items ++ claim_text claim.now) }
 {
     match claim {
@@ -133,8 +134,8 @@ fn add_start(text: &mut Vec<u8>, start: &StartInputs) -> Result<(), NoMemory>
     }
 }
 
-// How a kind is printed.
-fn kind_text(kind: UbKind) -> &'static [u8]
+/// How a kind is printed.
+pub fn kind_text(kind: UbKind) -> &'static [u8]
     ensures { result.now ≡ kind_text kind }
 {
     match kind {

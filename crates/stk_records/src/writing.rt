@@ -83,8 +83,8 @@ pub fn write_record<K: Sink>(
     write_line(alloc, options.json, line, out)
 }
 
-/// Writes the summary of these counts to a sink, in the form and with the kinds of conditions taken out that the options
-/// name. The refusals are those of `write_record`. It isn't flushed.
+/// Writes the summary of these counts to a sink, in the form and with the kinds of conditions taken out that the
+/// options name. The refusals are those of `write_record`. It isn't flushed.
 pub fn write_summary<K: Sink>(
     alloc: Global,
     options: Options,

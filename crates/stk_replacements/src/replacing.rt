@@ -2,7 +2,6 @@
 
 ghost use Rattle.std.specs.Prelude.{◌≡◌, ◌&&◌, not, if◌then◌else◌, IfOk, option_map};
 ghost use Rattle.stk_tree.specs.View.{view_expression};
-ghost use Rattle.stk_meaning.specs.Typings.{bare};
 ghost use Rattle.stk_meaning.specs.Replacements.{summed, summed_by, kept_if, replaced_sum, replaced_side, replacement};
 ghost use Rattle.stk_function_types.specs.Nodes.{typing_in};
 ghost use Rattle.stk_replacements.specs.Shown.{summed_shown, replaced_shown, may_keep};
@@ -31,31 +30,6 @@ struct Summed<'a> {
     left: &'a Expr,
     right: &'a Expr,
     minus: bool,
-}
-
-// The expression in parentheses.
-fn bare(e: &Expr) -> &Expr
-    ensures { view_expression result.now ≡ bare (view_expression e.now) }
-{
-    match &e.form {
-        ExprForm::Paren(x) => bare(x.get()),
-        ExprForm::Name(_)
-        | ExprForm::Number(_)
-        | ExprForm::Character(_)
-        | ExprForm::Text(_)
-        | ExprForm::Index(_, _)
-        | ExprForm::Call(_, _)
-        | ExprForm::Dot(_, _)
-        | ExprForm::Arrow(_, _)
-        | ExprForm::Step(_, _)
-        | ExprForm::Unary(_, _)
-        | ExprForm::SizeExpr(_)
-        | ExprForm::SizeName(_)
-        | ExprForm::Cast(_, _)
-        | ExprForm::Binary(_, _, _)
-        | ExprForm::Choice(_, _, _)
-        | ExprForm::Assign(_, _, _) => e,
-    }
 }
 
 // The sum or difference that an expression without parentheses is.
@@ -224,7 +198,7 @@ pub fn replacement<'a>(
 ) -> Result<Option<Replaced<'a>>, NoMemory>
     ensures { IfOk result (λ found. option_map replaced_shown found ≡ replacement (typing_in types.now) (view_expression left.now) (view_expression right.now)) }
 {
-    let (left, right) = (bare(left), bare(right));
+    let (left, right) = (left.bare(), right.bare());
     match replaced_side(alloc, types, true, left, right)? {
         Some(found) => Ok(Some(found)),
         None => {

@@ -10,9 +10,10 @@ use Rattle.stk_tree.specs.declared.expression.UnaryOp.{UnaryOp}
 use Rattle.stk_tree.specs.declared.expression.UnaryOp.TheVariants as unary
 use Rattle.stk_tree.specs.Syntax.{ExprTree, ExprFormTree, MaybeInitTree, FunctionTree}
 use Rattle.stk_tree.specs.Syntax as s
+use Rattle.stk_tree.specs.Parts.{bare}
 use Rattle.stk_numbers.specs.declared.conditions.Kinds.{Kinds}
 use Rattle.stk_type_rules.specs.Types.{is_scalar, is_struct}
-use Rattle.stk_meaning.specs.Typings.{Typing, type_in, number_kind, bare, is_among, declarator_node, object_size, is_array}
+use Rattle.stk_meaning.specs.Typings.{Typing, type_in, number_kind, is_among, declarator_node, object_size, is_array}
 use Rattle.stk_meaning.specs.Places.{Setting, Target, in_register, in_kept, in_object, unnamed, object_named, position_behind, object_target, target_at, member_target, target_of, form_target}
 use Rattle.stk_meaning.specs.Visits.{Role, Visit, at_expression, at_declarator, at_statement, at_section, Visits, no_visit, one_visit, both_visits, scope, unevaluated, collected, head_visits, statement_visits}
 use Rattle.stk_meaning.specs.Keys.{address_key, KeyInfo, address_info, declarator_keys, visit_keys, Object, object_of, key_objects, objects_in, keys_of, objects_of, setting_of, parameters_of, head_of, body_of, function_visits}

@@ -3,13 +3,14 @@ use Rattle.std.proofs.Common.{◌≡◌, ℕ, zero, suc, Bool, true, false, List
 use Rattle.std.specs.Prelude.{if◌then◌else◌, set}
 use Rattle.stk_tree.specs.Syntax.{ExprTree, MaybeExprTree, InitTree, MaybeInitTree, ItemTree, ItemTrees, DeclrTree, DeclrTrees, DeclarationTree, StartTree, LabelTrees, StmtTree, StmtTrees, MaybeStmtTree, StmtFormTree, PartTree, PartTrees, SectionTree, SectionTrees}
 use Rattle.stk_tree.specs.Syntax as s
+use Rattle.stk_tree.specs.Parts.{is_static}
 use Rattle.stk_type_rules.specs.Types.{is_scalar}
 use Rattle.stk_meaning.specs.declared.entry.Entry.{Entry}
 use Rattle.stk_meaning.specs.declared.entry.Entry.TheVariants.{Ub, Enter, Seen}
 use Rattle.stk_meaning.specs.Typings.{number_kind, converted, statement_node}
 use Rattle.stk_meaning.specs.Operations.{truth}
 use Rattle.stk_meaning.specs.Places.{Setting, Target, in_register, in_kept, in_object, unnamed, target_at}
-use Rattle.stk_meaning.specs.Visits.{reading, as_test, at_declarator, at_statement, at_section, Visits, no_visit, one_visit, both_visits, expression_visits, maybe_visits, items_visits, item_visits, initialiser_visits, designators_visits, tail_visits, initial_visits, is_static, declarator_visits, declarators_visits, declaration_visits, start_visits, labels_visits, statement_visits, statement_form_visits, maybe_statement_visits, statements_visits, parts_visits, part_visits, sections_visits, section_visits, parts_declare, start_declares}
+use Rattle.stk_meaning.specs.Visits.{reading, as_test, at_declarator, at_statement, at_section, Visits, no_visit, one_visit, both_visits, expression_visits, maybe_visits, items_visits, item_visits, initialiser_visits, designators_visits, tail_visits, initial_visits, declarator_visits, declarators_visits, declaration_visits, start_visits, labels_visits, statement_visits, statement_form_visits, maybe_statement_visits, statements_visits, parts_visits, part_visits, sections_visits, section_visits, parts_declare, start_declares}
 use Rattle.stk_meaning.specs.Changes.{assigned_in, forgotten_in}
 use Rattle.stk_meaning.specs.Worlds.{Ran, World, trace_of, and_then, gives, entered, answered, Flow, Normal, Turned, Ended}
 use Rattle.stk_meaning.specs.Expressions.{value_of, test_of, stored_at, address_of}

@@ -2,8 +2,9 @@
 use Rattle.std.proofs.Common.{◌≡◌, ℕ, Bool, true, false, ◌||◌, List, ℤ, refl, inl, inr}
 use Rattle.stk_tree.specs.Syntax.{ExprTree, ExprFormTree, StmtTree}
 use Rattle.stk_tree.specs.Syntax as s
+use Rattle.stk_tree.specs.Parts.{bare}
 use Rattle.stk_meaning.specs.declared.entry.Entry.{Entry}
-use Rattle.stk_meaning.specs.Typings.{Typing, node_of, bare}
+use Rattle.stk_meaning.specs.Typings.{Typing, node_of}
 use Rattle.stk_meaning.specs.Visits.{Role, reading, as_arm, as_test, inside, at_expression, Visits, no_visit, one_visit, both_visits, collected, expression_visits, form_visits, statement_visits}
 use Rattle.stk_meaning.specs.Changes.{changes}
 use Rattle.stk_meaning.specs.Worlds.{Ran, Went, Cut, after, and_then}

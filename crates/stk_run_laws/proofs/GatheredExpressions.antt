@@ -9,13 +9,14 @@ use Rattle.stk_tree.specs.declared.expression.BinaryOp.{BinaryOp}
 use Rattle.stk_tree.specs.declared.expression.BinaryOp.TheVariants as binary
 use Rattle.stk_tree.specs.Syntax.{ExprTree, ExprTrees, ExprFormTree}
 use Rattle.stk_tree.specs.Syntax as s
+use Rattle.stk_tree.specs.Parts.{bare}
 use Rattle.stk_numbers.specs.declared.operators.ArithOp.TheVariants as arith_op
 use Rattle.stk_numbers.specs.declared.operators.ShiftOp.TheVariants as shift_op
 use Rattle.stk_numbers.specs.declared.operators.CompareOp.{CompareOp}
 use Rattle.stk_numbers.specs.declared.operators.CompareOp.TheVariants as compare_op
 use Rattle.stk_type_rules.specs.Types.{is_scalar}
 use Rattle.stk_meaning.specs.declared.entry.Entry.TheVariants.{Enter, Seen}
-use Rattle.stk_meaning.specs.Typings.{converted, node_of, type_in, number_kind, bare}
+use Rattle.stk_meaning.specs.Typings.{converted, node_of, type_in, number_kind}
 use Rattle.stk_meaning.specs.Operations.{Operation, arithmetic, shifting, comparing, sort_of, operation_of, operated, truth, bit}
 use Rattle.stk_meaning.specs.Replacements.{Replaced, replacement}
 use Rattle.stk_meaning.specs.Places.{Target, in_register, in_kept, in_object, unnamed, object_named, target_at, form_target}

@@ -5,13 +5,14 @@ use Rattle.std.specs.Prelude.{if◌then◌else◌}
 use Rattle.stk_base.specs.declared.span.Span.{Span}
 use Rattle.stk_tree.specs.Syntax.{ExprTree, MaybeExprTree, InitTree, MaybeInitTree, ItemTree, ItemTrees, DeclrTree, DeclrTrees, DeclarationTree, StartTree, LabelTrees, StmtTree, StmtTrees, MaybeStmtTree, StmtFormTree, PartTree, PartTrees, SectionTree, SectionTrees}
 use Rattle.stk_tree.specs.Syntax as s
+use Rattle.stk_tree.specs.Parts.{is_static}
 use Rattle.stk_numbers.specs.Kinds.{wrap, promote}
 use Rattle.stk_type_rules.specs.Types.{is_scalar}
 use Rattle.stk_meaning.specs.declared.entry.Entry.TheVariants.{Enter}
 use Rattle.stk_meaning.specs.Typings.{number_kind, converted, statement_node, type_in, is_among}
 use Rattle.stk_meaning.specs.Operations.{truth}
 use Rattle.stk_meaning.specs.Places.{Target, in_register, in_kept, in_object, unnamed, target_at, object_target, position_behind}
-use Rattle.stk_meaning.specs.Visits.{reading, as_test, Visit, at_declarator, at_statement, at_section, Visits, no_visit, one_visit, both_visits, scope, expression_visits, maybe_visits, items_visits, item_visits, initialiser_visits, designators_visits, tail_visits, initial_visits, is_static, declarator_visits, declarators_visits, declaration_visits, start_visits, labels_visits, statement_visits, statement_form_visits, maybe_statement_visits, statements_visits, parts_visits, part_visits, sections_visits, section_visits, turn_visits, parts_declare, start_declares}
+use Rattle.stk_meaning.specs.Visits.{reading, as_test, Visit, at_declarator, at_statement, at_section, Visits, no_visit, one_visit, both_visits, scope, expression_visits, maybe_visits, items_visits, item_visits, initialiser_visits, designators_visits, tail_visits, initial_visits, declarator_visits, declarators_visits, declaration_visits, start_visits, labels_visits, statement_visits, statement_form_visits, maybe_statement_visits, statements_visits, parts_visits, part_visits, sections_visits, section_visits, turn_visits, parts_declare, start_declares}
 use Rattle.stk_meaning.specs.Changes.{Spot, is_any_kept, stored_in, declarator_changes, initial_changes, is_own, changes}
 use Rattle.stk_meaning.specs.Worlds.{Ran, Went, Cut, and_then, gives, entered, written, Flow, Normal, Break, Continue, Return, next, Turned, Another, Ended, behind_body, left_switch}
 use Rattle.stk_meaning.specs.Expressions.{value_of, test_of, stored_at, address_of}

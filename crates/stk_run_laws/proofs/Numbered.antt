@@ -7,8 +7,9 @@ use Rattle.stk_tree.specs.Syntax as s
 use Rattle.stk_tree.specs.Nodes.{base_nodes, declaration_nodes, declarator_nodes, declarators_nodes, tail_nodes, parameter_nodes, parameters_nodes, type_name_nodes, initialiser_nodes, maybe_initialiser_nodes, item_nodes, items_nodes, designators_nodes, expression_nodes, expressions_nodes, maybe_expression_nodes, expression_form_nodes, start_nodes, labels_nodes, statement_nodes, statements_nodes, maybe_statement_nodes, statement_form_nodes, part_nodes, parts_nodes, section_nodes, sections_nodes}
 use Rattle.stk_tree.specs.Tokens.{optional_word, storage_tokens, path_end}
 use Rattle.stk_tree.specs.Layout.{type_name_width, designators_width, tail_width, labels_width, base_width, declarator_width, node_at, laid_type_name, laid_designators, laid_expression, laid_expressions, laid_maybe_expression, laid_expression_form, laid_initialiser, laid_maybe_initialiser, laid_item, laid_items, laid_tail, laid_parameters, laid_declarator, laid_declarators, laid_declaration, laid_start, laid_labels, laid_statement, laid_statements, laid_maybe_statement, laid_statement_form, laid_part, laid_parts, laid_section, laid_sections, laid_function}
+use Rattle.stk_tree.specs.Parts.{is_static}
 use Rattle.stk_meaning.specs.Typings.{Typing, declarator_node}
-use Rattle.stk_meaning.specs.Visits.{Role, reading, is_static, expression_visits, form_visits, arguments_visits, type_name_visits, dimensions_visits, dimension_visits, maybe_visits, initialiser_visits, items_visits, item_visits, designators_visits, tail_visits, parameters_visits, parameter_visits, head_visits, initial_visits, declarator_visits, declarators_visits, declaration_visits, start_visits, labels_visits, statement_visits, statement_form_visits, maybe_statement_visits, statements_visits, parts_visits, part_visits, sections_visits, section_visits}
+use Rattle.stk_meaning.specs.Visits.{Role, reading, expression_visits, form_visits, arguments_visits, type_name_visits, dimensions_visits, dimension_visits, maybe_visits, initialiser_visits, items_visits, item_visits, designators_visits, tail_visits, parameters_visits, parameter_visits, head_visits, initial_visits, declarator_visits, declarators_visits, declaration_visits, start_visits, labels_visits, statement_visits, statement_form_visits, maybe_statement_visits, statements_visits, parts_visits, part_visits, sections_visits, section_visits}
 use Rattle.stk_meaning.specs.Keys.{parameter_declarators, tail_parameters, head_parameters}
 use Rattle.stk_run_laws.specs.Visits.{nodes_of}
 use Rattle.stk_run_laws.specs.Numbered.{IsNumberedWhole, WhatIsLaidOutIsNumbered}

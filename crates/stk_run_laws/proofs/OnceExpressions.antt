@@ -4,9 +4,10 @@ use Rattle.std.proofs.lemmas.List.{append-nil}
 use Rattle.std.specs.Prelude.{if◌then◌else◌}
 use Rattle.stk_tree.specs.Syntax.{ExprTree, ExprTrees, MaybeExprTree, ExprFormTree}
 use Rattle.stk_tree.specs.Syntax as s
+use Rattle.stk_tree.specs.Parts.{bare}
 use Rattle.stk_meaning.specs.declared.entry.Entry.{Entry}
 use Rattle.stk_meaning.specs.declared.entry.Entry.TheVariants.{Ub, Enter, Seen}
-use Rattle.stk_meaning.specs.Typings.{node_of, bare}
+use Rattle.stk_meaning.specs.Typings.{node_of}
 use Rattle.stk_meaning.specs.Operations.{arithmetic, shifting, comparing, BinarySort, operates, joins, or_else, and_also, sort_of, truth}
 use Rattle.stk_meaning.specs.Places.{Setting}
 use Rattle.stk_meaning.specs.Visits.{reading, as_arm, as_test, at_expression, one_visit, both_visits, expression_visits, form_visits}

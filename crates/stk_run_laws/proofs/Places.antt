@@ -5,11 +5,12 @@ use Rattle.std.specs.Prelude.{if◌then◌else◌, length}
 use Rattle.stk_ctype.specs.Kinds.{bytes_of}
 use Rattle.stk_ctype.specs.Types.{TypeTree}
 use Rattle.stk_tree.specs.Syntax.{ExprTree, ExprFormTree}
+use Rattle.stk_tree.specs.Parts.{bare}
 use Rattle.stk_numbers.specs.Kinds.{fits}
 use Rattle.stk_numbers.proofs.Wrapping.{wrap_in_range, wrap_twice}
 use Rattle.stk_type_rules.specs.Types.{is_scalar}
 use Rattle.stk_meaning.specs.declared.entry.Entry.{Entry}
-use Rattle.stk_meaning.specs.Typings.{node_of, type_in, number_kind, is_array, bare, is_among, converted}
+use Rattle.stk_meaning.specs.Typings.{node_of, type_in, number_kind, is_array, is_among, converted}
 use Rattle.stk_meaning.specs.Places.{Target, in_register, in_kept, in_object, unnamed, position_behind, object_target, target_at, target_of, form_target}
 use Rattle.stk_meaning.specs.Visits.{read, reading, Visit, at_expression, Visits, one_visit, both_visits, collected, expression_visits}
 use Rattle.stk_meaning.specs.Changes.{Spot, stored_in, changes}

@@ -14,11 +14,12 @@ use Rattle.stk_tree.specs.declared.expression.AssignOp.TheVariants as assign
 use Rattle.stk_tree.specs.declared.expression.StepOp.{StepOp}
 use Rattle.stk_tree.specs.Syntax.{ExprTree, ExprTrees, MaybeExprTree, ExprFormTree}
 use Rattle.stk_tree.specs.Syntax as s
+use Rattle.stk_tree.specs.Parts.{bare}
 use Rattle.stk_numbers.specs.declared.operators.ArithOp.TheVariants as arith_op
 use Rattle.stk_numbers.specs.declared.operators.ShiftOp.TheVariants as shift_op
 use Rattle.stk_numbers.specs.declared.operators.CompareOp.{CompareOp}
 use Rattle.stk_numbers.specs.declared.operators.CompareOp.TheVariants as compare_op
-use Rattle.stk_meaning.specs.Typings.{Typing, node_of, type_in, number_kind, is_array, bare, converted}
+use Rattle.stk_meaning.specs.Typings.{Typing, node_of, type_in, number_kind, is_array, converted}
 use Rattle.stk_meaning.specs.Operations.{Operation, arithmetic, shifting, comparing, operates, sort_of, assigned_operator, operation_of, truth, bit}
 use Rattle.stk_meaning.specs.Conditions.{form_tests}
 use Rattle.stk_meaning.specs.Replacements.{Replaced, replacement}

@@ -6,8 +6,9 @@ use Rattle.stk_tree.specs.declared.expression.UnaryOp.{UnaryOp}
 use Rattle.stk_tree.specs.declared.expression.UnaryOp.TheVariants as unary
 use Rattle.stk_tree.specs.Syntax.{ExprTree, ExprFormTree, MaybeInitTree, FunctionTree}
 use Rattle.stk_tree.specs.Syntax as s
+use Rattle.stk_tree.specs.Parts.{bare}
 use Rattle.stk_type_rules.specs.Types.{is_scalar}
-use Rattle.stk_meaning.specs.Typings.{Typing, type_in, number_kind, is_array, bare, is_among}
+use Rattle.stk_meaning.specs.Typings.{Typing, type_in, number_kind, is_array, is_among}
 use Rattle.stk_meaning.specs.Libraries.{called_signature, result_in}
 use Rattle.stk_meaning.specs.Places.{Setting, Target, in_register, in_kept, in_object, unnamed, object_named, target_at, target_of}
 use Rattle.stk_meaning.specs.Visits.{Role, Visit, at_expression, at_declarator, at_statement, at_section}

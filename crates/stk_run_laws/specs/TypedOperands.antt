@@ -3,7 +3,8 @@
 use Rattle.std.specs.Prelude.{◌≡◌, false}
 use Rattle.stk_tree.specs.Syntax.{ExprTree, ExprFormTree, FunctionTree}
 use Rattle.stk_tree.specs.Syntax as s
-use Rattle.stk_meaning.specs.Typings.{Typing, type_in, is_array, bare}
+use Rattle.stk_tree.specs.Parts.{bare}
+use Rattle.stk_meaning.specs.Typings.{Typing, type_in, is_array}
 use Rattle.stk_meaning.specs.Visits.{Visit, at_expression, at_declarator, at_statement, at_section}
 use Rattle.stk_meaning.specs.Keys.{function_visits}
 use Rattle.stk_run_laws.specs.Visits.{EachVisit}

@@ -22,8 +22,8 @@ fn is_wide(terms: &Terms, term: TermId, width: u128) -> bool
     terms.width(term) as u128 == width
 }
 
-/// Makes the term of each definition, in order, and has its name stand for it. `Bad` comes where a name is none or isn't
-/// new, or a term doesn't fit or isn't as wide as is said.
+/// Makes the term of each definition, in order, and has its name stand for it. `Bad` comes where a name is none or
+/// isn't new, or a term doesn't fit or isn't as wide as is said.
 pub(crate) fn define<'a>(
     bytes: &'a [u8],
     names: &mut Names<'a>,

@@ -77,8 +77,8 @@ fn read_text(alloc: Global, bytes: &[u8]) -> Result<Script, Fault>
 
 /// The script that a text of at most 2^32 - 1 bytes spells (SMT-LIB 2.6, section 3), with any blanks and comments; the
 /// logic may be left out, and is QF_BV else. Names are as they stand in the text, so the tree belongs to the text.
-/// Whether widths fit and names are new isn't asked here. It takes time linear in the text, and calls itself at most 400
-/// deep. `Bad` comes where the text is no well-formed script.
+/// Whether widths fit and names are new isn't asked here. It takes time linear in the text, and calls itself at most
+/// 400 deep. `Bad` comes where the text is no well-formed script.
 pub fn parse(alloc: Global, bytes: &[u8]) -> Result<Script, Fault>
     requires { length bytes.now ≤ 4294967295 }
     ensures spelled { IfOk result (λ tree. Spells (script_tokens (view_script bytes.now tree)) bytes.now) }

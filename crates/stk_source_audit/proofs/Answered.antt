@@ -12,13 +12,12 @@ use Rattle.stk_meaning.specs.Typings.{Typing}
 use Rattle.stk_meaning.specs.Keys.{KeyInfo, keys_of}
 use Rattle.stk_meaning.specs.Maps.{AreInRange}
 use Rattle.stk_meaning.specs.Paths.{path}
-use Rattle.stk_meaning.specs.Hits.{is_hit_free}
 use Rattle.stk_meaning.proofs.HitLemmas.{found, finds}
 use Rattle.stk_terms.specs.Fitting.{AreResidues}
 use Rattle.stk_symbols.specs.Symbolic.{Covers, residues_of}
 use Rattle.stk_symbols.specs.Maps.{map_of}
 use Rattle.stk_symbols.proofs.Mapped.{one_for_one}
-use Rattle.stk_goals.specs.Queries.{key_kinds, has_addresses}
+use Rattle.stk_goals.specs.Queries.{key_kinds}
 use Rattle.stk_bundle.specs.Claims.{residues}
 use Rattle.stk_audit_rules.specs.Worlds.{IsAnsweredBy}
 use Rattle.stk_source_audit.specs.Functions.{audited_function}

@@ -1,10 +1,9 @@
 -- The audit by a source's own answers is one by its world.
-use Rattle.std.proofs.Common.{◌≡◌, ℕ, List, [], None, Option, sym, subst}
+use Rattle.std.proofs.Common.{◌≡◌, ℕ, List, [], None, sym, subst}
 use Rattle.stk_lex.specs.declared.token.Token.{Token}
 use Rattle.stk_lex.specs.declared.cutting.Piece.{Piece}
 use Rattle.stk_audit_rules.specs.Worlds.{World}
 use Rattle.stk_audit_rules.specs.Truths.{IsSound}
-use Rattle.stk_audit.specs.Hands.{Hand}
 use Rattle.stk_source_audit.specs.Reading.{ReadUnit, AreRead}
 use Rattle.stk_source_audit.specs.Reader.{units_read}
 use Rattle.stk_source_audit.specs.Sources.{world_of, source_world, SourceAtHand}

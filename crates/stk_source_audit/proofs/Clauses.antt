@@ -1,6 +1,5 @@
 -- What the clauses of a goal say of a query.
-use Rattle.std.proofs.Common.{◌≡◌, ℕ, ◌+◌, ◌≤◌, List, sym, ◌∙◌, arith}
-use Rattle.std.specs.Prelude.{sum}
+use Rattle.std.proofs.Common.{ℕ, List, sym, ◌∙◌, arith}
 use Rattle.stk_tree.specs.Syntax.{FunctionTree}
 use Rattle.stk_numbers.specs.declared.conditions.Candidate.{Candidate}
 use Rattle.stk_numbers.specs.declared.conditions.Condition.{Condition}

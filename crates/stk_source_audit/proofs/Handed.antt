@@ -1,5 +1,5 @@
 -- The function at hand, as what is asked of it takes it.
-use Rattle.std.proofs.Common.{◌≡◌, ℕ, ◌≤◌, ◌^◌, Bool, true, List, map, Option, Some, refl, sym, ap, subst, ◌∙◌}
+use Rattle.std.proofs.Common.{◌≡◌, ℕ, ◌≤◌, ◌^◌, true, List, map, Option, Some, sym, ap, subst, ◌∙◌}
 use Rattle.std.specs.Prelude.{nat_le}
 use Rattle.std.proofs.lemmas.Bool.{leb-true}
 use Rattle.stk_lex.specs.declared.cutting.Piece.{Piece}
@@ -8,7 +8,6 @@ use Rattle.stk_ctype.specs.declared.symbol.NameEntry.{NameEntry}
 use Rattle.stk_tree.specs.Syntax.{FunctionTree, UnitTree}
 use Rattle.stk_tree.specs.Syntax as s
 use Rattle.stk_tree.specs.View.{view_function, view_unit}
-use Rattle.stk_numbers.specs.declared.conditions.Candidate.{Candidate}
 use Rattle.stk_numbers.specs.declared.conditions.Kinds.{Kinds}
 use Rattle.stk_meaning.specs.Typings.{Typing}
 use Rattle.stk_meaning.specs.Keys.{KeyInfo, keys_of, input_bits}

@@ -1,16 +1,10 @@
 -- What is kept while functions are taken up.
-use Rattle.std.proofs.Common.{◌≡◌, ℕ, ◌<◌, ◌≤◌, ◌^◌, Bool, true, false, not, List, [], Option, Some, None, refl, sym, ap, subst, ◌∙◌, arith}
-use Rattle.std.specs.Prelude.{nat_lt}
+use Rattle.std.proofs.Common.{◌≡◌, ℕ, ◌<◌, ◌^◌, true, false, not, List, [], Option, Some, None, refl, sym, ap, subst, ◌∙◌, arith}
 use Rattle.std.specs.Option.{is_some}
-use Rattle.std.specs.List.{Contains}
 use Rattle.std.proofs.lemmas.Bool.{false≢true, ltb-true, lt-ltb}
 use Rattle.stk_lex.specs.declared.cutting.Piece.{Piece}
 use Rattle.stk_ctype.specs.declared.symbol.NameEntry.{NameEntry}
-use Rattle.stk_tree.specs.Syntax.{FunctionTree}
-use Rattle.stk_numbers.specs.declared.conditions.Candidate.{Candidate}
-use Rattle.stk_numbers.specs.declared.conditions.Condition.{Condition}
 use Rattle.stk_numbers.specs.declared.conditions.Kinds.{Kinds}
-use Rattle.stk_meaning.specs.Typings.{Typing}
 use Rattle.stk_meaning.specs.Keys.{keys_of}
 use Rattle.stk_type_laws.proofs.Kept.{units_keep_order}
 use Rattle.stk_judge.specs.Tables.{Table}
@@ -20,11 +14,11 @@ use Rattle.stk_audit_rules.specs.Naming.{is_next_function}
 use Rattle.stk_audit.specs.Hands.{Hand, begins, hand_at, function_at}
 use Rattle.stk_source_audit.specs.declared.answering.FunctionAtHand.{FunctionAtHand}
 use Rattle.stk_source_audit.specs.Reader.{units_read}
-use Rattle.stk_source_audit.specs.Definitions.{Definition, definition_at, definition_unit, definition_typing, is_judged}
+use Rattle.stk_source_audit.specs.Definitions.{Definition, definition_at, definition_unit, definition_typing}
 use Rattle.stk_source_audit.specs.Functions.{audited_function}
 use Rattle.stk_source_audit.specs.Sources.{is_judged_one, judged_one, CutSource, source_units, source_world, SourceAtHand}
 use Rattle.stk_source_audit.specs.Judged.{AreListsBy, IsJudgedUnit}
-use Rattle.stk_source_audit.specs.Taking.{IsTaken, HasTaken}
+use Rattle.stk_source_audit.specs.Taking.{HasTaken}
 use Rattle.stk_source_audit.specs.Keeping.{IsCutWell, hand_in, IsHand, IsKept}
 
 -- nothing was read yet

@@ -1,5 +1,5 @@
 -- What is known of a unit that was read.
-use Rattle.std.proofs.Common.{◌≡◌, ℕ, ◌-◌, ◌<◌, ◌≤◌, ◌^◌, Bool, false, List, length, take, drop, Option, Some, None, ap, arith}
+use Rattle.std.proofs.Common.{◌≡◌, ℕ, ◌-◌, ◌<◌, ◌≤◌, ◌^◌, Bool, false, List, length, drop, Option, Some, None, ap, arith}
 use Rattle.std.specs.Prelude.{IfSome}
 use Rattle.std.proofs.lemmas.List.{length-map, length-take, length-drop}
 use Rattle.stk_lex.specs.declared.token.Token.{Token}
@@ -17,7 +17,7 @@ use Rattle.stk_accept.specs.Accepting.{IsTree}
 use Rattle.stk_units.specs.Pieces.{tokens_of_piece}
 use Rattle.stk_units.specs.Functions.{IsDefinition}
 use Rattle.stk_units.specs.Causes.{body_cause}
-use Rattle.stk_units.specs.Outcomes.{left_out, refusing}
+use Rattle.stk_units.specs.Outcomes.{refusing}
 use Rattle.stk_units.proofs.Typed.{orderly_behind, typed_well_of}
 use Rattle.stk_source_audit.specs.Reading.{IsReadAs}
 use Rattle.stk_source_audit.specs.Finding.{IsKnownUnit}

@@ -1,5 +1,5 @@
 -- The lists of a function, where it is judged.
-use Rattle.std.proofs.Common.{◌≡◌, ◌≢◌, ℕ, ◌≤◌, Bool, true, false, List, [], ◌∷◌, map, Option, Some, None, Result, Ok, Err, refl, sym, ap, subst, ◌∙◌}
+use Rattle.std.proofs.Common.{◌≡◌, ◌≢◌, ℕ, Bool, true, false, List, [], ◌∷◌, map, Option, Some, None, Err, refl, sym, ap, subst, ◌∙◌}
 use Rattle.std.specs.Prelude.{if◌then◌else◌}
 use Rattle.std.specs.Option.{is_some}
 use Rattle.std.proofs.lemmas.Bool.{true≢false}
@@ -7,17 +7,14 @@ use Rattle.stk_ctype.specs.declared.kind.IntKind.{IntKind}
 use Rattle.stk_ctype.specs.declared.symbol.NameEntry.{NameEntry}
 use Rattle.stk_tree.specs.Syntax.{FunctionTree, UnitTree}
 use Rattle.stk_tree.specs.Nodes.{unit_nodes}
-use Rattle.stk_tree.specs.View.{view_unit}
 use Rattle.stk_numbers.specs.declared.conditions.Kinds.{Kinds}
 use Rattle.stk_type_rules.specs.Facts.{Fact}
 use Rattle.stk_type_rules.specs.Outcome.{Outcome, Good, Refused}
 use Rattle.stk_meaning.specs.Typings.{Typing}
 use Rattle.stk_meaning.specs.Keys as keys
-use Rattle.stk_function_types.specs.Units.{TypedUnit, unit_typed}
-use Rattle.stk_function_types.specs.Nodes.{typing_in}
+use Rattle.stk_function_types.specs.Units.{unit_typed}
 use Rattle.stk_function_env.specs.declared.infos.KeyInfo.{KeyInfo}
 use Rattle.stk_function_env.specs.Infos.{info_in}
-use Rattle.stk_function_env.specs.Settings.{FunctionPlaces, setting_in}
 use Rattle.stk_typed.specs.declared.untyped.Untyped.{Untyped}
 use Rattle.stk_typed.specs.declared.untyped.Untyped.TheVariants as untyped
 use Rattle.stk_typed.specs.Answering.{Answers, has_many}

@@ -1,5 +1,5 @@
 -- Units are read up to one that begins at a byte.
-use Rattle.std.proofs.Common.{◌≡◌, ◌≢◌, ℕ, zero, suc, ◌+◌, ◌-◌, ◌<◌, ◌≤◌, ◌^◌, ◌==◌, Bool, true, false, List, [], ◌∷◌, length, take, drop, Option, Some, None, refl, sym, ap, subst, ◌∙◌, arith, eqb-true}
+use Rattle.std.proofs.Common.{◌≡◌, ◌≢◌, ℕ, ◌-◌, ◌<◌, ◌≤◌, ◌^◌, ◌==◌, Bool, true, false, List, [], ◌∷◌, length, Option, Some, None, refl, sym, ap, subst, ◌∙◌, arith, eqb-true}
 use Rattle.std.specs.Prelude.{if◌then◌else◌, IfSome}
 use Rattle.std.proofs.lemmas.Bool.{eqb-false}
 use Rattle.stk_lex.specs.declared.token.Token.{Token}
@@ -12,7 +12,7 @@ use Rattle.stk_type_laws.specs.Orderly.{AreOrderly}
 use Rattle.stk_units.specs.Pieces.{tokens_of_piece, body_of_piece}
 use Rattle.stk_source_audit.specs.Reading.{ReadUnit, first_byte, IsReadAs}
 use Rattle.stk_source_audit.specs.Reader.{unit_of_piece, units_read}
-use Rattle.stk_source_audit.specs.Definitions.{Definition, definition_in, definition_at}
+use Rattle.stk_source_audit.specs.Definitions.{definition_in, definition_at}
 use Rattle.stk_source_audit.specs.Finding.{IsKnownUnit, HasFound}
 use Rattle.stk_source_audit.proofs.Ascending.{BeginsAt, ascends, begins}
 use Rattle.stk_source_audit.proofs.ReadOne.{read_is, is_read}

@@ -2,13 +2,12 @@
 use Rattle.std.proofs.Common.{◌≡◌, ℕ, Bool, true, false, List, take, Option, Some, None, refl, sym, ap, subst, ◌∙◌}
 use Rattle.std.specs.Prelude.{if◌then◌else◌}
 use Rattle.std.specs.Option.{option_map}
-use Rattle.std.proofs.lemmas.Bool.{false≢true}
 use Rattle.stk_lex.specs.declared.token.Token.{Token}
 use Rattle.stk_ctype.specs.declared.symbol.NameEntry.{NameEntry}
 use Rattle.stk_ctype.specs.Named.{named}
 use Rattle.stk_tree.specs.Syntax.{UnitTree}
 use Rattle.stk_tree.specs.Layout.{unit_laid_out}
-use Rattle.stk_type_rules.specs.Outcome.{Outcome, Good, Refused}
+use Rattle.stk_type_rules.specs.Outcome.{Refused}
 use Rattle.stk_grammar.specs.Lexemes.{lexemes_of, spans_of}
 use Rattle.stk_grammar.specs.StatementReading.{unit_at}
 use Rattle.stk_grammar.specs.Units.{IsUnit}

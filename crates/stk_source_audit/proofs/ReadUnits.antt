@@ -1,5 +1,5 @@
 -- The units of a source are read in one way.
-use Rattle.std.proofs.Common.{◌≡◌, ℕ, List, [], ◌∷◌, refl, sym, ap, subst, ◌∙◌}
+use Rattle.std.proofs.Common.{◌≡◌, ℕ, List, [], ◌∷◌, refl, sym, ap, ◌∙◌}
 use Rattle.stk_lex.specs.declared.token.Token.{Token}
 use Rattle.stk_lex.specs.declared.cutting.Piece.{Piece}
 use Rattle.stk_ctype.specs.declared.symbol.NameEntry.{NameEntry}

@@ -1,8 +1,7 @@
 -- A source is one of which audits may be trusted: its clauses mean what they should, and what no path run of a map
 -- escapes suffices in executions.
-use Rattle.std.proofs.Common.{◌≡◌, ℕ, ◌==◌, Bool, true, false, not, List, [], ◌∷◌, ℤ, map, Option, Some, None, refl, sym, ap, subst, ◌∙◌}
-use Rattle.std.specs.Prelude.{if◌then◌else◌, length}
-use Rattle.std.specs.List.{Contains}
+use Rattle.std.proofs.Common.{◌≡◌, ℕ, ◌==◌, Bool, true, false, not, List, [], ◌∷◌, map, Option, Some, None, refl, subst}
+use Rattle.std.specs.Prelude.{if◌then◌else◌}
 use Rattle.std.specs.Option.{is_some}
 use Rattle.std.proofs.lemmas.Bool.{false≢true}
 use Rattle.stk_lex.specs.declared.token.Token.{Token}
@@ -16,7 +15,7 @@ use Rattle.stk_numbers.specs.declared.conditions.Candidate.{Candidate}
 use Rattle.stk_numbers.specs.declared.conditions.Condition.{Condition}
 use Rattle.stk_numbers.specs.declared.conditions.Kinds.{Kinds}
 use Rattle.stk_meaning.specs.Typings.{Typing}
-use Rattle.stk_meaning.specs.Keys.{KeyInfo, keys_of}
+use Rattle.stk_meaning.specs.Keys.{keys_of}
 use Rattle.stk_meaning.specs.Findings.{NoAnswer}
 use Rattle.stk_run_laws.proofs.GatheredLaws.{what_suffices_in_paths_suffices}
 use Rattle.stk_type_laws.specs.Orderly.{AreOrderly}
@@ -35,7 +34,6 @@ use Rattle.stk_units.specs.Causes.{body_cause}
 use Rattle.stk_units.proofs.Measures.{small}
 use Rattle.stk_units.proofs.Typed.{typed_well_of}
 use Rattle.stk_records.specs.declared.line.Cause.{Cause}
-use Rattle.stk_audit_rules.specs.Worlds.{World}
 use Rattle.stk_audit_rules.specs.Truths.{IsSound}
 use Rattle.stk_source_audit.specs.Reading.{ReadUnit, AreRead, no_unit, then_unit, IsReadAs}
 use Rattle.stk_source_audit.specs.Definitions.{Definition, definition_unit, definition_in, definition_at, definition_typing, is_judged}

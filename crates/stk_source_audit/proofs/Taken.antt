@@ -1,5 +1,5 @@
 -- A function is taken up where it is judged.
-use Rattle.std.proofs.Common.{◌≡◌, ℕ, ◌<◌, Bool, true, false, not, List, Option, Some, None, refl, sym, ap, ◌∙◌}
+use Rattle.std.proofs.Common.{◌≡◌, ℕ, false, not, List, Option, Some, None, refl, ap, ◌∙◌}
 use Rattle.std.specs.Option.{is_some}
 use Rattle.stk_lex.specs.declared.token.Token.{Token}
 use Rattle.stk_lex.specs.declared.cutting.Piece.{Piece}

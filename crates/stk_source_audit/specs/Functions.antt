@@ -1,5 +1,5 @@
 -- What an audit asks of a function.
-use Rattle.std.specs.Prelude.{ℕ, ◌+◌, ◌≤◌, false, List, []}
+use Rattle.std.specs.Prelude.{◌+◌, ◌≤◌, false, List, []}
 use Rattle.stk_tree.specs.Syntax.{FunctionTree}
 use Rattle.stk_numbers.specs.declared.conditions.Kinds.{Kinds}
 use Rattle.stk_numbers.specs.declared.conditions.Candidate.{Candidate}

@@ -1,5 +1,5 @@
 -- What is known of a unit that defines a function which is judged, and what such a function has.
-use Rattle.std.specs.Prelude.{◌≡◌, ℕ, ◌≤◌, List, map, nat_le, Option, Some, None}
+use Rattle.std.specs.Prelude.{◌≡◌, ℕ, List, map, nat_le, Option, Some, None}
 use Rattle.stk_ctype.specs.declared.symbol.NameEntry.{NameEntry}
 use Rattle.stk_tree.specs.Syntax.{FunctionTree, UnitTree, empty_unit, declares, defines}
 use Rattle.stk_numbers.specs.declared.conditions.Kinds.{Kinds}

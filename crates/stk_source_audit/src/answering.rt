@@ -48,8 +48,8 @@ pub(crate) struct TakenUp<'a> {
     pub rest: &'a [Piece],
 }
 
-/// Reads units up to the one that begins at a byte, and takes up the function that it defines, if it is judged. The names
-/// in force become those that the units leave. After want of memory the names are some of those that units leave.
+/// Reads units up to the one that begins at a byte, and takes up the function that it defines, if it is judged. The
+/// names in force become those that the units leave. After want of memory the names are some of those that units leave.
 fn take_function<'a>(
     text: &SourceText,
     pieces: &'a [Piece],

@@ -13,9 +13,10 @@ use stk_audit_rules::Audit;
 use stk_base::NoMemory;
 use stk_lex::{Piece, Token};
 
-/// The audit of a bundle of at most 2^30 bytes by its source, whose tokens and units these are: the tokens that skimming
-/// keeps, and where each unit stands among them. `Yes` has the claims of the bundle, in order, and each of them is true
-/// of the source; `No` names the first line that fails, counted from 1, and why. The only refusal is want of memory.
+/// The audit of a bundle of at most 2^30 bytes by its source, whose tokens and units these are: the tokens that
+/// skimming keeps, and where each unit stands among them. `Yes` has the claims of the bundle, in order, and each of
+/// them is true of the source; `No` names the first line that fails, counted from 1, and why. The only refusal is want
+/// of memory.
 pub fn audit_source(
     alloc: Global,
     bytes: &[u8],

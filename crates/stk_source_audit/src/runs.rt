@@ -28,8 +28,8 @@ use stk_operators::Word;
 use stk_path_runs::{FunctionTables, path_run};
 use stk_tree::Function;
 
-/// Whether the addresses of an input map are valid, and its path run hits a candidate free of a set. The tables are those
-/// of the function.
+/// Whether the addresses of an input map are valid, and its path run hits a candidate free of a set. The tables are
+/// those of the function.
 fn answers(
     alloc: Global,
     tables: &FunctionTables,
@@ -108,8 +108,8 @@ fn map_count(kinds: &[IntKind]) -> u32
     1 << total_bits(kinds)
 }
 
-/// The table of what the path runs of all input maps of a function hit, which have at most 16 bits. The tables are those
-/// of the function, and the kinds those of its keys.
+/// The table of what the path runs of all input maps of a function hit, which have at most 16 bits. The tables are
+/// those of the function, and the kinds those of its keys.
 fn table_of(
     alloc: Global,
     tables: &FunctionTables,

@@ -8,9 +8,10 @@ use Rattle.stk_tree.specs.declared.expression.UnaryOp.{UnaryOp}
 use Rattle.stk_tree.specs.declared.expression.UnaryOp.TheVariants as unary
 use Rattle.stk_tree.specs.Syntax.{ExprTree, ExprTrees, MaybeExprTree, ExprFormTree}
 use Rattle.stk_tree.specs.Syntax as s
+use Rattle.stk_tree.specs.Parts.{bare}
 use Rattle.stk_numbers.specs.declared.operators.ArithOp.TheVariants as arith_op
 use Rattle.stk_numbers.specs.Kinds.{width_of, promote}
-use Rattle.stk_meaning.specs.Typings.{Typing, type_in, number_kind, is_array, stride_in, bare}
+use Rattle.stk_meaning.specs.Typings.{Typing, type_in, number_kind, is_array, stride_in}
 use Rattle.stk_meaning.specs.Operations.{Operator, arithmetic, shifting, comparing, Operation, in_kind, operation_of, step_operation, BinarySort, operates, joins, or_else, and_also, sort_of, assigned_operator}
 use Rattle.stk_meaning.specs.Libraries.{Library, called_library}
 use Rattle.stk_meaning.specs.Replacements.{Replaced, replacement}

@@ -111,7 +111,7 @@ fn by_return(
 }
 
 /// Types an expression of a statement. The answer is the place of its fact.
-pub fn test(
+pub(crate) fn test(
     p: &Context,
     locals: &Locals,
     facts: &mut Vec<NodeFact>,
@@ -148,7 +148,7 @@ pub(crate) fn optional(
 }
 
 /// Types an expression as a statement.
-pub fn discarded(
+pub(crate) fn discarded(
     p: &Context,
     locals: &Locals,
     facts: &mut Vec<NodeFact>,
@@ -165,7 +165,7 @@ pub fn discarded(
 }
 
 /// Types a `return`.
-pub fn returned(
+pub(crate) fn returned(
     p: &Context,
     locals: &Locals,
     facts: &mut Vec<NodeFact>,

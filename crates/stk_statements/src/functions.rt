@@ -42,8 +42,8 @@ fn head(
     ensures locals { OnOk result (AreSoundLocals (structs_of f.now.names.now) (map local_of locals.new)) }
 {
     let tailed = tail(f, locals, facts, true, &d.tail)?;
-    let returns = starred(f.alloc, d.stars, ty.copy(f.alloc)?)?;
-    let copy = returns.copy(f.alloc)?;
+    let returns = starred(f.alloc, d.stars, ty.copy()?)?;
+    let copy = returns.copy()?;
     let made = tail_type(f.alloc, f.names, true, None, copy, tailed);
     own(facts, d.node.number, made)?;
     Ok(returns)
@@ -93,7 +93,7 @@ fn base_type(
 {
     let s = scope(f.alloc, f.bytes, f.names, locals);
     let at = base(&s, facts, &x.base)?;
-    let ty = fact(facts, at).ty.copy(f.alloc)?;
+    let ty = fact(facts, at).ty.copy()?;
     Ok(ty)
 }
 

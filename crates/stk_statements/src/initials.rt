@@ -61,7 +61,7 @@ fn is_refused(alloc: Global, names: &Names, sizes: &[Size], whole: &CType) -> Re
     requires { IsSound (structs_of names.now) (type_of whole.now) }
     ensures is { IfOk result (λ b. b ≡ is_refused (declared_type (structs_of names.now) sizes.now (type_of whole.now))) }
 {
-    let whole = whole.copy(alloc)?;
+    let whole = whole.copy()?;
     match declared_type(alloc, names, sizes, whole) {
         Ok(_) => Ok(false),
         Err(Broken::Rule(_)) => Ok(true),
@@ -75,9 +75,9 @@ fn own_type(alloc: Global, names: &Names, sizes: &[Size], whole: &CType) -> Resu
     ensures is { IfOk result (λ t. type_of t ≡ own_type (declared_type (structs_of names.now) sizes.now (type_of whole.now))) }
     ensures sound { IfOk result (λ t. IsSound (structs_of names.now) (type_of t)) }
 {
-    let whole = whole.copy(alloc)?;
+    let whole = whole.copy()?;
     match declared_type(alloc, names, sizes, whole) {
-        Ok(fact) => fact.ty.copy(alloc),
+        Ok(fact) => Ok(fact.ty.copy()?),
         Err(Broken::Rule(_)) => Ok(CType::Void),
         Err(Broken::NoMemory) => Err(NoMemory),
     }

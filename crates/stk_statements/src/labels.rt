@@ -176,7 +176,7 @@ fn label(
 }
 
 /// Types the labels of a section.
-pub fn put_labels(
+pub(crate) fn put_labels(
     p: &Context,
     locals: &Locals,
     facts: &mut Vec<NodeFact>,

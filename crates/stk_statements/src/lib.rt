@@ -10,7 +10,8 @@ mod places;
 mod rules;
 mod statements;
 
-pub use forms::{discarded, returned, test};
+pub(crate) use forms::{discarded, returned, test};
 pub use functions::function;
-pub use labels::{Labels, put_labels};
-pub use locals::declaration;
+pub use labels::Labels;
+pub(crate) use labels::put_labels;
+pub(crate) use locals::declaration;

@@ -12,7 +12,6 @@ ghost use Rattle.stk_typing.specs.Locals.{AreSoundLocals, local_of};
 ghost use Rattle.stk_typing.specs.Scope.{unevaluated};
 ghost use Rattle.stk_typing.specs.Typing.{dimensions_typed};
 ghost use Rattle.stk_declarators.specs.Parameters.{array_parts};
-ghost use Rattle.stk_address_taken.specs.Statements.{is_static};
 ghost use Rattle.stk_statements.specs.Places.{Begins, body_in};
 ghost use Rattle.stk_function_types.specs.Locals.{complete_rule, declaration_typed, declared_rule, initial_rule, lacks_size, local_by, local_declared, local_name, local_sized, locals_declared, refused_initial};
 ghost use Rattle.stk_statements.specs.Rows.{AreLocals};
@@ -22,21 +21,11 @@ use crate::places::Context;
 use stk_base::{List, Span};
 use stk_ctype::{CType, Names};
 use stk_declarators::{Tailed, are_scalars, given_count, scope, tail_type};
-use stk_tree::{Declaration, Declr, Dimension, Init, Storage, Tail};
+use stk_tree::{Declaration, Declr, Dimension, Init, Tail, is_static};
 use stk_type_rules::{Broken, NodeFact, Untyped, fact, is_complete, own};
 use stk_typing::{
     Leaves, LocalName, Locals, Size, base, dimensions, fits, initial_refused, starred, unevaluated,
 };
-
-// Whether the storage word is `static`.
-fn is_static(word: Option<Storage>) -> bool
-    ensures { result ≡ is_static word }
-{
-    match word {
-        Some(Storage::Static) => true,
-        Some(Storage::Typedef) | Some(Storage::Extern) | None => false,
-    }
-}
 
 // The name of a declarator.
 fn name_of(bytes: &[u8], at: Option<Span>) -> &[u8]
@@ -178,7 +167,7 @@ fn put(
     ensures begins { OnOk result (Begins locals.old locals.new) }
 {
     let at = own(facts, node, made)?;
-    let ty = fact(facts, at).ty.copy(p.file.alloc)?;
+    let ty = fact(facts, at).ty.copy()?;
     let name = List::from_vec(Vec::from_slice(p.file.alloc, name)?);
     locals.push(LocalName { name, node, ty })?;
     Ok(())
@@ -251,7 +240,7 @@ fn declarator(
     ensures begins { OnOk result (Begins locals.old locals.new) }
 {
     let sizes = part_sizes(p, locals, facts, &d.tail)?;
-    let whole = starred(p.file.alloc, d.stars, ty.copy(p.file.alloc)?)?;
+    let whole = starred(p.file.alloc, d.stars, ty.copy()?)?;
     sized(p, locals, facts, is_static, whole, d, sizes)
 }
 
@@ -280,7 +269,7 @@ fn declarators(
 
 /// Types a local declaration (C11 6.7): a fact for each of its nodes is put behind the others, and its names come into
 /// force behind the locals; or the first node that a rule refuses, by the lowest rule that does.
-pub fn declaration(
+pub(crate) fn declaration(
     p: &Context,
     locals: &mut Locals,
     facts: &mut Vec<NodeFact>,
@@ -295,7 +284,7 @@ pub fn declaration(
 {
     let s = scope(p.file.alloc, p.file.bytes, p.file.names, locals);
     let at = base(&s, facts, &d.base)?;
-    let ty = fact(facts, at).ty.copy(p.file.alloc)?;
+    let ty = fact(facts, at).ty.copy()?;
     declarators(
         p,
         locals,

@@ -41,8 +41,8 @@ fn is_one(
     Ok(values.terms().value(id, &residues)? == 1)
 }
 
-// What a walk says of `int f(unsigned char x) { int y = 10 / x; if (x == 0) return 1; return y; }`: the overflow and the
-// zero divisor of the division, then the test as always true and as always false, and the branch.
+// What a walk says of `int f(unsigned char x) { int y = 10 / x; if (x == 0) return 1; return y; }`: the overflow and
+// the zero divisor of the division, then the test as always true and as always false, and the branch.
 fn division(alloc: Global, values: &mut Symbols) -> Result<Walked<TermId>, NoMemory>
     requires { HasKey values.old 0 UChar }
     ensures valid { IfOk result (λ w. IsMade values.new Int w.valid) }

@@ -21,7 +21,7 @@ use stk_terms::{TermId, TermOp};
 
 /// How many elements of a size the first address is behind the second, of kind `Long`.
 #[tactic(auto, using(crate::proofs::Made::kept))]
-pub fn distance(
+pub(crate) fn distance(
     terms: &mut NormalTerms,
     left: TermId,
     right: TermId,
@@ -73,7 +73,7 @@ fn inside(
 
 /// Whether an index is below 0 or at least the count of elements, as an Int.
 #[tactic(auto, using(crate::proofs::Made::kept))]
-pub fn breaks_bounds(
+pub(crate) fn breaks_bounds(
     terms: &mut NormalTerms,
     kind: IntKind,
     index: TermId,

@@ -179,7 +179,7 @@ fn of_truths(
 }
 
 /// An operator in a kind.
-pub fn arith(
+pub(crate) fn arith(
     terms: &mut NormalTerms,
     op: ArithOp,
     kind: IntKind,

@@ -157,7 +157,7 @@ fn holds(
 
 /// A comparison as an Int.
 #[tactic(auto, using(crate::proofs::Made::kept))]
-pub fn compare(
+pub(crate) fn compare(
     terms: &mut NormalTerms,
     op: CompareOp,
     kind: IntKind,
@@ -177,7 +177,7 @@ pub fn compare(
 
 /// One of two numbers of a kind, by an Int that is 0 or 1.
 #[tactic(auto, using(crate::proofs::Made::kept))]
-pub fn choose(
+pub(crate) fn choose(
     terms: &mut NormalTerms,
     value: TermId,
     kind: IntKind,

@@ -239,7 +239,7 @@ fn zero_divisor(
 }
 
 /// Whether an operator in a kind violates a condition, as an Int.
-pub fn breaks(
+pub(crate) fn breaks(
     terms: &mut NormalTerms,
     what: UbKind,
     op: ArithOp,

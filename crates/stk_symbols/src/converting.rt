@@ -28,7 +28,11 @@ fn bits(width: u8, number: i128) -> u128
 }
 
 /// The bits of a number in a kind.
-pub fn constant(terms: &mut NormalTerms, kind: IntKind, number: i128) -> Result<TermId, NoMemory>
+pub(crate) fn constant(
+    terms: &mut NormalTerms,
+    kind: IntKind,
+    number: i128,
+) -> Result<TermId, NoMemory>
     ensures made { IfOk result (λ v. IsTerm terms.new (width_of kind) v.0) }
     ensures value { IfOk result (λ v. (numbers : ℕ → ℕ) → Obeys terms.new numbers → numbers v.0 ≡ bits_of kind number) }
     ensures grown { Grown terms.old terms.new 0 }
@@ -70,7 +74,7 @@ fn truth(terms: &mut NormalTerms, kind: IntKind, value: TermId) -> Result<TermId
 }
 
 /// A number converted from one kind to another.
-pub fn converted(
+pub(crate) fn converted(
     terms: &mut NormalTerms,
     from: IntKind,
     to: IntKind,

@@ -89,7 +89,7 @@ pub fn constant(terms: &mut NormalTerms, width: u8, number: u128) -> Result<Term
 }
 
 /// An input.
-pub fn input(terms: &mut NormalTerms, key: u32) -> Result<TermId, NoMemory>
+pub(crate) fn input(terms: &mut NormalTerms, key: u32) -> Result<TermId, NoMemory>
     requires { key < length terms.old.inputs }
     ensures made { IfOk result (λ v. IsTerm terms.new (get_or terms.old.inputs key 0) v.0) }
     ensures value { IfOk result (λ v. (numbers : ℕ → ℕ) → (o : Obeys terms.new numbers) → numbers v.0 ≡ get_or o.residues key 0) }

@@ -121,7 +121,7 @@ fn moved_by(
 
 /// The address so many elements of a size, in bytes, before or behind a base, modulo 2^64. The step is of any kind.
 #[tactic(auto, using(crate::proofs::Made::kept))]
-pub fn moved(
+pub(crate) fn moved(
     terms: &mut NormalTerms,
     base: TermId,
     kind: IntKind,
@@ -159,7 +159,7 @@ fn has_upper(terms: &mut NormalTerms, value: TermId) -> Result<TermId, NoMemory>
 /// Whether a moved address leaves the address space, as an Int: the exact one, which 96 bits hold with its sign, is
 /// below 0 or above 2^64 - 1.
 #[tactic(auto, using(crate::proofs::Made::kept))]
-pub fn breaks_move(
+pub(crate) fn breaks_move(
     terms: &mut NormalTerms,
     base: TermId,
     kind: IntKind,

@@ -81,7 +81,7 @@ fn right_shift(
 }
 
 /// A shift of a number of a kind by a count of any kind.
-pub fn shift(
+pub(crate) fn shift(
     terms: &mut NormalTerms,
     op: ShiftOp,
     kind: IntKind,
@@ -109,7 +109,7 @@ pub fn shift(
 
 /// Whether a count is below 0 or at least the width of the kind that is shifted, as an Int.
 #[tactic(auto, using(crate::proofs::Made::kept))]
-pub fn breaks_shift(
+pub(crate) fn breaks_shift(
     terms: &mut NormalTerms,
     kind: IntKind,
     count_kind: IntKind,

@@ -123,7 +123,7 @@ pub(crate) fn fails(terms: &mut NormalTerms, a: TermId) -> Result<TermId, NoMemo
 
 /// Whether two Ints that are 0 or 1 are both 1.
 #[tactic(auto, using(crate::proofs::Made::kept))]
-pub fn both(terms: &mut NormalTerms, left: TermId, right: TermId) -> Result<TermId, NoMemory>
+pub(crate) fn both(terms: &mut NormalTerms, left: TermId, right: TermId) -> Result<TermId, NoMemory>
     requires first { IsTerm terms.old 32 left.0 }
     requires second { IsTerm terms.old 32 right.0 }
     ensures made { IfOk result (λ v. IsTerm terms.new 32 v.0) }
@@ -139,7 +139,7 @@ pub fn both(terms: &mut NormalTerms, left: TermId, right: TermId) -> Result<Term
 
 /// 1 less an Int that is 0 or 1.
 #[tactic(auto, using(crate::proofs::Made::kept))]
-pub fn opposite(terms: &mut NormalTerms, value: TermId) -> Result<TermId, NoMemory>
+pub(crate) fn opposite(terms: &mut NormalTerms, value: TermId) -> Result<TermId, NoMemory>
     requires { IsTerm terms.old 32 value.0 }
     ensures made { IfOk result (λ v. IsTerm terms.new 32 v.0) }
     ensures value { IfOk result (λ v. (numbers : ℕ → ℕ) (x : Bool) → Obeys terms.new numbers → numbers value.0 ≡ bit x → numbers v.0 ≡ bit (not x)) }

@@ -9,15 +9,16 @@ use Rattle.stk_ctype.specs.Types.{TypeTree, TypeTrees, SignatureTree, signature}
 use Rattle.stk_ctype.specs.Names.{find}
 use Rattle.stk_tree.specs.Syntax.{ExprTree, ExprFormTree}
 use Rattle.stk_tree.specs.Syntax as s
+use Rattle.stk_tree.specs.Parts.{name_in}
 use Rattle.stk_type_rules.specs.Facts.{Fact, Breaks, Fits, value}
 use Rattle.stk_type_rules.specs.Outcome.{Outcome, Good, and_then, finish}
 use Rattle.stk_type_rules.specs.Types.{is_struct}
 use Rattle.stk_typing.specs.Locals.{Local, find_local}
 use Rattle.stk_typing.specs.Scope.{callee_rule, signature_named, signature_as}
-use Rattle.stk_typing.specs.Calls.{parameter_count, parameters_in, takes, have_misfit, have_struct, call_result, called, call_rule, name_in, callee_by}
+use Rattle.stk_typing.specs.Calls.{parameter_count, parameters_in, takes, have_misfit, have_struct, call_result, called, call_rule, callee_by}
 use Rattle.stk_typing.specs.Typing.{form_typed, callee_typed}
 use Rattle.stk_meaning.specs.Typings.{signature_in}
-use Rattle.stk_meaning.specs.Libraries.{called_form as called_form_name, called_name, called_signature, result_in}
+use Rattle.stk_meaning.specs.Libraries.{called_name, called_signature, result_in}
 use Rattle.stk_type_laws.proofs.Stretches.{mapped}
 use Rattle.stk_type_laws.proofs.Rulings.{held, passed, both_false, not_broken, same_fact}
 use Rattle.stk_type_laws.proofs.Names.{World, typing, in_force}
@@ -75,24 +76,5 @@ called_form w ls own k g o f ts e n same = by (name_in g) e same
         ap (option_and_then (λ (z : Span). (typing w).signature_at z)) same ∙ named_at (find_local (text_of w.bytes at) ls) (find (text_of w.bytes at) w.entries) f m.is
     by None e same = absurd (none_called o f ts e)
 
-same_name : (f : ExprFormTree) → called_form_name f ≡ name_in f
-same_name (s.name at) = refl
-same_name (s.number at) = refl
-same_name (s.character at) = refl
-same_name (s.text parts) = refl
-same_name (s.paren e) = refl
-same_name (s.index a b) = refl
-same_name (s.call e es) = refl
-same_name (s.dot e at) = refl
-same_name (s.arrow e at) = refl
-same_name (s.step op e) = refl
-same_name (s.unary op e) = refl
-same_name (s.size_expression e) = refl
-same_name (s.size_name t) = refl
-same_name (s.cast t e) = refl
-same_name (s.binary op a b) = refl
-same_name (s.choice a b c) = refl
-same_name (s.assign op a b) = refl
-
 pub callee_is : (w : World) (ls : List Local) (own : Option ℕ) (e : ExprTree) (f : SignatureTree) (ts : List Fact) → callee_typed (in_force w ls own) e ≡ Good (Some f) ts → called_signature (typing w) e ≡ Some f
-callee_is w ls own (s.expression n g) f ts e = called_form w ls own n.number g (form_typed (in_force w ls own) n.number g) f ts e (s.expression n g) (same_name g)
+callee_is w ls own (s.expression n g) f ts e = called_form w ls own n.number g (form_typed (in_force w ls own) n.number g) f ts e (s.expression n g) refl

@@ -7,11 +7,11 @@ use Rattle.stk_ctype.specs.Types.{TypeTree, void_type, integer_type, pointer_typ
 use Rattle.stk_ctype.specs.Structs.{Structs, size_of, size_limit, structs_of}
 use Rattle.stk_tree.specs.declared.node.Node.{Node}
 use Rattle.stk_tree.specs.declared.declaration.Storage.{Storage}
-use Rattle.stk_tree.specs.declared.declaration.Storage.TheVariants as storage
 use Rattle.stk_tree.specs.Syntax.{DeclrTree, DeclrTrees, DeclarationTree, InitTree, MaybeInitTree, DimensionTrees}
 use Rattle.stk_tree.specs.Syntax as s
 use Rattle.stk_tree.specs.Nodes.{base_nodes, declarator_nodes, declarators_nodes, declaration_nodes, dimensions_nodes, initialiser_nodes, maybe_initialiser_nodes}
 use Rattle.stk_tree.specs.Placed.{has_name, has_arrays, local_declarators, local_placed, local_storage, is_unbraced, base_placed, some_declarators, declarators_placed}
+use Rattle.stk_tree.specs.Parts.{is_static}
 use Rattle.stk_type_rules.specs.declared.facts.Constancy.TheVariants.{Number}
 use Rattle.stk_type_rules.specs.Facts.{Fact, fact_at, Ruled, Breaks, Fits, declares}
 use Rattle.stk_type_rules.specs.Outcome.{Good, and_then, finish}
@@ -27,11 +27,10 @@ use Rattle.stk_typing.specs.Leaves.{no_leaf}
 use Rattle.stk_typing.specs.Fitting.{takes_braces, fits}
 use Rattle.stk_declarators.specs.Counting.{given_count}
 use Rattle.stk_declarators.specs.Tails.{counted_sizes, are_scalars}
-use Rattle.stk_address_taken.specs.Statements.{is_static as taken_static}
 use Rattle.stk_function_types.specs.Bodies.{Body, with_more, is_in_block}
 use Rattle.stk_function_types.specs.Locals.{local_name, is_refused, is_untyped, own_type, is_local_register, plain_nodes, initial_scope, initial_typed, refused_initial, by_initial, initial_rule, complete_rule, local_rule, lacks_size, declared_rule, own_local, local_by, local_sized, local_declared, locals_declared, declaration_typed}
 use Rattle.stk_meaning.specs.Typings.{Typing, is_array}
-use Rattle.stk_meaning.specs.Visits.{at_declarator, Visits, both_visits, one_visit, is_static, tail_visits, initial_visits, declarator_visits, declarators_visits, declaration_visits}
+use Rattle.stk_meaning.specs.Visits.{at_declarator, Visits, both_visits, one_visit, tail_visits, initial_visits, declarator_visits, declarators_visits, declaration_visits}
 use Rattle.stk_run_laws.specs.Visits.{EachVisit}
 use Rattle.stk_run_laws.specs.TypedTree.{HasTypeOf, IsTypedDeclarator}
 use Rattle.stk_type_laws.proofs.Stretches.{Counts, counts_then, counts_own, counts_given, counts_mapped, Stand, first_stands, rest_stands, last_stands, finished, steps, given, mapped}
@@ -112,8 +111,8 @@ declarators_of word b ds e =
 
 pub declaration_count : (b : Body) (d : DeclarationTree) → local_placed d ≡ true → Counts (declaration_typed b d) (declaration_nodes d)
 declaration_count b (s.declaration word specifiers ds) placed =
-    counts_then (base_typed b.scope specifiers) (λ x. locals_declared b (taken_static word) x.ty ds) (base_nodes specifiers) (declarators_nodes ds) (base_nodes specifiers + declarators_nodes ds) refl
-    (base_count specifiers b.scope) (λ x. locals_count b (taken_static word) x.ty ds (declarators_of word specifiers ds placed))
+    counts_then (base_typed b.scope specifiers) (λ x. locals_declared b (is_static word) x.ty ds) (base_nodes specifiers) (declarators_nodes ds) (base_nodes specifiers + declarators_nodes ds) refl
+    (base_count specifiers b.scope) (λ x. locals_count b (is_static word) x.ty ds (declarators_of word specifiers ds placed))
 
 -- ---- what a local's rule tells
 
@@ -331,17 +330,10 @@ locals_known w (s.then_declarator d ds) static n ls a t new ts placed declared e
     let q = locals_known w ds static (n + declarator_nodes d) (ls ++ o.value) a t m.value o.rest well.rest (declared_append w ls o.value declared p.declared) m.gives stand_b from.1 (part_right va vb part) in
     record { declared = subst (AreDeclared w) m.is (declared_append w o.value m.value p.declared q.declared); visits = (p.visits, q.visits) }
 
-same_static : (word : Option Storage) → taken_static word ≡ is_static word
-same_static None = refl
-same_static (Some storage.Typedef) = refl
-same_static (Some storage.Extern) = refl
-same_static (Some storage.Static) = refl
-
 pub declaration_known : (w : World) (d : DeclarationTree) (n : ℕ) (ls : List Local) (a : Around) (new : List Local) (ts : List Fact) → local_placed d ≡ true → AreDeclared w ls
     → declaration_typed (body_in w ls a) d ≡ Good new ts → Stand w.facts n ts → declaration_from n d → Part (declaration_visits (typing w) d) w.whole → LocalKnown w (declaration_visits (typing w) d) new
 declaration_known w (s.declaration word specifiers ds) n ls a new ts placed declared eq stand from part =
     let b = body_in w ls a in
-    let o = steps (base_typed (in_force w ls None) specifiers) (λ x. locals_declared b (taken_static word) x.ty ds) new ts eq in
+    let o = steps (base_typed (in_force w ls None) specifiers) (λ x. locals_declared b (is_static word) x.ty ds) new ts eq in
     let stand_b = rest_stands w.facts n (base_nodes specifiers) ts o.first o.rest o.all ((base_count specifiers (in_force w ls None)).by o.value o.first o.gives) stand in
-    let typed : locals_declared b (is_static word) o.value.ty ds ≡ Good new o.rest = subst (λ z. locals_declared b z o.value.ty ds ≡ Good new o.rest) (same_static word) o.then in
-    locals_known w ds (is_static word) (n + base_nodes specifiers) ls a o.value.ty new o.rest (declarators_of word specifiers ds placed) declared typed stand_b from part
+    locals_known w ds (is_static word) (n + base_nodes specifiers) ls a o.value.ty new o.rest (declarators_of word specifiers ds placed) declared o.then stand_b from part

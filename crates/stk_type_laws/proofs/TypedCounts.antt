@@ -5,6 +5,7 @@ use Rattle.stk_ctype.specs.Types.{SignatureTree}
 use Rattle.stk_tree.specs.Syntax.{BaseTree, DimensionTree, DimensionTrees, TypeNameTree, ExprTree, ExprTrees, ExprFormTree}
 use Rattle.stk_tree.specs.Syntax as s
 use Rattle.stk_tree.specs.Nodes.{base_nodes, dimension_nodes, dimensions_nodes, type_name_nodes, expression_nodes, expressions_nodes, expression_form_nodes}
+use Rattle.stk_tree.specs.Parts.{name_in}
 use Rattle.stk_type_rules.specs.Facts.{Fact}
 use Rattle.stk_type_rules.specs.Outcome.{finish}
 use Rattle.stk_type_rules.specs.Rules.{paren_rule, dot_rule, arrow_rule, step_rule, unary_rule, index_rule, binary_rule, assign_rule, size_rule, type_size_rule, cast_rule, choice_rule}
@@ -13,7 +14,7 @@ use Rattle.stk_typing.specs.declared.arrays.Size.TheVariants.{Open, Sized}
 use Rattle.stk_typing.specs.Scope.{Scope, unevaluated, callee_rule, signature_named}
 use Rattle.stk_typing.specs.Arrays.{starred, sized_type}
 use Rattle.stk_typing.specs.Forms.{structs_in}
-use Rattle.stk_typing.specs.Calls.{call_rule, name_in, callee_by}
+use Rattle.stk_typing.specs.Calls.{call_rule, callee_by}
 use Rattle.stk_typing.specs.Typing.{base_typed, expression_typed, form_typed, callee_typed, arguments_typed, type_name_typed, dimension_typed, dimensions_typed}
 use Rattle.stk_type_laws.proofs.Stretches.{Counts, counts_own, counts_given, counts_refused, counts_one, counts_two, counts_three, counts_mapped, counts_joined, Ends, ends_own, ends_one, ends_two, ends_three}
 

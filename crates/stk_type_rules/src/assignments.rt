@@ -11,12 +11,11 @@ ghost use Rattle.stk_type_rules.specs.Rules.{assigned, unmoved, unstepped, step_
 
 use crate::types::{is_scalar, kind_of, reads_scalar, stride};
 use crate::{Broken, NodeFact};
-use std::alloc::Global;
 use stk_ctype::{CType, Names};
 use stk_tree::AssignOp;
 
 // What is assigned to, where no rule refuses the operands.
-fn assigned(alloc: Global, refused: Option<u8>, x: &NodeFact) -> Result<NodeFact, Broken>
+fn assigned(refused: Option<u8>, x: &NodeFact) -> Result<NodeFact, Broken>
     ensures fact { MakesFact (assigned refused (fact_of x.now)) result }
     ensures sound { (structs : Structs) → IsSound structs (type_of x.now.ty) → IfOk result (λ f. IsSound structs (type_of f.ty)) }
 {
@@ -26,7 +25,7 @@ fn assigned(alloc: Global, refused: Option<u8>, x: &NodeFact) -> Result<NodeFact
     if !x.lvalue {
         return Err(Broken::Rule(7));
     }
-    let ty = x.ty.copy(alloc)?;
+    let ty = x.ty.copy()?;
     Ok(NodeFact::value(ty))
 }
 
@@ -54,13 +53,13 @@ fn unstepped(names: &Names, ty: &CType) -> Option<u8>
 
 /// `++` and `--`, before and behind an lvalue of scalar type (C11 6.5.2.4, 6.5.3.1). Rule 4 refuses a pointer to an
 /// incomplete type other than `void`, rule 6 what is no scalar, rule 7 what is no lvalue.
-pub fn step_rule(alloc: Global, names: &Names, x: &NodeFact) -> Result<NodeFact, Broken>
+pub fn step_rule(names: &Names, x: &NodeFact) -> Result<NodeFact, Broken>
     requires { IsSound (structs_of names.now) (type_of x.now.ty) }
     ensures fact { MakesFact (step_rule (structs_of names.now) (fact_of x.now)) result }
     ensures sound { IfOk result (λ f. IsSound (structs_of names.now) (type_of f.ty)) }
 {
     let refused = unstepped(names, &x.ty);
-    assigned(alloc, refused, x)
+    assigned(refused, x)
 }
 
 // Whether an operator adds or subtracts.
@@ -145,7 +144,6 @@ fn assign_refused(names: &Names, op: AssignOp, x: &NodeFact, y: &NodeFact) -> Op
 /// operand is an integer, and the left one an integer too, or a pointer for `+=` and `-=`. Rule 4 refuses a pointer to
 /// an incomplete type other than `void` in these, rule 6 any other operands, rule 7 what is no lvalue.
 pub fn assign_rule(
-    alloc: Global,
     names: &Names,
     op: AssignOp,
     x: &NodeFact,
@@ -156,5 +154,5 @@ pub fn assign_rule(
     ensures sound { IfOk result (λ f. IsSound (structs_of names.now) (type_of f.ty)) }
 {
     let refused = assign_refused(names, op, x, y);
-    assigned(alloc, refused, x)
+    assigned(refused, x)
 }

@@ -108,7 +108,7 @@ pub(crate) fn pointer_to(alloc: Global, ty: &CType) -> Result<CType, NoMemory>
     ensures is { IfOk result (λ p. type_of p ≡ pointer_type (type_of ty.now)) }
     ensures sound { (structs : Structs) → IsSound structs (type_of ty.now) → IfOk result (λ t. IsSound structs (type_of t)) }
 {
-    let target = ty.copy(alloc)?;
+    let target = ty.copy()?;
     Ok(CType::Pointer(SharedType::new(alloc, target)?))
 }
 
@@ -123,7 +123,7 @@ pub(crate) fn decayed(alloc: Global, ty: &CType) -> Result<CType, NoMemory>
             Ok(pointer)
         }
         CType::Void | CType::Int(_) | CType::Pointer(_) | CType::Struct(_) | CType::Function(_) => {
-            let same = ty.copy(alloc)?;
+            let same = ty.copy()?;
             Ok(same)
         }
     }

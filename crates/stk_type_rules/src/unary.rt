@@ -20,11 +20,11 @@ use stk_numbers::promote;
 use stk_tree::UnaryOp;
 
 /// `( e )`: as the expression in it, but that it is no name and has no number by itself.
-pub fn paren_rule(alloc: Global, x: &NodeFact) -> Result<NodeFact, Broken>
+pub fn paren_rule(x: &NodeFact) -> Result<NodeFact, Broken>
     ensures fact { MakesFact (paren_rule (fact_of x.now)) result }
     ensures sound { (structs : Structs) → IsSound structs (type_of x.now.ty) → IfOk result (λ f. IsSound structs (type_of f.ty)) }
 {
-    let ty = x.ty.copy(alloc)?;
+    let ty = x.ty.copy()?;
     Ok(NodeFact {
         role: x.role,
         ty,
@@ -126,7 +126,7 @@ pub fn unary_rule(
 {
     match op {
         UnaryOp::Address => address(alloc, x),
-        UnaryOp::Deref => pointed(alloc, names, &x.ty),
+        UnaryOp::Deref => pointed(names, &x.ty),
         UnaryOp::Plus => plus(x),
         UnaryOp::Minus => minus(x),
         UnaryOp::Flip => flip(x),
@@ -168,11 +168,11 @@ fn is_zero(x: Constancy) -> bool
 }
 
 // A scalar as a value of a scalar type; of any other type, a value of it.
-fn cast_to(alloc: Global, ty: &CType, constancy: Constancy) -> Result<NodeFact, Broken>
+fn cast_to(ty: &CType, constancy: Constancy) -> Result<NodeFact, Broken>
     ensures fact { MakesFact (Fits (cast_to (type_of ty.now) constancy)) result }
     ensures sound { (structs : Structs) → IsSound structs (type_of ty.now) → IfOk result (λ f. IsSound structs (type_of f.ty)) }
 {
-    let mut fact = NodeFact::value(ty.copy(alloc)?);
+    let mut fact = NodeFact::value(ty.copy()?);
     match ty {
         CType::Int(kind) => fact.constancy = converted(*kind, constancy),
         CType::Pointer(inner) => fact.is_null = is_void(inner.get()) && is_zero(constancy),
@@ -183,7 +183,7 @@ fn cast_to(alloc: Global, ty: &CType, constancy: Constancy) -> Result<NodeFact, 
 
 /// `( type ) e`: a scalar to a scalar type, or anything but a struct to `void` (C11 6.5.4). A constant 0 as `void *` is
 /// a null pointer constant (C11 6.3.2.3p3). Rule 6 refuses any other type or operand, rule 9 a struct to `void`.
-pub fn cast_rule(alloc: Global, ty: &CType, x: &NodeFact) -> Result<NodeFact, Broken>
+pub fn cast_rule(ty: &CType, x: &NodeFact) -> Result<NodeFact, Broken>
     ensures fact { MakesFact (cast_rule (type_of ty.now) (fact_of x.now)) result }
     ensures sound { (structs : Structs) → IsSound structs (type_of ty.now) → IfOk result (λ f. IsSound structs (type_of f.ty)) }
 {
@@ -194,7 +194,7 @@ pub fn cast_rule(alloc: Global, ty: &CType, x: &NodeFact) -> Result<NodeFact, Br
         return Ok(NodeFact::value(CType::Void));
     }
     if is_scalar(ty) && reads_scalar(&x.ty) {
-        cast_to(alloc, ty, x.constancy)
+        cast_to(ty, x.constancy)
     } else {
         Err(Broken::Rule(6))
     }

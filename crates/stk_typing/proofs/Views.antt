@@ -14,13 +14,14 @@ use Rattle.stk_tree.specs.declared.expression.ExprForm.TheVariants as form
 use Rattle.stk_tree.specs.Syntax.{BaseFormTree, DesigTree, DimensionTree, InitTree, TailTree, ExprFormTree, BaseTree, DeclrTree, EnumrTree, ItemTree, MemberTree, ParamTree, TypeNameTree, ExprTree}
 use Rattle.stk_tree.specs.Syntax as s
 use Rattle.stk_tree.specs.View.{base_form_step, designator_step, dimension_step, initialiser_step, tail_step, expression_form_step, base_step, declarator_step, enumerator_step, item_step, member_step, parameter_step, type_name_step, expression_step, expressions, dimensions, view_expression, view_expression_form, view_type_name, view_base, view_dimension}
+use Rattle.stk_tree.specs.Parts.{name_in}
 use Rattle.stk_type_rules.specs.Facts.{Fact}
 use Rattle.stk_type_rules.specs.Outcome.{Outcome, Good, and_then, finish}
 use Rattle.stk_type_rules.specs.Rules.{size_rule, type_size_rule, cast_rule, choice_rule}
 use Rattle.stk_typing.specs.Scope.{Scope, unevaluated}
 use Rattle.stk_typing.specs.declared.arrays.Size.TheVariants.{Sized}
 use Rattle.stk_typing.specs.Arrays.{starred, sized_type}
-use Rattle.stk_typing.specs.Calls.{call_rule, name_in, callee_by}
+use Rattle.stk_typing.specs.Calls.{call_rule, callee_by}
 use Rattle.stk_typing.specs.Forms.{structs_in, single_rule, pair_rule}
 use Rattle.stk_typing.specs.Typing.{base_typed, expression_typed, form_typed, callee_typed, arguments_typed, type_name_typed, dimension_typed, dimensions_typed}
 

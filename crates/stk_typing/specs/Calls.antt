@@ -3,8 +3,6 @@ use Rattle.std.specs.Prelude.{ℕ, ◌≡◌, ◌+◌, Bool, true, false, not, �
 use Rattle.stk_base.specs.declared.span.Span.{Span}
 use Rattle.stk_base.specs.Text.{text_of}
 use Rattle.stk_ctype.specs.Types.{SignatureTree, signature, TypeTrees, no_types, then_type}
-use Rattle.stk_tree.specs.Syntax.{ExprFormTree}
-use Rattle.stk_tree.specs.Syntax as s
 use Rattle.stk_type_rules.specs.Facts.{Fact, Ruled, Breaks, Fits, value}
 use Rattle.stk_type_rules.specs.Outcome.{Outcome, Good, and_then, finish}
 use Rattle.stk_type_rules.specs.Types.{decayed, is_scalar, is_struct}
@@ -74,11 +72,6 @@ called (Some f) xs = call_result f xs
 -- a call: each argument fits its parameter
 abbrev pub call_rule : Option SignatureTree → List Fact → Ruled
 call_rule f xs = if have_misfit (parameters_in f) xs then Breaks 6 else called f xs
-
--- the name that an expression is
-abbrev pub name_in : ExprFormTree → Option Span
-name_in (s.name at) = Some at
-name_in other = None
 
 -- what is called: a name, or any other expression, typed as itself, which is no function
 abbrev pub callee_by : Scope → ℕ → Option Span → Outcome Fact → Outcome (Option SignatureTree)

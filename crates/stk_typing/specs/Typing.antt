@@ -4,6 +4,7 @@ use Rattle.std.specs.Prelude.{ℕ, List, [], ◌∷◌}
 use Rattle.stk_base.specs.Text.{text_of}
 use Rattle.stk_tree.specs.Syntax.{BaseTree, base, DimensionTree, DimensionTrees, TypeNameTree, ExprTree, ExprTrees, ExprFormTree}
 use Rattle.stk_tree.specs.Syntax as s
+use Rattle.stk_tree.specs.Parts.{name_in}
 use Rattle.stk_type_rules.specs.Facts.{Fact}
 use Rattle.stk_type_rules.specs.Outcome.{Outcome, Good, and_then, finish}
 use Rattle.stk_type_rules.specs.Rules.{paren_rule, dot_rule, arrow_rule, step_rule, unary_rule, index_rule, binary_rule, assign_rule, size_rule, type_size_rule, cast_rule, choice_rule}
@@ -13,7 +14,7 @@ use Rattle.stk_typing.specs.Scope.{Scope, unevaluated, name_rule}
 use Rattle.stk_typing.specs.Literals.{number_rule, character_rule, text_rule}
 use Rattle.stk_typing.specs.Bases.{base_rule}
 use Rattle.stk_typing.specs.Arrays.{starred, sized_type}
-use Rattle.stk_typing.specs.Calls.{call_rule, name_in, callee_by}
+use Rattle.stk_typing.specs.Calls.{call_rule, callee_by}
 use Rattle.stk_typing.specs.Forms.{structs_in}
 use Rattle.stk_ctype.specs.Types.{SignatureTree}
 use Rattle.std.specs.Prelude.{Option}

@@ -13,7 +13,6 @@ ghost use Rattle.stk_typing.specs.Specifiers.{basic_type};
 ghost use Rattle.stk_typing.specs.Bases.{words_rule, struct_rule, enum_rule, typedef_rule, base_rule};
 
 use crate::specifiers::basic_type;
-use std::alloc::Global;
 use stk_ctype::{CType, IntKind, Names, Symbol, Tag};
 use stk_tree::{BaseForm, Fixed};
 use stk_type_rules::{Broken, NodeFact};
@@ -54,21 +53,21 @@ fn enum_rule(tag: Option<Tag>) -> Result<NodeFact, Broken>
 }
 
 // A type, named.
-fn named(alloc: Global, ty: &CType) -> Result<NodeFact, Broken>
+fn named(ty: &CType) -> Result<NodeFact, Broken>
     ensures fact { MakesFact (Fits (names_type (type_of ty.now))) result }
     ensures sound { (structs : Structs) → IsSound structs (type_of ty.now) → IfOk result (λ f. IsSound structs (type_of f.ty)) }
 {
-    let ty = ty.copy(alloc)?;
+    let ty = ty.copy()?;
     Ok(NodeFact::names_type(ty))
 }
 
 // A typedef name.
-fn typedef_rule(alloc: Global, symbol: Option<&Symbol>) -> Result<NodeFact, Broken>
+fn typedef_rule(symbol: Option<&Symbol>) -> Result<NodeFact, Broken>
     ensures fact { MakesFact (typedef_rule (option_copied symbol.entry)) result }
     ensures sound { (structs : Structs) → IfSome (option_copied symbol.entry) (IsSoundSymbol structs) → IfOk result (λ f. IsSound structs (type_of f.ty)) }
 {
     match symbol {
-        Some(Symbol::TypeDef(ty)) => named(alloc, ty),
+        Some(Symbol::TypeDef(ty)) => named(ty),
         Some(Symbol::Object(_)) | Some(Symbol::Function(_)) | Some(Symbol::Enumerator(_)) | None =>
             { Err(Broken::Rule(1)) }
     }
@@ -76,12 +75,7 @@ fn typedef_rule(alloc: Global, symbol: Option<&Symbol>) -> Result<NodeFact, Brok
 
 /// The type that a base without braces names (C11 6.7.2). Rule 1 refuses a tag that isn't declared, rule 2 words that
 /// name no type, rule 17 a tag of another kind. A base with braces stands in no type name, and rule 1 refuses it here.
-pub fn base_rule(
-    alloc: Global,
-    bytes: &[u8],
-    names: &Names,
-    form: &BaseForm,
-) -> Result<NodeFact, Broken>
+pub fn base_rule(bytes: &[u8], names: &Names, form: &BaseForm) -> Result<NodeFact, Broken>
     ensures fact { MakesFact (base_rule bytes.now names.now (view_base_form form.now)) result }
     ensures sound { IfOk result (λ f. IsSound (structs_of names.now) (type_of f.ty)) }
 {
@@ -89,7 +83,7 @@ pub fn base_rule(
         BaseForm::Words(words) => words_rule(words.as_slice()),
         BaseForm::StructRef(tag) => struct_rule(names.tag(tag.text(bytes))),
         BaseForm::EnumRef(tag) => enum_rule(names.tag(tag.text(bytes))),
-        BaseForm::Named(at) => typedef_rule(alloc, names.find(at.text(bytes))),
+        BaseForm::Named(at) => typedef_rule(names.find(at.text(bytes))),
         BaseForm::StructDef(_, _) | BaseForm::EnumDef(_, _, _) => Err(Broken::Rule(1)),
     }
 }

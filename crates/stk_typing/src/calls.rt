@@ -9,7 +9,6 @@ ghost use Rattle.stk_type_rules.specs.Facts.{Fact, fact_of};
 ghost use Rattle.stk_type_rules.specs.Outcome.{MakesFact};
 ghost use Rattle.stk_typing.specs.Calls.{AreArguments, begin_with_struct, behind_first, call_result, call_rule, misfits, parameters_in, takes, with_behind};
 
-use std::alloc::Global;
 use stk_ctype::{CType, Signature};
 use stk_type_rules::{Broken, NodeFact, is_struct, reads_scalar};
 
@@ -97,7 +96,7 @@ fn takes(more: bool, parameters: usize, arguments: usize) -> bool
 
 // The value of a call of a function.
 #[tactic(auto, using(crate::proofs::Signatures::count_row))]
-fn call_result(alloc: Global, f: &Signature, a: Arguments) -> Result<NodeFact, Broken>
+fn call_result(f: &Signature, a: Arguments) -> Result<NodeFact, Broken>
     ensures fact { (xs : List Fact) → AreArguments (parameters_in (Some (signature_of f.now))) xs a → MakesFact (call_result (signature_of f.now) xs) result }
     ensures sound { (structs : Structs) → IsSoundSignature structs (signature_of f.now) → IfOk result (λ x. IsSound structs (type_of x.ty)) }
 {
@@ -107,18 +106,14 @@ fn call_result(alloc: Global, f: &Signature, a: Arguments) -> Result<NodeFact, B
     if is_struct(&f.result) || a.has_struct {
         return Err(Broken::Rule(9));
     }
-    let ty = f.result.copy(alloc)?;
+    let ty = f.result.copy()?;
     Ok(NodeFact::value(ty))
 }
 
 /// A call (C11 6.5.2.2), of a function or of what is none, with these arguments. Rule 6 refuses an argument that is
 /// neither a scalar nor a struct and a scalar for a parameter that is a struct, rule 8 what is no function and a wrong
 /// number of arguments, rule 9 a struct as an argument or as the result.
-pub(crate) fn call_rule(
-    alloc: Global,
-    f: Option<&Signature>,
-    a: Arguments,
-) -> Result<NodeFact, Broken>
+pub(crate) fn call_rule(f: Option<&Signature>, a: Arguments) -> Result<NodeFact, Broken>
     ensures fact { (xs : List Fact) → AreArguments (parameters_in (option_map signature_of (option_copied f.entry))) xs a → MakesFact (call_rule (option_map signature_of (option_copied f.entry)) xs) result }
     ensures sound { (structs : Structs) → IfSome (option_copied f.entry) (λ g. IsSoundSignature structs (signature_of g)) → IfOk result (λ x. IsSound structs (type_of x.ty)) }
 {
@@ -127,6 +122,6 @@ pub(crate) fn call_rule(
     }
     match f {
         None => Err(Broken::Rule(8)),
-        Some(signature) => call_result(alloc, signature, a),
+        Some(signature) => call_result(signature, a),
     }
 }

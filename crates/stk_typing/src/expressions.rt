@@ -5,11 +5,11 @@ ghost use Rattle.std.specs.Option.{option_map, option_copied};
 ghost use Rattle.stk_ctype.specs.Types.{row_of, signature_of, type_of};
 ghost use Rattle.stk_ctype.specs.Structs.{structs_of};
 ghost use Rattle.stk_ctype.specs.Sound.{IsSoundSignature};
-ghost use Rattle.stk_tree.specs.View.{view_expression, view_type_name, view_base, view_dimension, view_expression_form, expressions, dimensions};
+ghost use Rattle.stk_tree.specs.View.{view_expression, view_type_name, view_base, view_dimension, expressions, dimensions};
 ghost use Rattle.stk_type_rules.specs.Facts.{AreSoundFacts, fact_of};
 ghost use Rattle.stk_type_rules.specs.Outcome.{Gives, IsAt};
 ghost use Rattle.stk_typing.specs.Scope.{IsSoundScope, scope_of, unevaluated};
-ghost use Rattle.stk_typing.specs.Calls.{AreArguments, name_in};
+ghost use Rattle.stk_typing.specs.Calls.{AreArguments};
 ghost use Rattle.stk_typing.specs.Typing.{expression_typed, callee_typed, arguments_typed, type_name_typed, dimension_typed, dimensions_typed, base_typed};
 
 use crate::calls::{Arguments, begin_with_struct, behind_first, parameters_in};
@@ -19,7 +19,6 @@ use crate::leaves::{
 };
 use crate::scope::signature_of_name;
 use crate::{Scoped, Size};
-use stk_base::Span;
 use stk_ctype::{CType, Signature};
 use stk_tree::{Base, Dimension, Expr, ExprForm, TypeName};
 use stk_type_rules::{NodeFact, Untyped, fact};
@@ -86,31 +85,6 @@ pub fn expression(s: &Scoped, facts: &mut Vec<NodeFact>, e: &Expr) -> Result<usi
     }
 }
 
-// The name that a form is.
-fn name_of(form: &ExprForm) -> Option<Span>
-    ensures { result ≡ name_in (view_expression_form form.now) }
-{
-    match form {
-        ExprForm::Name(at) => Some(*at),
-        ExprForm::Number(_)
-        | ExprForm::Character(_)
-        | ExprForm::Text(_)
-        | ExprForm::Paren(_)
-        | ExprForm::Index(_, _)
-        | ExprForm::Call(_, _)
-        | ExprForm::Dot(_, _)
-        | ExprForm::Arrow(_, _)
-        | ExprForm::Step(_, _)
-        | ExprForm::Unary(_, _)
-        | ExprForm::SizeExpr(_)
-        | ExprForm::SizeName(_)
-        | ExprForm::Cast(_, _)
-        | ExprForm::Binary(_, _, _)
-        | ExprForm::Choice(_, _, _)
-        | ExprForm::Assign(_, _, _) => None,
-    }
-}
-
 // What is called: the signature of a function's name, and none of any other expression.
 #[cycle(expression)]
 fn callee<'a>(
@@ -124,7 +98,7 @@ fn callee<'a>(
     ensures sound { OnOk result (AreSoundFacts (structs_of s.now.names.now) (map fact_of facts.new.items)) }
     ensures function { IfOk result (λ r. IfSome (option_copied r) (λ g. IsSoundSignature (structs_of s.now.names.now) (signature_of g))) }
 {
-    match name_of(&e.form) {
+    match e.form.as_name() {
         Some(at) => {
             let _ = by_callee(s, facts, e.node.number, at)?;
             Ok(signature_of_name(s, at.text(s.bytes)))
@@ -162,7 +136,11 @@ fn arguments(
 /// Types a type name (C11 6.7.7): its base, the sizes of its array parts, which aren't evaluated, and itself. The
 /// answer is the place of its own fact, whose type is the one that it names; or the first node that a rule refuses.
 #[cycle(expression)]
-pub fn type_name(s: &Scoped, facts: &mut Vec<NodeFact>, t: &TypeName) -> Result<usize, Untyped>
+pub(crate) fn type_name(
+    s: &Scoped,
+    facts: &mut Vec<NodeFact>,
+    t: &TypeName,
+) -> Result<usize, Untyped>
     requires scope { IsSoundScope (scope_of s.now) }
     requires sound { AreSoundFacts (structs_of s.now.names.now) (map fact_of facts.old.items) }
     ensures gives { Gives (IsAt (map fact_of facts.new.items)) (type_name_typed (scope_of s.now) (view_type_name t.now)) result (map fact_of facts.old.items) (map fact_of facts.new.items) }

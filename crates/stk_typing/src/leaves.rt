@@ -64,10 +64,10 @@ fn single(s: &Scoped, form: &ExprForm, x: &NodeFact) -> Result<NodeFact, Broken>
     ensures sound { IfOk result (λ f. IsSound (structs_of s.now.names.now) (type_of f.ty)) }
 {
     match form {
-        ExprForm::Paren(_) => paren_rule(s.alloc, x),
-        ExprForm::Dot(_, at) => dot_rule(s.alloc, s.names, x, at.text(s.bytes)),
-        ExprForm::Arrow(_, at) => arrow_rule(s.alloc, s.names, x, at.text(s.bytes)),
-        ExprForm::Step(_, _) => step_rule(s.alloc, s.names, x),
+        ExprForm::Paren(_) => paren_rule(x),
+        ExprForm::Dot(_, at) => dot_rule(s.names, x, at.text(s.bytes)),
+        ExprForm::Arrow(_, at) => arrow_rule(s.names, x, at.text(s.bytes)),
+        ExprForm::Step(_, _) => step_rule(s.names, x),
         ExprForm::Unary(op, _) => unary_rule(s.alloc, s.names, *op, x),
         ExprForm::Name(_)
         | ExprForm::Number(_)
@@ -93,9 +93,9 @@ fn pair(s: &Scoped, form: &ExprForm, x: &NodeFact, y: &NodeFact) -> Result<NodeF
     ensures sound { IfOk result (λ f. IsSound (structs_of s.now.names.now) (type_of f.ty)) }
 {
     match form {
-        ExprForm::Index(_, _) => index_rule(s.alloc, s.names, x, y),
+        ExprForm::Index(_, _) => index_rule(s.names, x, y),
         ExprForm::Binary(op, _, _) => binary_rule(s.alloc, s.names, *op, x, y),
-        ExprForm::Assign(op, _, _) => assign_rule(s.alloc, s.names, *op, x, y),
+        ExprForm::Assign(op, _, _) => assign_rule(s.names, *op, x, y),
         ExprForm::Name(_)
         | ExprForm::Number(_)
         | ExprForm::Character(_)
@@ -237,7 +237,7 @@ pub(crate) fn by_cast(
     ensures gives { Gives (IsAt (map fact_of facts.new.items)) (finish k (cast_rule (fact_at (map fact_of facts.old.items) i).ty (fact_at (map fact_of facts.old.items) j))) result (map fact_of facts.old.items) (map fact_of facts.new.items) }
     ensures sound { OnOk result (AreSoundFacts (structs_of s.now.names.now) (map fact_of facts.new.items)) }
 {
-    let made = cast_rule(s.alloc, &fact(facts, i).ty, fact(facts, j));
+    let made = cast_rule(&fact(facts, i).ty, fact(facts, j));
     own(facts, k, made)
 }
 
@@ -255,7 +255,7 @@ pub(crate) fn by_call(
     ensures gives { (xs : List Fact) → AreArguments (parameters_in (option_map signature_of (option_copied f.entry))) xs a → Gives (IsAt (map fact_of facts.new.items)) (finish k (call_rule (option_map signature_of (option_copied f.entry)) xs)) result (map fact_of facts.old.items) (map fact_of facts.new.items) }
     ensures sound { OnOk result (AreSoundFacts (structs_of s.now.names.now) (map fact_of facts.new.items)) }
 {
-    let made = call_rule(s.alloc, f, a);
+    let made = call_rule(f, a);
     own(facts, k, made)
 }
 
@@ -287,7 +287,7 @@ pub(crate) fn by_base(
     ensures gives { Gives (IsAt (map fact_of facts.new.items)) (finish k (base_rule s.now.bytes.now s.now.names.now (view_base_form form.now))) result (map fact_of facts.old.items) (map fact_of facts.new.items) }
     ensures sound { OnOk result (AreSoundFacts (structs_of s.now.names.now) (map fact_of facts.new.items)) }
 {
-    let made = base_rule(s.alloc, s.bytes, s.names, form);
+    let made = base_rule(s.bytes, s.names, form);
     own(facts, k, made)
 }
 
@@ -298,7 +298,7 @@ fn named(s: &Scoped, stars: u32, sizes: &[Size], x: &NodeFact) -> Result<NodeFac
     ensures fact { MakesFact (sized_type (structs_in (scope_of s.now)) sizes.now (starred stars (fact_of x.now).ty)) result }
     ensures sound { IfOk result (λ f. IsSound (structs_of s.now.names.now) (type_of f.ty)) }
 {
-    let ty = starred(s.alloc, stars, x.ty.copy(s.alloc)?)?;
+    let ty = starred(s.alloc, stars, x.ty.copy()?)?;
     sized_type(s.alloc, s.names, sizes, ty)
 }
 

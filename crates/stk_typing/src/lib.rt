@@ -18,7 +18,7 @@ mod specifiers;
 pub use arrays::{Size, declared_type, starred};
 pub use bases::base_rule;
 pub use calls::Arguments;
-pub use expressions::{base, dimensions, expression, type_name, unevaluated};
+pub use expressions::{base, dimensions, expression, unevaluated};
 pub use fitting::{fits, initial_refused};
 pub use initialiser_leaves::Leaves;
 pub use initialisers::initialiser;

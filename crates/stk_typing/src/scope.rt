@@ -37,35 +37,35 @@ fn is_one(one: Option<u32>, node: u32) -> bool
 }
 
 // A local's name.
-fn local_rule(alloc: Global, own: Option<u32>, local: &LocalName) -> Result<NodeFact, Broken>
+fn local_rule(own: Option<u32>, local: &LocalName) -> Result<NodeFact, Broken>
     ensures fact { MakesFact (local_rule own (local_of local.now)) result }
     ensures sound { (structs : Structs) → IsSound structs (type_of local.now.ty) → IfOk result (λ f. IsSound structs (type_of f.ty)) }
 {
     if is_one(own, local.node) {
         return Err(Broken::Rule(1));
     }
-    let ty = local.ty.copy(alloc)?;
+    let ty = local.ty.copy()?;
     let mut fact = NodeFact::place(ty);
     fact.means = Some(local.node);
     Ok(fact)
 }
 
 // An object of file scope.
-fn object(alloc: Global, ty: &CType) -> Result<NodeFact, Broken>
+fn object(ty: &CType) -> Result<NodeFact, Broken>
     ensures fact { MakesFact (Fits (place (type_of ty.now))) result }
     ensures sound { (structs : Structs) → IsSound structs (type_of ty.now) → IfOk result (λ f. IsSound structs (type_of f.ty)) }
 {
-    let ty = ty.copy(alloc)?;
+    let ty = ty.copy()?;
     Ok(NodeFact::place(ty))
 }
 
 // A name of file scope that isn't called.
-fn symbol_rule(alloc: Global, symbol: Option<&Symbol>) -> Result<NodeFact, Broken>
+fn symbol_rule(symbol: Option<&Symbol>) -> Result<NodeFact, Broken>
     ensures fact { MakesFact (symbol_rule (option_copied symbol.entry)) result }
     ensures sound { (structs : Structs) → IfSome (option_copied symbol.entry) (IsSoundSymbol structs) → IfOk result (λ f. IsSound structs (type_of f.ty)) }
 {
     match symbol {
-        Some(Symbol::Object(ty)) => object(alloc, ty),
+        Some(Symbol::Object(ty)) => object(ty),
         Some(Symbol::Enumerator(number)) => {
             Ok(NodeFact::literal(CType::Int(IntKind::Int), *number))
         }
@@ -82,18 +82,18 @@ pub(crate) fn name_rule(s: &Scoped, name: &[u8]) -> Result<NodeFact, Broken>
     ensures sound { IfOk result (λ f. IsSound (structs_of s.now.names.now) (type_of f.ty)) }
 {
     match s.locals.find(name) {
-        Some(local) => local_rule(s.alloc, s.own, local),
-        None => symbol_rule(s.alloc, s.names.find(name)),
+        Some(local) => local_rule(s.own, local),
+        None => symbol_rule(s.names.find(name)),
     }
 }
 
 // A name of file scope that is called.
-fn called_symbol(alloc: Global, symbol: Option<&Symbol>) -> Result<NodeFact, Broken>
+fn called_symbol(symbol: Option<&Symbol>) -> Result<NodeFact, Broken>
     ensures fact { MakesFact (called_symbol (option_copied symbol.entry)) result }
     ensures sound { (structs : Structs) → IfSome (option_copied symbol.entry) (IsSoundSymbol structs) → IfOk result (λ f. IsSound structs (type_of f.ty)) }
 {
     match symbol {
-        Some(Symbol::Object(ty)) => object(alloc, ty),
+        Some(Symbol::Object(ty)) => object(ty),
         Some(Symbol::Enumerator(number)) => {
             Ok(NodeFact::literal(CType::Int(IntKind::Int), *number))
         }
@@ -110,8 +110,8 @@ pub(crate) fn callee_rule(s: &Scoped, name: &[u8]) -> Result<NodeFact, Broken>
     ensures sound { IfOk result (λ f. IsSound (structs_of s.now.names.now) (type_of f.ty)) }
 {
     match s.locals.find(name) {
-        Some(local) => local_rule(s.alloc, s.own, local),
-        None => called_symbol(s.alloc, s.names.find(name)),
+        Some(local) => local_rule(s.own, local),
+        None => called_symbol(s.names.find(name)),
     }
 }
 

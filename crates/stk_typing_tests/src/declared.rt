@@ -39,7 +39,7 @@ fn declarator(
     requires sound { AreSoundFacts (structs_of f.now.names.now) (map fact_of facts.old.items) }
 {
     let i = base(&scope(f.alloc, f.bytes, f.names, locals), facts, b)?;
-    let named = fact(facts, i).ty.copy(f.alloc)?;
+    let named = fact(facts, i).ty.copy()?;
     let ty = starred(f.alloc, d.stars, named)?;
     let t = tail(f, locals, facts, false, &d.tail)?;
     let count = count_for(f, &t, &ty, &d.init)?;
@@ -67,7 +67,7 @@ fn declared_by(
     };
     match declarator(&f, &mut locals, &mut facts, b, d) {
         Ok(at) => match facts.get(at) {
-            Some(fact) => Ok(Ok(fact.ty.copy(alloc)?)),
+            Some(fact) => Ok(Ok(fact.ty.copy()?)),
             None => Ok(Err(0)),
         },
         Err(Untyped::Rule { rule, .. }) => Ok(Err(rule)),

@@ -18,11 +18,11 @@ use Rattle.stk_records.specs.declared.line.Spot.{Spot}
 use Rattle.stk_records.specs.declared.line.Claim.{Claim}
 use Rattle.stk_records.specs.declared.line.Claim.TheVariants.{NeverEntered, AlwaysTrue as IsAlwaysTrue, AlwaysFalse as IsAlwaysFalse, SameAs}
 use Rattle.stk_records.specs.declared.line.Fragment.{Fragment}
-use Rattle.stk_records.specs.declared.line.Input.{Input}
 use Rattle.stk_records.specs.declared.line.StartInputs.{StartInputs}
 use Rattle.stk_records.specs.declared.line.Needed.{Needed}
 use Rattle.stk_records.specs.declared.line.Line.{Line}
 use Rattle.stk_records.specs.declared.line.Line.TheVariants.{Unstable, Undecided}
+use Rattle.stk_records.specs.Text.{inputs_of}
 use Rattle.stk_units.specs.Spots.{spot_at}
 use Rattle.stk_unit_lines.specs.Replaced.{replaced_at}
 
@@ -46,12 +46,7 @@ declarator_name bytes (s.declarator n count None tail init) = []
 abbrev pub fragment_of : Placed → Typing → FunctionTree → Candidate → Fragment
 fragment_of q ty f c = record { at = node_spot q c.node; claim = claim_by ty f c.node c.kind; function = declarator_name q.bytes (head_of f) }
 
--- a start: a number for each key, by the texts of the keys
-abbrev pub inputs_of : List (List ℕ) → List ℤ → List Input
-inputs_of [] xs = []
-inputs_of (k ∷ ks) [] = []
-inputs_of (k ∷ ks) (x ∷ xs) = record { key = k; number = x } ∷ inputs_of ks xs
-
+-- a start
 abbrev pub start_of : List (List ℕ) → Inputs → StartInputs
 start_of keys start = record { inputs = inputs_of keys start.numbers }
 

@@ -3,10 +3,10 @@ use Rattle.std.specs.Prelude.{ℕ, ◌==◌, if◌then◌else◌, List, [], ◌�
 use Rattle.stk_base.specs.declared.span.Span.{Span}
 use Rattle.stk_tree.specs.Syntax.{DeclrTree, ParamTree, ParamTrees, FunctionTree}
 use Rattle.stk_tree.specs.Syntax as s
+use Rattle.stk_tree.specs.Parts.{declared_parameters}
 use Rattle.stk_meaning.specs.Typings.{Typing}
 use Rattle.stk_meaning.specs.Visits.{Visit, at_expression, at_declarator, at_statement, at_section, collected}
 use Rattle.stk_meaning.specs.Keys.{function_visits, head_of, parameter_declarator}
-use Rattle.stk_function_env.specs.Listed.{head_list}
 use Rattle.stk_unit_lines.specs.declared.names.Named.{Named}
 
 -- a declarator with its name
@@ -25,7 +25,7 @@ visit_named (at_section k ls) = []
 
 -- the parameters of a function, and its local objects
 abbrev pub names_of : Typing → FunctionTree → List Named
-names_of ty f = parameters_named (head_list (head_of f)) ++ collected visit_named (function_visits ty f)
+names_of ty f = parameters_named (declared_parameters (head_of f)) ++ collected visit_named (function_visits ty f)
 
 -- the name of the declarator with this node
 abbrev pub name_among : ℕ → List Named → Option Span

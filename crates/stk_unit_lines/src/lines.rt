@@ -6,13 +6,14 @@ ghost use Rattle.stk_base.specs.Causes.{Rose};
 ghost use Rattle.stk_base.specs.Streams.{Appended, AppendedPrefix};
 ghost use Rattle.stk_base.specs.Text.{text_of};
 ghost use Rattle.stk_records.specs.Form.{written_records};
+ghost use Rattle.stk_records.specs.Text.{inputs_of};
 ghost use Rattle.stk_records.specs.declared.line.Line.TheVariants as lines;
 ghost use Rattle.stk_tree.specs.View.{view_declarator, view_function};
 ghost use Rattle.stk_meaning.specs.Keys.{function_visits};
 ghost use Rattle.stk_function_types.specs.Nodes.{typing_in};
 ghost use Rattle.stk_function_types.specs.Visits.{marked_visit, marked_visits};
 ghost use Rattle.stk_unit_lines.specs.Placed.{placed_in};
-ghost use Rattle.stk_unit_lines.specs.Lines.{node_spot, claim_by, declarator_name, fragment_of, inputs_of, start_of, needed_of, finding_lines};
+ghost use Rattle.stk_unit_lines.specs.Lines.{node_spot, claim_by, declarator_name, fragment_of, start_of, needed_of, finding_lines};
 
 use crate::LintedFile;
 use crate::replaced::replaced_at;

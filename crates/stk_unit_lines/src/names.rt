@@ -3,7 +3,6 @@
 ghost use Rattle.std.specs.Prelude.{◌≡◌, ◌++◌, [], ◌∷◌, IfOk, OnOk, map};
 ghost use Rattle.stk_tree.specs.View.{view_declarator, view_parameter, view_function, parameters};
 ghost use Rattle.stk_function_types.specs.Nodes.{typing_in};
-ghost use Rattle.stk_function_env.specs.Listed.{head_list};
 ghost use Rattle.stk_function_types.specs.Visits.{marked_visit};
 ghost use Rattle.stk_function_types.specs.Gathered.{given, gathered};
 ghost use Rattle.stk_unit_lines.specs.Named.{named, parameters_named, visit_named, names_of, name_among};
@@ -11,23 +10,13 @@ ghost use Rattle.stk_unit_lines.specs.Named.{named, parameters_named, visit_name
 use std::alloc::Global;
 use stk_base::{NoMemory, Span};
 use stk_function_types::{FunctionTypes, Visit, VisitForm, function_visits};
-use stk_tree::{Declr, Function, Param, Tail};
+use stk_tree::{Declr, Function, Param};
 
 /// The declarator of a parameter or local object, by the number of its node, with the place of its name.
 #[derive(Clone, Copy, Debug, PartialEq, Eq)]
 pub struct Named {
     pub node: u32,
     pub name: Option<Span>,
-}
-
-// The parameters that a declarator of a function has.
-fn parameters_of(d: &Declr) -> &[Param]
-    ensures { parameters (map view_parameter result.now) ≡ head_list (view_declarator d.now) }
-{
-    match &d.tail {
-        Tail::Params(list, _) => list.as_slice(),
-        Tail::Arrays(_) | Tail::Unspecified | Tail::NoParams => &[],
-    }
 }
 
 // A declarator with its name.
@@ -83,7 +72,7 @@ pub fn names_of(alloc: Global, types: &FunctionTypes, f: &Function) -> Result<Ve
 {
     let visits = function_visits(alloc, types, f)?;
     let mut out = Vec::new(alloc);
-    parameters_named(parameters_of(&f.declr), &mut out)?;
+    parameters_named(f.declr.parameters(), &mut out)?;
     visits_named(visits.as_slice(), &mut out)?;
     Ok(out)
 }

@@ -65,8 +65,8 @@ pub trait UnitVisitor<O, A> {
         requires some { 0 < length unit.now.tokens.now }
         ensures { leaves unit.now.input.now unit.now.tokens.now cause result self.old self.new out.old out.new asked.old asked.new };
 
-    /// Does what is to be done with the function that a unit defines, which is accepted, typed, and of at most 8,000,000
-    /// of weight. The setting is the function's, of the unit's input.
+    /// Does what is to be done with the function that a unit defines, which is accepted, typed, and of at most
+    /// 8,000,000 of weight. The setting is the function's, of the unit's input.
     fn judge(
         &mut self,
         unit: &VisitedUnit,

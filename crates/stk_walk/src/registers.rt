@@ -1,27 +1,17 @@
 //! The register parameters of a function (C11 6.9.1p10).
 
 ghost use Rattle.std.specs.Prelude.{◌≡◌, ◌++◌, [], ◌∷◌, if◌then◌else◌, OnOk, IfOk, map};
-ghost use Rattle.stk_tree.specs.View.{view_declarator, view_function, view_parameter, parameters};
+ghost use Rattle.stk_tree.specs.View.{view_function, view_parameter, parameters};
 ghost use Rattle.stk_meaning.specs.Typings.{declarator_node};
 ghost use Rattle.stk_meaning.specs.Keys.{fits_register, register_parameters};
 ghost use Rattle.stk_function_types.specs.Nodes.{typing_in};
-ghost use Rattle.stk_function_env.specs.Listed.{head_list, parameters_registers};
+ghost use Rattle.stk_function_env.specs.Listed.{parameters_registers};
 
 use std::alloc::Global;
 use stk_base::NoMemory;
 use stk_function_env::fits_register;
 use stk_function_types::FunctionTypes;
-use stk_tree::{Declr, Function, Param, Tail};
-
-// The parameters that a declarator of a function has.
-fn parameters_of(d: &Declr) -> &[Param]
-    ensures { parameters (map view_parameter result.now) ≡ head_list (view_declarator d.now) }
-{
-    match &d.tail {
-        Tail::Params(list, _) => list.as_slice(),
-        Tail::Arrays(_) | Tail::Unspecified | Tail::NoParams => &[],
-    }
-}
+use stk_tree::{Function, Param};
 
 // Notes a declarator, where its object is a register.
 fn note_register(types: &FunctionTypes, node: u32, out: &mut Vec<u32>) -> Result<(), NoMemory>
@@ -56,5 +46,5 @@ pub(crate) fn register_parameters(
 ) -> Result<Vec<u32>, NoMemory>
     ensures { IfOk result (λ out. out.items ≡ map declarator_node (register_parameters (typing_in types.now) (view_function f.now))) }
 {
-    registers_among(alloc, types, parameters_of(&f.declr))
+    registers_among(alloc, types, f.declr.parameters())
 }

@@ -1,4 +1,4 @@
-//! What is looked up of a function, besides what a path run asks.
+//! What is looked up of a function, besides what a run asks.
 
 ghost use Rattle.std.specs.Prelude.{◌≡◌, List};
 ghost use Rattle.stk_tree.specs.View.{view_statement_form};
@@ -7,13 +7,13 @@ ghost use Rattle.stk_walking.specs.Keyed.{key_shown};
 ghost use Rattle.stk_path_runs.specs.Places.{key_place};
 ghost use Rattle.stk_path_runs.specs.Rows.{IsRowOf};
 
-use stk_eval_expr::PathSetting;
+use stk_eval_expr::RunSetting;
 use stk_path_runs::LoopRow;
 use stk_tree::StmtForm;
 use stk_walking::InputKey;
 
-/// A setting of path runs with tables: the keys of the function, the numbers of its nodes, and what its loops change.
-pub(crate) trait TableSetting: PathSetting {
+/// A setting of runs with tables: the keys of the function, the numbers of its nodes, and what its loops change.
+pub(crate) trait TableSetting: RunSetting {
     /// The keys of the function, in order.
     ghost keys: { Self → List KeyInfo };
 

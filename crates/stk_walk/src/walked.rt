@@ -8,15 +8,15 @@ ghost use Rattle.stk_kinded.specs.Keys.{HaveKeyKinds};
 use crate::tables::TableSetting;
 use stk_base::{NoMemory, Span};
 use stk_ctype::CType;
-use stk_eval_expr::{PathSetting, Replacement};
+use stk_eval_expr::{Replacement, RunSetting};
 use stk_numbers::{IntKind, Kinds};
 use stk_operators::{Library, NodeTests, Operation, Operator, Stride, Target, Word};
 use stk_tree::{Expr, StepOp, StmtForm};
 use stk_walking::{InputKey, WalkSetting};
 
-/// A function, as a walk over all branches asks of it: by a setting of its path runs, whose input map is of no use
-/// here. Each of its keys has the kind that its form says, and its place is a number of 32 bits. Its calls take no
-/// memory but for replacements, and constant time where those of the setting do.
+/// A function, as a walk over all branches asks of it: by a setting of its runs. Each of its keys has the kind that its
+/// form says, and its place is a number of 32 bits. Its calls take no memory but for replacements, and constant time
+/// where those of the setting do.
 ///
 /// What it rests on is a parameter, since what it passes on is proved once for whatever that is.
 #[derive(Drop)]
@@ -38,10 +38,8 @@ impl<'a, T: TableSetting> WalkedFunction<'a, T> {
     }
 }
 
-impl<'a, T: TableSetting> PathSetting for WalkedFunction<'a, T> {
+impl<'a, T: TableSetting> RunSetting for WalkedFunction<'a, T> {
     ghost setting = { λ s. T.setting s.path.now };
-
-    ghost inputs = { λ s. T.inputs s.path.now };
 
     ghost knows = { λ s. T.knows s.path.now };
 
@@ -71,22 +69,6 @@ impl<'a, T: TableSetting> PathSetting for WalkedFunction<'a, T> {
 
     fn target_at(&self, node: u32) -> Target {
         self.path.target_at(node)
-    }
-
-    fn address(&self, node: u32) -> u64 {
-        self.path.address(node)
-    }
-
-    fn loaded(&self, node: u32) -> Word {
-        self.path.loaded(node)
-    }
-
-    fn called(&self, node: u32) -> Word {
-        self.path.called(node)
-    }
-
-    fn unset(&self, node: u32) -> Word {
-        self.path.unset(node)
     }
 
     fn operation(&self, op: Operator, left: u32, right: u32) -> Operation {
@@ -135,14 +117,6 @@ impl<'a, T: TableSetting> PathSetting for WalkedFunction<'a, T> {
 
     fn is_number(&self, kind: IntKind, number: Word, node: u32) -> bool {
         self.path.is_number(kind, number, node)
-    }
-
-    fn reset(&self, node: u32, form: &StmtForm, registers: &mut Vec<Word>) {
-        self.path.reset(node, form, registers);
-    }
-
-    fn forget(&self, node: u32, form: &StmtForm, kept: &mut Vec<Option<Word>>) {
-        self.path.forget(node, form, kept);
     }
 }
 

@@ -28,9 +28,8 @@ ghost use Rattle.stk_walking.specs.Costs.{Costs};
 
 use crate::scopes::put_register;
 use stk_base::NoMemory;
-use stk_exec_stmt::is_static;
 use stk_operators::Target;
-use stk_tree::{Declaration, Declr, Expr, Init, Item};
+use stk_tree::{Declaration, Declr, Expr, Init, Item, is_static};
 use stk_values::Values;
 use stk_walking::{
     ExpressionWalk, InputKey, WalkSetting, WalkState, input_value, remove_cell, remove_cells,

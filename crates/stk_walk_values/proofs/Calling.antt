@@ -43,7 +43,7 @@ set_first l (suc (suc n)) xs x h e = h
 pub called_leads : {V : Type 0} (f1 f2 : IntKind → V → ℤ → Type 0) (g : Setting) (inputs : InputMap) (k : ℕ) (callee : ExprTree) (es : ExprTrees) (library : Option Library) (xs : List ℤ) (never : Bool) (s0 : Standing) (w2 : WalkState V) (shown : ℤ → Type 0) →
     never ≡ never_returns (called_signature g.typing callee) → library ≡ called_library g.typing callee →
     Leads f2 g shown (if never then Cut [] else returned (path_world inputs) k (result_in (called_signature g.typing callee)) library xs s0.numbers s0.kept) (added (breaks g k true (s.call callee es) (get_or xs 0 (pos 0)) (get_or xs 1 (pos 0)) (get_or xs 2 (pos 0))) s0) w2 →
-    Leads f2 g shown (call_end g inputs k callee es xs s0.numbers s0.kept) s0 w2
+    Leads f2 g shown (call_end g (path_world inputs) k callee es xs s0.numbers s0.kept) s0 w2
 called_leads f1 f2 g inputs k callee es library xs never s0 w2 shown is same a =
     let f = called_signature g.typing callee in
     let t = breaks g k true (s.call callee es) (get_or xs 0 (pos 0)) (get_or xs 1 (pos 0)) (get_or xs 2 (pos 0)) in

@@ -16,7 +16,7 @@ use Rattle.stk_walking.specs.ExpressionEvents.{ExpressionEvents, indexed_events}
 
 -- the value of a place, by its address
 pub placed_as : (g : Setting) (i : InputMap) (target : Target) (k : ℕ) (place : Bool → List ℤ → KeptNumbers → Ran ℕ KeptNumbers) (r : List ℤ) (m : KeptNumbers) →
-    and_then (place (not (is_array (g.typing.type_at k))) r m) (λ a. place_end g i k target a) ≡ place_value (path_world i) target k (g.typing.type_at k) place r m
+    and_then (place (not (is_array (g.typing.type_at k))) r m) (λ a. place_end g (path_world i) k target a) ≡ place_value (path_world i) target k (g.typing.type_at k) place r m
 placed_as g i target k place r m = by (is_array t)
   where
     t : TypeTree

@@ -9,7 +9,8 @@ use Rattle.stk_numbers.specs.declared.operators.ArithOp.{ArithOp}
 use Rattle.stk_type_rules.specs.Types.{kind_of}
 use Rattle.stk_tree.specs.Syntax.{ExprTree, ExprFormTree}
 use Rattle.stk_tree.specs.Syntax as s
-use Rattle.stk_meaning.specs.Typings.{Typing, number_kind, stride_in, type_in, converted, node_of, bare}
+use Rattle.stk_tree.specs.Parts.{bare}
+use Rattle.stk_meaning.specs.Typings.{Typing, number_kind, stride_in, type_in, converted, node_of}
 use Rattle.stk_meaning.specs.Operations.{Operator, arithmetic, shifting, comparing, arithmetic_of, operation_of, step_operator, step_operation, Operation, operated, gives_old}
 use Rattle.stk_meaning.specs.Places.{Setting, Target, target_of}
 use Rattle.stk_meaning.specs.Worlds.{Ran, after}
@@ -60,7 +61,7 @@ pub compound_leads : {V : Type 0} (f1 f2 : IntKind → V → ℤ → Type 0) (g 
     (a : Leads f1 g shown1 (number_in (path_world inputs) (target_of g left) (node_of (bare left)) (number_kind (type_in g.typing left)) place s0.numbers s0.kept) s0 w1) →
     ((z : ℤ) → Leads f2 g (λ n. n ≡ z) (after (breaks g k true f a.number y (pos 0)) (stored_at (path_world inputs) (target_of g left) (number_kind (type_in g.typing left)) place (converted (type_in g.typing left) (operated o a.number y)) z a.standing.numbers a.standing.kept)) a.standing w2) →
     shown2 (converted (type_in g.typing left) (operated o a.number y)) →
-    Leads f2 g shown2 (compound_end g inputs k f o left y place s0.numbers s0.kept) s0 w2
+    Leads f2 g shown2 (compound_end g (path_world inputs) k f o left y place s0.numbers s0.kept) s0 w2
 compound_leads f1 f2 g inputs k f o left y place s0 w1 w2 shown1 shown2 a b shown =
     let t = type_in g.typing left in
     let w = path_world inputs in
@@ -74,7 +75,7 @@ pub stepped_leads : {V : Type 0} (f1 f2 : IntKind → V → ℤ → Type 0) (g :
     (a : Leads f1 g shown1 (number_in (path_world inputs) (target_of g e) (node_of (bare e)) (number_kind (type_in g.typing e)) place s0.numbers s0.kept) s0 w1) →
     ((z : ℤ) → Leads f2 g (λ n. n ≡ z) (after (breaks g k true (s.step op e) a.number (pos 1) (pos 0)) (stored_at (path_world inputs) (target_of g e) (number_kind (type_in g.typing e)) place (converted (type_in g.typing e) (operated o a.number (pos 1))) z a.standing.numbers a.standing.kept)) a.standing w2) →
     shown2 (if gives_old op then a.number else converted (type_in g.typing e) (operated o a.number (pos 1))) →
-    Leads f2 g shown2 (step_end g inputs k op e place s0.numbers s0.kept) s0 w2
+    Leads f2 g shown2 (step_end g (path_world inputs) k op e place s0.numbers s0.kept) s0 w2
 stepped_leads f1 f2 g inputs k op o e place s0 w1 w2 shown1 shown2 same a b shown =
     let t = type_in g.typing e in
     let w = path_world inputs in

@@ -7,9 +7,10 @@ ghost use Rattle.stk_tree.specs.Syntax.{ExprFormTree};
 ghost use Rattle.stk_tree.specs.Syntax as s;
 ghost use Rattle.stk_tree.specs.View.{view_expression};
 ghost use Rattle.stk_tree.specs.declared.expression.UnaryOp.TheVariants as unary;
+ghost use Rattle.stk_tree.specs.Parts.{bare};
 ghost use Rattle.stk_numbers.specs.Kinds.{promote, wrap, width_of};
 ghost use Rattle.stk_numbers.specs.declared.operators.ArithOp.TheVariants.{Sub};
-ghost use Rattle.stk_meaning.specs.Typings.{Typing, type_in, number_kind, node_of, bare};
+ghost use Rattle.stk_meaning.specs.Typings.{Typing, type_in, number_kind, node_of};
 ghost use Rattle.stk_meaning.specs.Operations.{operation_of, operation_tests, operated, in_kind, comparing, truth, bit};
 ghost use Rattle.stk_meaning.specs.Conditions.{form_tests};
 ghost use Rattle.stk_meaning.specs.Replacements.{Replaced, replacement};
@@ -36,7 +37,7 @@ ghost use Rattle.stk_walking.specs.Costs.{Costs};
 use crate::sides::Sides;
 use crate::steps::{check_one, check_two};
 use stk_base::NoMemory;
-use stk_eval_expr::{Replacement, bare, is_comparison, node_of};
+use stk_eval_expr::{Replacement, is_comparison, node_of};
 use stk_numbers::{CompareOp, IntKind, promote};
 use stk_operators::{NodeTests, Operation, Operator};
 use stk_tree::Expr;
@@ -183,7 +184,7 @@ pub(crate) fn seen_test<O: WalkSetting, V: Values>(
     ensures cost { OnOk result (Costs V.cost (length (O.setting out.now).kept) (tested_charge (kind_in (O.setting out.now).typing (view_expression e.now))) values.old values.new (length state.old.cells.items) (length state.new.cells.items)) }
 {
     let test = is_true(values, out.kind_at(node_of(e)), value)?;
-    let inner = bare(e);
+    let inner = e.bare();
     if is_comparison(inner) {
         return Ok(test);
     }

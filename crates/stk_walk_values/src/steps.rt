@@ -408,7 +408,7 @@ pub(crate) fn place_number<O: WalkSetting, V: Values>(
     requires suits { Suits (O.setting out.now) (target_shown target) (number_kind ((O.setting out.now).typing.type_at node)) }
     requires address { V.made values.old ULong address }
     requires ready { IsReady V.has_key V.made (O.kinds out.now) (O.setting out.now) values.old state.old }
-    ensures walks { IfOk result (λ v. (a : ℕ) → WalksBehind V.serves V.has_key V.made V.shows (O.setting out.now) (λ m. V.shows values.old m ULong address (pos a)) (number_kind ((O.setting out.now).typing.type_at node)) v (λ m. place_end (O.setting out.now) (O.under out.now m) node (target_shown target) a) [] values.old values.new state.old state.new) }
+    ensures walks { IfOk result (λ v. (a : ℕ) → WalksBehind V.serves V.has_key V.made V.shows (O.setting out.now) (λ m. V.shows values.old m ULong address (pos a)) (number_kind ((O.setting out.now).typing.type_at node)) v (λ m. place_end (O.setting out.now) (path_world (O.under out.now m)) node (target_shown target) a) [] values.old values.new state.old state.new) }
     ensures cost { OnOk result (Costs V.cost (length (O.setting out.now).kept) (read_charge (target_shown target) (number_kind ((O.setting out.now).typing.type_at node))) values.old values.new (length state.old.cells.items) (length state.new.cells.items)) }
 {
     if out.is_array_at(node) {

@@ -3,7 +3,8 @@
 ghost use Rattle.std.specs.Prelude.{◌≡◌, ℤ, ℕ, ◌++◌, pos, List, true, if◌then◌else◌, IfOk, OnOk, ◌+◌, ◌≤◌, length};
 ghost use Rattle.stk_tree.specs.Syntax.{ExprFormTree, step};
 ghost use Rattle.stk_tree.specs.View.{view_expression};
-ghost use Rattle.stk_meaning.specs.Typings.{type_in, number_kind, converted, node_of, bare};
+ghost use Rattle.stk_tree.specs.Parts.{bare};
+ghost use Rattle.stk_meaning.specs.Typings.{type_in, number_kind, converted, node_of};
 ghost use Rattle.stk_meaning.specs.Operations.{operated, operation_of, operation_tests, step_operation, gives_old};
 ghost use Rattle.stk_meaning.specs.Conditions.{form_tests};
 ghost use Rattle.stk_meaning.specs.Places.{target_of};
@@ -29,7 +30,7 @@ ghost use Rattle.stk_spending.specs.Expressions.{kind_in, stored_spent};
 ghost use Rattle.stk_walking.specs.Costs.{Costs};
 
 use stk_base::NoMemory;
-use stk_eval_expr::{bare, node_of, target_of};
+use stk_eval_expr::{node_of, target_of};
 use stk_numbers::IntKind;
 use stk_operators::{NodeTests, Operation, Operator, gives_old};
 use stk_tree::{Expr, StepOp};
@@ -152,7 +153,7 @@ fn old_number<O: WalkSetting, V: Values>(
     ensures cost { OnOk result (Costs V.cost (length (O.setting out.now).kept) (read_charge (target_of (O.setting out.now) (view_expression left.now)) (kind_in (O.setting out.now).typing (view_expression left.now))) values.old values.new (length state.old.cells.items) (length state.new.cells.items)) }
 {
     let target = target_of(out, left);
-    let node = node_of(bare(left));
+    let node = node_of(left.bare());
     let found = read_place(out, node, target, values, state)?;
     Ok(found)
 }
@@ -235,7 +236,7 @@ pub(crate) fn stepped_number<O: WalkSetting, V: Values>(
     ensures makes { IfOk result (λ v. V.made values.new (number_kind ((O.setting out.now).typing.type_at node)) v) }
     ensures made { OnOk result (IsMade (V.made values.new) (O.setting out.now) state.new) }
     ensures events { OnOk result (events_in state.new.steps.items ≡ events_in state.old.steps.items ++ condition_events (O.setting out.now) node true (step op (view_expression e.now))) }
-    ensures follows { IfOk result (λ v. (place : ℕ) → Evaluates (V.serves values.old) (V.shows values.old) (V.shows values.new) (O.setting out.now) (λ m x. V.shows values.new m (number_kind ((O.setting out.now).typing.type_at node)) v x) (λ m r k. step_end (O.setting out.now) (O.under out.now m) node op (view_expression e.now) place r k) state.old state.new) }
+    ensures follows { IfOk result (λ v. (place : ℕ) → Evaluates (V.serves values.old) (V.shows values.old) (V.shows values.new) (O.setting out.now) (λ m x. V.shows values.new m (number_kind ((O.setting out.now).typing.type_at node)) v x) (λ m r k. step_end (O.setting out.now) (path_world (O.under out.now m)) node op (view_expression e.now) place r k) state.old state.new) }
     ensures keeps { OnOk result (Keeps V.serves V.has_key V.made V.shows values.old values.new) }
     ensures cost { OnOk result (Costs V.cost (length (O.setting out.now).kept) (stored_spent (O.setting out.now) (view_expression e.now) (step_operation (O.setting out.now).typing op (type_in (O.setting out.now).typing (view_expression e.now))) Int) values.old values.new (length state.old.cells.items) (length state.new.cells.items)) }
 {
@@ -271,7 +272,7 @@ pub(crate) fn assigned_number<O: WalkSetting, V: Values>(
     ensures makes { IfOk result (λ v. V.made values.new (number_kind ((O.setting out.now).typing.type_at node)) v) }
     ensures made { OnOk result (IsMade (V.made values.new) (O.setting out.now) state.new) }
     ensures events { OnOk result (events_in state.new.steps.items ≡ events_in state.old.steps.items) }
-    ensures follows { IfOk result (λ v. (x : ℤ) (place : ℕ) → Evaluates (λ m. V.serves values.old m × V.shows values.old m number.kind number.value x) (V.shows values.old) (V.shows values.new) (O.setting out.now) (λ m y. V.shows values.new m (number_kind ((O.setting out.now).typing.type_at node)) v y) (λ m r k. plain_end (O.setting out.now) (O.under out.now m) (view_expression left.now) x place r k) state.old state.new) }
+    ensures follows { IfOk result (λ v. (x : ℤ) (place : ℕ) → Evaluates (λ m. V.serves values.old m × V.shows values.old m number.kind number.value x) (V.shows values.old) (V.shows values.new) (O.setting out.now) (λ m y. V.shows values.new m (number_kind ((O.setting out.now).typing.type_at node)) v y) (λ m r k. plain_end (O.setting out.now) (path_world (O.under out.now m)) (view_expression left.now) x place r k) state.old state.new) }
     ensures keeps { OnOk result (Keeps V.serves V.has_key V.made V.shows values.old values.new) }
     ensures cost { OnOk result (Costs V.cost (length (O.setting out.now).kept) (convert_charge number.kind (number_kind ((O.setting out.now).typing.type_at node)) + store_charge (length (O.setting out.now).kept) (target_of (O.setting out.now) (view_expression left.now)) (kind_in (O.setting out.now).typing (view_expression left.now))) values.old values.new (length state.old.cells.items) (length state.new.cells.items)) }
 {
@@ -302,7 +303,7 @@ pub(crate) fn compound_number<O: WalkSetting, V: Values>(
     ensures makes { IfOk result (λ v. V.made values.new (number_kind ((O.setting out.now).typing.type_at node)) v) }
     ensures made { OnOk result (IsMade (V.made values.new) (O.setting out.now) state.new) }
     ensures events { OnOk result ((f : ExprFormTree) → form_tests (O.setting out.now).typing true f ≡ operation_tests (operation_shown operation) → events_in state.new.steps.items ≡ events_in state.old.steps.items ++ condition_events (O.setting out.now) node true f) }
-    ensures follows { IfOk result (λ v. (f : ExprFormTree) (x : ℤ) (place : ℕ) → form_tests (O.setting out.now).typing true f ≡ operation_tests (operation_shown operation) → Evaluates (λ m. V.serves values.old m × V.shows values.old m number.kind number.value x) (V.shows values.old) (V.shows values.new) (O.setting out.now) (λ m y. V.shows values.new m (number_kind ((O.setting out.now).typing.type_at node)) v y) (λ m r k. compound_end (O.setting out.now) (O.under out.now m) node f (operation_shown operation) (view_expression left.now) x place r k) state.old state.new) }
+    ensures follows { IfOk result (λ v. (f : ExprFormTree) (x : ℤ) (place : ℕ) → form_tests (O.setting out.now).typing true f ≡ operation_tests (operation_shown operation) → Evaluates (λ m. V.serves values.old m × V.shows values.old m number.kind number.value x) (V.shows values.old) (V.shows values.new) (O.setting out.now) (λ m y. V.shows values.new m (number_kind ((O.setting out.now).typing.type_at node)) v y) (λ m r k. compound_end (O.setting out.now) (path_world (O.under out.now m)) node f (operation_shown operation) (view_expression left.now) x place r k) state.old state.new) }
     ensures keeps { OnOk result (Keeps V.serves V.has_key V.made V.shows values.old values.new) }
     ensures cost { OnOk result (Costs V.cost (length (O.setting out.now).kept) (stored_spent (O.setting out.now) (view_expression left.now) (operation_shown operation) number.kind) values.old values.new (length state.old.cells.items) (length state.new.cells.items)) }
 {

@@ -7,8 +7,9 @@ use Rattle.stk_tree.specs.declared.expression.UnaryOp.TheVariants as unary
 use Rattle.stk_tree.specs.declared.expression.BinaryOp.{BinaryOp}
 use Rattle.stk_tree.specs.Syntax.{ExprTree, ExprTrees, ExprFormTree}
 use Rattle.stk_tree.specs.Syntax as s
+use Rattle.stk_tree.specs.Parts.{bare}
 use Rattle.stk_numbers.specs.declared.conditions.CandKind.TheVariants.{Arm}
-use Rattle.stk_meaning.specs.Typings.{node_of, type_in, is_array, bare}
+use Rattle.stk_meaning.specs.Typings.{node_of, type_in, is_array}
 use Rattle.stk_meaning.specs.Operations.{Operator, arithmetic, shifting, comparing, BinarySort, operates, joins, or_else, and_also, sort_of, assigned_operator}
 use Rattle.stk_meaning.specs.Conditions.{tests_at}
 use Rattle.stk_meaning.specs.Replacements.{replacement}

@@ -3,9 +3,9 @@
 use Rattle.std.specs.Prelude.{Bool, List, [], ◌∷◌, ◌++◌, if◌then◌else◌}
 use Rattle.stk_tree.specs.Syntax.{MaybeExprTree, InitTree, MaybeInitTree, ItemTree, ItemTrees, DeclrTree, DeclrTrees, DeclarationTree, StartTree, StmtTree, StmtTrees, MaybeStmtTree, StmtFormTree, PartTree, PartTrees, SectionTree, SectionTrees}
 use Rattle.stk_tree.specs.Syntax as s
+use Rattle.stk_tree.specs.Parts.{is_static}
 use Rattle.stk_numbers.specs.declared.conditions.CandKind.TheVariants.{Arm}
 use Rattle.stk_meaning.specs.Typings.{statement_node}
-use Rattle.stk_meaning.specs.Visits.{is_static}
 use Rattle.stk_meaning.specs.Places.{Setting}
 use Rattle.stk_walking.specs.declared.state.Event.{Event}
 use Rattle.stk_walking.specs.Events.{hit}

@@ -1,4 +1,4 @@
-//! What a walk asks of a function, besides what a path run asks.
+//! What a walk asks of a function, besides what a run asks.
 
 ghost use Rattle.std.specs.Prelude.{◌≡◌, ℕ, ℤ, IfSome, List, length, ◌<◌, slice_get, Some, option_map};
 ghost use Rattle.stk_ctype.specs.declared.kind.IntKind as kinds;
@@ -10,14 +10,13 @@ ghost use Rattle.stk_kinded.specs.Kinds.{key_kind};
 ghost use Rattle.stk_walking.specs.Keyed.{key_shown, placed};
 
 use crate::keys::InputKey;
-use stk_eval_expr::PathSetting;
+use stk_eval_expr::RunSetting;
 use stk_numbers::IntKind;
 use stk_operators::Word;
 use stk_tree::StmtForm;
 
-/// What a walk asks of a function: the setting of its path runs, and the places of its input keys. What a `PathSetting`
-/// says of an input map is of no use to a walk.
-pub trait WalkSetting: PathSetting {
+/// What a walk asks of a function: the setting of its runs, and the places of its input keys.
+pub trait WalkSetting: RunSetting {
     /// The kinds of the keys, in order.
     ghost kinds: { Self → List kinds.IntKind };
 

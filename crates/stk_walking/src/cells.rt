@@ -19,7 +19,7 @@ use stk_values::Values;
 
 /// The number of a kept object of a kind: the kept one, or else that of a load, which is kept then, where the guard is
 /// true. Of an object that there isn't, that of the load.
-pub fn read_cell<V: Values>(
+pub(crate) fn read_cell<V: Values>(
     values: &mut V,
     guard: V::Value,
     cells: &mut Vec<KeptCell<V::Value>>,

@@ -37,7 +37,7 @@ fn kind_of(test: &NodeTest) -> UbKind
 }
 
 /// The step of a test, unless its kind is taken out.
-pub fn push_test<V: Values>(
+pub(crate) fn push_test<V: Values>(
     values: &mut V,
     guard: V::Value,
     without: Kinds,

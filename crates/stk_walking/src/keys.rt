@@ -21,7 +21,7 @@ pub enum InputKey {
 }
 
 /// The number of a place of the input map, of the kind that the store has it at; 0 where there is no place.
-pub fn keyed<V: Values>(
+pub(crate) fn keyed<V: Values>(
     values: &mut V,
     place: Option<u32>,
     kind: IntKind,

@@ -50,7 +50,7 @@ fn begin_cell<O: WalkSetting, V: Values>(
 }
 
 /// Forgets the kept objects that a loop may change, where the guard is true.
-pub fn begin_cells<O: WalkSetting, V: Values>(
+pub(crate) fn begin_cells<O: WalkSetting, V: Values>(
     out: &O,
     node: u32,
     form: &StmtForm,

@@ -189,7 +189,7 @@ fn breaks_copy<V: Values>(
 }
 
 /// Whether the numbers of a node's operands violate a test.
-pub fn breaks<V: Values>(
+pub(crate) fn breaks<V: Values>(
     values: &mut V,
     test: NodeTest,
     operands: Operands<V::Value>,

@@ -35,7 +35,7 @@ pub fn read_register<V: Values>(
 }
 
 /// Sets a register of a kind where the guard is true; nothing, where there is no such register.
-pub fn set_register<V: Values>(
+pub(crate) fn set_register<V: Values>(
     values: &mut V,
     guard: V::Value,
     registers: &mut Vec<V::Value>,

@@ -20,7 +20,7 @@ use stk_numbers::{CandKind, Candidate};
 use stk_values::Values;
 
 /// Adds a step, which the run makes where the guard and the test are true.
-pub fn push_step<V: Values>(
+pub(crate) fn push_step<V: Values>(
     values: &mut V,
     guard: V::Value,
     test: V::Value,

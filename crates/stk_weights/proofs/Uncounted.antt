@@ -2,9 +2,10 @@
 use Rattle.std.proofs.Common.{ℕ, ◌≡◌, Bool, true, false, arith, refl}
 use Rattle.stk_tree.specs.Syntax.{ExprTree, ExprTrees, MaybeExprTree, ExprFormTree, InitTree, MaybeInitTree, ItemTree, ItemTrees, DesigTree, DesigTrees, TypeNameTree, DimensionTree, DimensionTrees, TailTree, ParamTree, ParamTrees, DeclrTree, DeclrTrees, DeclarationTree, StartTree, LabelTree, LabelTrees}
 use Rattle.stk_tree.specs.Syntax as s
+use Rattle.stk_tree.specs.Parts.{is_static}
 use Rattle.stk_meaning.specs.Typings.{Typing, type_in}
 use Rattle.stk_meaning.specs.Places.{Setting}
-use Rattle.stk_meaning.specs.Visits.{Role, reading, as_arm, as_test, inside, inner_role, indexed_role, unary_role, left_role, right_role, assigned_role, expression_visits, form_visits, arguments_visits, type_name_visits, dimensions_visits, dimension_visits, maybe_visits, initialiser_visits, items_visits, item_visits, designators_visits, designator_visits, tail_visits, parameters_visits, parameter_visits, head_visits, is_static, initial_visits, declarator_visits, declarators_visits, declaration_visits, start_visits, label_visits, labels_visits}
+use Rattle.stk_meaning.specs.Visits.{Role, reading, as_arm, as_test, inside, inner_role, indexed_role, unary_role, left_role, right_role, assigned_role, expression_visits, form_visits, arguments_visits, type_name_visits, dimensions_visits, dimension_visits, maybe_visits, initialiser_visits, items_visits, item_visits, designators_visits, designator_visits, tail_visits, parameters_visits, parameter_visits, head_visits, initial_visits, declarator_visits, declarators_visits, declaration_visits, start_visits, label_visits, labels_visits}
 use Rattle.stk_weights.specs.Events.{counts}
 
 module _ (g : Setting) (r : ℕ) (ty : Typing) where

@@ -8,7 +8,7 @@ ghost use Rattle.stk_wide_judge.specs.Starts.{AreKnown};
 
 use crate::{JudgedFunction, Known};
 use stk_base::NoMemory;
-use stk_first_maps::{Choice, choices_of, is_valid, map_of_choice, words_of};
+use stk_first_maps::{CHOICES, Choice, is_valid, map_of_choice, number_choices, words_of};
 
 impl Known {
     // The input map of a choice joins, where it is valid.
@@ -26,18 +26,38 @@ impl Known {
         Ok(())
     }
 
-    /// The first starts of a function: of some dozens of fixed input maps, and those of the numbers that stand in it,
-    /// the valid ones.
+    // The input maps of choices join, the valid ones.
+    fn try_choices(&mut self, function: &JudgedFunction, choices: &[Choice]) -> Result<(), NoMemory>
+        requires tables { AreTablesOf (view_function function.now.f.now) function.now.tables.now }
+        requires known { AreKnown (asked_in function.now.tables.now (view_function function.now.f.now)) self.old.starts.items self.old.table }
+        ensures { OnOk result (AreKnown (asked_in function.now.tables.now (view_function function.now.f.now)) self.new.starts.items self.new.table) }
+    {
+        for choice in choices {
+            self.try_choice(function, *choice)?;
+        }
+        Ok(())
+    }
+
+    /// The first starts of a function: of some dozens of fixed input maps the valid ones.
     pub fn begin(function: &JudgedFunction) -> Result<Known, NoMemory>
         requires { AreTablesOf (view_function function.now.f.now) function.now.tables.now }
         ensures { let a = asked_in function.now.tables.now (view_function function.now.f.now) in IfOk result (λ known. AreKnown a known.starts.items known.table) }
     {
-        let types = function.tables.setting().types();
-        let choices = choices_of(function.alloc, types, function.f)?;
         let mut known = Known::new(function.alloc);
-        for choice in &choices {
-            known.try_choice(function, *choice)?;
-        }
+        known.try_choices(function, &CHOICES)?;
         Ok(known)
+    }
+
+    /// Those of the numbers that stand in the function join, the valid ones. They are run before the first question
+    /// alone, since there may be as many as the function has constants.
+    pub(crate) fn add_numbers(&mut self, function: &JudgedFunction) -> Result<(), NoMemory>
+        requires tables { AreTablesOf (view_function function.now.f.now) function.now.tables.now }
+        requires known { AreKnown (asked_in function.now.tables.now (view_function function.now.f.now)) self.old.starts.items self.old.table }
+        ensures { OnOk result (AreKnown (asked_in function.now.tables.now (view_function function.now.f.now)) self.new.starts.items self.new.table) }
+    {
+        let types = function.tables.setting().types();
+        let choices = number_choices(function.alloc, types, function.f)?;
+        self.lacks_numbers = false;
+        self.try_choices(function, choices.as_slice())
     }
 }

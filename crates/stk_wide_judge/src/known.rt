@@ -20,12 +20,13 @@ use stk_numbers::{Condition, Inputs};
 // The most starts that are known.
 const MOST_STARTS: usize = 8192;
 
-/// Valid input maps of a function, in the order in which they were found, with the table of what their path runs hit.
-/// After want of memory nothing is known.
+/// Valid input maps of a function, in the order in which they were found, with the table of what their path runs hit;
+/// and whether those of the numbers that stand in the function haven't joined. After want of memory nothing is known.
 #[derive(Drop)]
 pub struct Known {
     pub(crate) table: HitTable,
     pub(crate) starts: Vec<Inputs>,
+    pub(crate) lacks_numbers: bool,
 }
 
 // A copy of an input map.
@@ -50,6 +51,7 @@ impl Known {
         Known {
             table: HitTable::new(alloc),
             starts: Vec::new(alloc),
+            lacks_numbers: true,
         }
     }
 

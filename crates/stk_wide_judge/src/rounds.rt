@@ -27,7 +27,8 @@ pub(crate) enum Round {
     /// The guess is right, the known starts decide by themselves, or what was given up is a query of the definition,
     /// for all conditions or for none, that decides.
     Found(Finding),
-    /// A start that was found refutes the guess, or no start is free of all conditions: there is another round.
+    /// A start that was found refutes the guess, no start is free of all conditions, or more first starts joined: there
+    /// is another round.
     Refuted,
     /// Its query was given up and is for some of the conditions, or no further start is kept.
     Stopped,
@@ -97,8 +98,10 @@ pub(crate) fn free_round<Q: Questions, D: Decider>(
     }
 }
 
-/// One guess, and the question whether it is right. Where it is given up and the guess is all conditions, the candidate
-/// is undecided; where the guess is none of them, what is left is the question for all of them.
+/// One guess, and the question whether it is right, once the starts of the function's numbers have joined, which they
+/// do where no known start shows that the candidate is clear. Where the question is given up and the guess is all
+/// conditions, the candidate is undecided; where the guess is none of them, what is left is the question for all of
+/// them.
 pub(crate) fn one_round<Q: Questions, D: Decider>(
     function: &JudgedFunction,
     questions: &mut Q,
@@ -119,6 +122,10 @@ pub(crate) fn one_round<Q: Questions, D: Decider>(
     let free = known.first_answer(alloc, rows.as_slice(), function.conditions)?;
     if free.is_some() {
         return Ok(Round::Found(Finding::Clear));
+    }
+    if known.lacks_numbers {
+        known.add_numbers(function)?;
+        return Ok(Round::Refuted);
     }
     let needs = guess(alloc, known, rows.as_slice(), function.conditions)?;
     let set = members_of(alloc, needs.as_slice())?;

@@ -2,7 +2,7 @@ use Rattle.std.proofs.Common.{List, ℕ, sym, subst, ◌∙◌}
 use Rattle.std.proofs.lemmas.Bool.{true≢false}
 use Rattle.std.proofs.lemmas.Bool.Decides.{Decides-eqb}
 use Rattle.std.proofs.lemmas.Slice.Eq.{slice_eq-Decides}
-use Rattle.stk_bundle.specs.Blocks.{IsFirst}
+use Rattle.stk_line_reading.specs.Lines.{IsFirst}
 use Rattle.stk_audit_main.proofs.Splitting.{one_passed, ended, none_ends}
 use Rattle.stk_audit_main.proofs.inputs.split_input.Goals as goal
 

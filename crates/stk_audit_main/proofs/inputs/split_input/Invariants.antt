@@ -1,4 +1,4 @@
-use Rattle.std.proofs.Common.{◌≡◌, length}
+use Rattle.std.proofs.Common.{length}
 use Rattle.stk_audit_main.proofs.Splitting.{HasPassed}
 use Rattle.stk_audit_main.proofs.inputs.split_input.Given as goal
 

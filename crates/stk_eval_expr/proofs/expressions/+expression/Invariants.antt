@@ -2,7 +2,6 @@ use Rattle.std.proofs.Common.{◌+◌, ◌*◌, max, ◌++◌, drop, map, List, 
 use Rattle.stk_tree.proofs.expression.Expr.TheLaws.{the_size}
 use Rattle.stk_ctype.specs.Types.{type_of, row_of}
 use Rattle.stk_tree.specs.View.{view_expression, expressions}
-use Rattle.stk_meaning.specs.Paths.{path_world}
 use Rattle.stk_meaning.specs.Expressions.{arguments_values}
 use Rattle.stk_eval_expr.specs.declared.state.State.{State}
 use Rattle.stk_eval_expr.specs.Leaving.{Leaves, from}
@@ -11,9 +10,12 @@ use Rattle.stk_eval_expr.proofs.expressions.+expression.Given as goal
 -- what completes the rest completes the whole
 abbrev pub invariant-arguments-loop-e : goal.invariant-arguments-loop-e
 invariant-arguments-loop-e g l =
-    (xs : List ℤ) (now : State) →
-    Leaves (from (arguments_values (g.O.PathSetting.setting l.out) (path_world (g.O.PathSetting.inputs l.out)) (row_of (map type_of l.rest)) (expressions (map view_expression (drop l.e-index l.list)))) l.state) xs l.state now →
-    Leaves (from (arguments_values (g.O.PathSetting.setting l.out) (path_world (g.O.PathSetting.inputs l.out)) (row_of (map type_of l.params)) (expressions (map view_expression l.list))) l.initial.state) (l.numbers.items ++ xs) l.initial.state now
+    let G = g.W.RunSetting.setting l.out in
+    let W = g.W.World.world l.out in
+    let shown = g.W.World.shown in
+    (xs : List ℤ) (now : State _) →
+    Leaves shown (from shown (arguments_values G W (row_of (map type_of l.rest)) (expressions (map view_expression (drop l.e-index l.list)))) l.state) xs l.state now →
+    Leaves shown (from shown (arguments_values G W (row_of (map type_of l.params)) (expressions (map view_expression l.list))) l.initial.state) (l.numbers.items ++ xs) l.initial.state now
 
 -- the depth of the tree, and by how many calls on the same tree a function stands above the place of an expression; of
 -- two operands, the larger depth

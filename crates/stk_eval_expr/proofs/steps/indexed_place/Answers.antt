@@ -13,8 +13,8 @@ pub returns : goal.returns
 returns g c = λ right.
     let left = view_expression c.args.left.now in
     let f = s.index left right in
-    let ty = (g.O.PathSetting.setting c.args.out.now).typing in
-    let b = breaks (g.O.PathSetting.setting c.args.out.now) c.args.node c.args.accessed f c.args.numbers.0 c.args.numbers.1 in
+    let ty = (g.W.RunSetting.setting c.args.out.now).typing in
+    let b = breaks (g.W.RunSetting.setting c.args.out.now) c.args.node c.args.accessed f c.args.numbers.0 c.args.numbers.1 in
     let asked = c.index_node_tests-node_tests.ensures ∙ ap (λ n. index_tests c.args.accessed (ty.type_at n) (stride_in ty (ty.type_at n))) c.node_of-at.ensures in
     let size = c.stride_at.ensures ∙ ap (λ n. stride_in ty (ty.type_at n)) c.node_of-at.ensures in
     adds_value (b (pos 0)) (b c.bit.result) (moved (to_address c.args.numbers.0) c.args.numbers.1 (stride_in ty (type_in ty left)) false) c.moved_address.result c.args.state.now c.check.new.state

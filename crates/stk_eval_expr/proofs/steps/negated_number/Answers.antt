@@ -14,10 +14,10 @@ use Rattle.stk_eval_expr.proofs.steps.negated_number.Goals as goal
 pub returns : goal.returns
 returns g c =
     let f = s.unary unary.Minus (view_expression c.args.e.now) in
-    let ty = (g.O.PathSetting.setting c.args.out.now).typing in
+    let ty = (g.W.RunSetting.setting c.args.out.now).typing in
     let k = promote (number_kind (type_in ty (view_expression c.args.e.now))) in
     let k_is : c.promote-kind.result ≡ k = c.promote-kind.ensures ∙ ap promote (c.kind_at.ensures ∙ ap (λ n. number_kind (ty.type_at n)) c.node_of.ensures) in
-    let b = breaks (g.O.PathSetting.setting c.args.out.now) c.args.node true f c.args.number in
+    let b = breaks (g.W.RunSetting.setting c.args.out.now) c.args.node true f c.args.number in
     adds_value (b (pos 0) (pos 0)) (b c.bit-zero.result c.bit-zero.result) (operated (in_kind Sub k) (pos 0) c.args.number) c.operated.result c.args.state.now c.check.new.state
     (ap (λ z. b z z) c.bit-zero.ensures) (c.in_ok-check.ensures true f (ap (λ u. unary_tests true u unary.Minus) (sym k_is)))
     (c.operated.ensures ∙ ap (λ z. operated (in_kind Sub c.promote-kind.result) z c.args.number) c.bit-zero.ensures ∙ ap (λ u. operated (in_kind Sub u) (pos 0) c.args.number) k_is)

@@ -6,4 +6,4 @@ use Rattle.stk_exec_stmt.proofs.choosing.has_case.Given as goal
 -- what is left answers for the whole
 abbrev pub invariant-loop-label : goal.invariant-loop-label
 invariant-loop-label g l =
-    has_case (g.O.PathSetting.setting l.out).typing l.kind l.number (labels (map view_label (drop l.label-index l.list))) ≡ has_case (g.O.PathSetting.setting l.out).typing l.kind l.number (labels (map view_label l.list))
+    has_case (g.O.RunSetting.setting l.out).typing l.kind l.number (labels (map view_label (drop l.label-index l.list))) ≡ has_case (g.O.RunSetting.setting l.out).typing l.kind l.number (labels (map view_label l.list))

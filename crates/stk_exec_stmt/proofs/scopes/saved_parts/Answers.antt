@@ -7,7 +7,7 @@ use Rattle.stk_exec_stmt.proofs.Saving.{saved-append}
 use Rattle.stk_exec_stmt.proofs.scopes.saved_parts.Goals as goal
 
 pub loop-part-preserved : goal.loop-part-preserved
-loop-part-preserved c =
+loop-part-preserved g c =
     let list = c.args.list.now in
     let i = c.loop-part.part-index in
     let r = c.args.state.now.registers.items in

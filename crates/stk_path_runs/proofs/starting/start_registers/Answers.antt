@@ -19,5 +19,5 @@ returns c =
     let T = typing_in tables.places.types in
     let numbers : ℕ → ℤ = λ k. number_under tables.places.keys c.args.out.now.numbers.now (parameter_key k) in
     c.set_parameters.ensures
-    ∙ ap (λ (xs : List ℤ). parameters_set T numbers (parameters (map view_parameter c.parameters_of.result.now)) xs) c.in_ok-registers.ensures
-    ∙ started T numbers (view_function c.args.f.now) (parameters (map view_parameter c.parameters_of.result.now)) (out-Stmt c.args.f.now.body).node.number c.parameters_of.ensures (node_is c.args.f.now.body)
+    ∙ ap (λ (xs : List ℤ). parameters_set T numbers (parameters (map view_parameter c.parameters.result.now)) xs) c.in_ok-registers.ensures
+    ∙ started T numbers (view_function c.args.f.now) (parameters (map view_parameter c.parameters.result.now)) (out-Stmt c.args.f.now.body).node.number c.parameters.ensures (node_is c.args.f.now.body)

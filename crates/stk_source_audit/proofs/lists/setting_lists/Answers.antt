@@ -1,4 +1,4 @@
-use Rattle.std.proofs.Common.{◌≡◌, ap, subst, ◌∙◌}
+use Rattle.std.proofs.Common.{ap, ◌∙◌}
 use Rattle.std.specs.Prelude.{nat_le}
 use Rattle.stk_tree.specs.View.{view_function}
 use Rattle.stk_numbers.specs.declared.conditions.Kinds.{Kinds}

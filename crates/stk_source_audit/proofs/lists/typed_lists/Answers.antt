@@ -1,8 +1,7 @@
-use Rattle.std.proofs.Common.{◌≡◌, Option, sym, ap, subst, ◌∙◌}
+use Rattle.std.proofs.Common.{◌≡◌, sym, ap, subst, ◌∙◌}
 use Rattle.stk_tree.specs.View.{view_function, view_unit}
 use Rattle.stk_function_types.specs.Units.{TypedUnit}
 use Rattle.stk_function_types.specs.Nodes.{typing_in}
-use Rattle.stk_records.specs.declared.line.Cause.{Cause}
 use Rattle.stk_units.specs.Functions.{IsDefinition}
 use Rattle.stk_units.specs.Causes.{measured_cause}
 use Rattle.stk_units.proofs.Measures.{of_function, whole, measured_here, weighed}

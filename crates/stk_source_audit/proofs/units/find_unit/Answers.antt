@@ -1,4 +1,4 @@
-use Rattle.std.proofs.Common.{◌≡◌, ◌<◌, Option, None, ap, ◌∙◌, arith}
+use Rattle.std.proofs.Common.{◌≡◌, ◌<◌, None, ap, ◌∙◌, arith}
 use Rattle.std.specs.Prelude.{option_map, length}
 use Rattle.stk_tree.specs.View.{view_unit}
 use Rattle.stk_units.specs.Pieces.{tokens_of_piece}

@@ -1,4 +1,4 @@
-use Rattle.std.proofs.Common.{◌≡◌, ℕ, List, length, Option}
+use Rattle.std.proofs.Common.{ℕ, List, length, Option}
 use Rattle.stk_lex.specs.declared.cutting.Piece.{Piece}
 use Rattle.stk_lex.specs.Units.{AreJoined}
 use Rattle.stk_ctype.specs.declared.symbol.NameEntry.{NameEntry}

@@ -2,13 +2,13 @@ use Rattle.std.proofs.Common.{◌∙◌, List, Ok, map, ap, subst}
 use Rattle.stk_ctype.specs.Types.{type_of}
 use Rattle.stk_tree.specs.declared.declaration.Declr.{Declr}
 use Rattle.stk_tree.specs.View.{declarators, view_base, view_declarator}
+use Rattle.stk_tree.specs.Parts.{is_static}
 use Rattle.stk_type_rules.specs.Facts.{Fact, fact_of}
 use Rattle.stk_type_rules.specs.Outcome.{Gives, IsAt}
 use Rattle.stk_typing.specs.Locals.{local_of}
 use Rattle.stk_typing.specs.Scope.{Scope}
 use Rattle.stk_typing.specs.Typing.{base_typed}
 use Rattle.stk_declarators.specs.Rows.{file_scope}
-use Rattle.stk_address_taken.specs.Statements.{is_static}
 use Rattle.stk_function_types.specs.Locals.{locals_declared}
 use Rattle.stk_statements.specs.Places.{body_in}
 use Rattle.stk_statements.specs.Rows.{AreLocals}

@@ -125,7 +125,7 @@ expression-returns-in_ok-a-in-Call-clause-gives t c =
 pub callee-returns-in_err-expression-in-None-clause-gives : goal.callee-returns-in_err-expression-in-None-clause-gives
 callee-returns-in_err-expression-in-None-clause-gives t c =
     let same : c.from_residual-in_err-expression-in-None.result ≡ Err c.in_err-expression-in-None.field-0.0 = search rules in
-    rw (callee_other (scope_of c.args.s.now) c.args.e.now (sym c.name_of.ensures ∙ c.in-None.is), same)
+    rw (callee_other (scope_of c.args.s.now) c.args.e.now (sym c.as_name.ensures ∙ c.in-None.is), same)
     (stops (IsAt (map fact_of c.expression.new.facts.items)) IsSignature (expression_typed (scope_of c.args.s.now) (view_expression c.args.e.now)) _ _ _ _ _ _ c.in_err-expression-in-None.ensures.gives)
 
 pub arguments-loop-e-init : goal.arguments-loop-e-init

@@ -1,5 +1,5 @@
 use Rattle.std.proofs.Common.{◌≡◌, ◌++◌, drop}
-use Rattle.stk_unit_lines.specs.Lines.{inputs_of}
+use Rattle.stk_records.specs.Text.{inputs_of}
 use Rattle.stk_unit_lines.proofs.lines.inputs_of.Given as goal
 
 abbrev pub invariant-loop-text : goal.invariant-loop-text

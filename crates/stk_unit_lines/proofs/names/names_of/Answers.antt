@@ -9,7 +9,7 @@ use Rattle.stk_unit_lines.proofs.names.names_of.Goals as goal
 
 pub returns : goal.returns
 returns c =
-    let ps = parameters (map view_parameter c.parameters_of.result.now) in
-    names_made (typing_in c.args.types.now) (view_function c.args.f.now) ps (map marked_visit c.in_ok-visits.visits.items) c.parameters_named.new.out.items c.visits_named.new.out.items c.parameters_of.ensures c.in_ok-visits.ensures
+    let ps = parameters (map view_parameter c.parameters.result.now) in
+    names_made (typing_in c.args.types.now) (view_function c.args.f.now) ps (map marked_visit c.in_ok-visits.visits.items) c.parameters_named.new.out.items c.visits_named.new.out.items c.parameters.ensures c.in_ok-visits.ensures
     (c.in_ok-parameters_named.ensures ∙ ap (λ xs. xs ++ parameters_named ps) c.new-out.ensures.items)
     (c.in_ok-visits_named.ensures ∙ ap (λ ms. c.parameters_named.new.out.items ++ gathered visit_named (map marked_visit ms)) c.as_slice.ensures.value)

@@ -12,5 +12,5 @@ pub returns : goal.returns
 returns c =
     let T = typing_in c.args.types.now in
     let tree = view_function c.args.f.now in
-    let ps = parameters (map view_parameter c.parameters_of.result.now) in
-    IfOk-weaker c.registers_among.result (λ out. out.items ≡ parameters_registers T ps) (λ out. out.items ≡ map declarator_node (register_parameters T tree)) (λ out is. is ∙ registers_are T tree ps c.parameters_of.ensures) c.registers_among.ensures
+    let ps = parameters (map view_parameter c.parameters.result.now) in
+    IfOk-weaker c.registers_among.result (λ out. out.items ≡ parameters_registers T ps) (λ out. out.items ≡ map declarator_node (register_parameters T tree)) (λ out is. is ∙ registers_are T tree ps c.parameters.ensures) c.registers_among.ensures

@@ -6,7 +6,7 @@ use Rattle.stk_walk.proofs.start.empty_cells.Given as goal
 
 abbrev pub invariant-loop-place : goal.invariant-loop-place
 invariant-loop-place g l =
-    let G = g.O.PathSetting.setting l.out in
+    let G = g.O.RunSetting.setting l.out in
     Keeps g.V.Values.serves g.V.Values.has_key g.V.Values.made g.V.Values.shows l.fn.values l.values
     × (length l.row.items ≡ l.place)
     × CellsMade (g.V.Values.made l.values) (cell_kind G) 0 l.row.items

@@ -29,7 +29,7 @@ loop-node-preserved g c =
 
 pub returns-clause-value : goal.returns-clause-value
 returns-clause-value g c = λ m xs served h.
-    let G = g.O.PathSetting.setting c.args.out.now in
+    let G = g.O.RunSetting.setting c.args.out.now in
     let numbers = λ (j : ℕ). g.O.WalkSetting.under c.args.out.now m (parameter_key j) in
     let r = c.loop-node.invariant.2 m xs served h in
     let none : c.loop-node.rest.now ≡ [] = none_left c.loop-node.rest.now c.in_default.ensures.cases in

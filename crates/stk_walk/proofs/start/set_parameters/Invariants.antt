@@ -8,7 +8,7 @@ use Rattle.stk_walk.proofs.start.set_parameters.Given as goal
 
 abbrev pub invariant-loop-node : goal.invariant-loop-node
 invariant-loop-node g l =
-    let G = g.O.PathSetting.setting l.out in
+    let G = g.O.RunSetting.setting l.out in
     Keeps g.V.Values.serves g.V.Values.has_key g.V.Values.made g.V.Values.shows l.fn.values l.values
     × RowMade (g.V.Values.made l.values) (register_kind G) 0 l.row.items
     × ((m : List ℤ) (xs : List ℤ) → g.V.Values.serves l.fn.values m → RowShows (g.V.Values.shows l.fn.values m) (register_kind G) 0 l.fn.row.items xs

@@ -21,7 +21,7 @@ pub returns-clause-made : goal.returns-clause-made
 returns-clause-made g c =
     let V = g.V.Values in
     let made = g.V.Values.made in
-    let G = g.O.PathSetting.setting c.args.out.now in
+    let G = g.O.RunSetting.setting c.args.out.now in
     let k46 = keeps_then V.serves V.has_key V.made V.shows c.constant.new.self c.zero.new.values c.zero-2.new.values c.zero.ensures.keeps c.zero-2.ensures.keeps in
     let k36 = keeps_then V.serves V.has_key V.made V.shows c.empty_cells.new.values c.constant.new.self c.zero-2.new.values c.constant.ensures.keeps k46 in
     let k26 = keeps_then V.serves V.has_key V.made V.shows c.set_parameters.new.values c.empty_cells.new.values c.zero-2.new.values c.in_ok-cells.ensures.keeps k36 in
@@ -39,7 +39,7 @@ returns-clause-stands g c = λ m served.
     let V = g.V.Values in
     let shows = g.V.Values.shows in
     let now = shows c.zero-2.new.values m in
-    let G = g.O.PathSetting.setting c.args.out.now in
+    let G = g.O.RunSetting.setting c.args.out.now in
     let sizes = c.args.sizes.now in
     let numbers = λ (k : ℕ). g.O.WalkSetting.under c.args.out.now m (parameter_key k) in
     let zeros = replicate sizes.registers (pos 0) in

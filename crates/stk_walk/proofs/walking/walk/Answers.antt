@@ -76,7 +76,7 @@ returns-clause-valid g c = λ ty without f h m served.
 pub returns-clause-steps : goal.returns-clause-steps
 returns-clause-steps g c = λ ty without f h m served.
     let now = g.V.Values.shows c.walk_body.new.values m in
-    let G = g.O.PathSetting.setting c.args.out.now in
+    let G = g.O.RunSetting.setting c.args.out.now in
     let under = g.O.WalkSetting.under c.args.out.now m in
     let parts = c.args.parts.now in
     let body = view_statement parts.body.now in
@@ -113,7 +113,7 @@ returns-clause-steps g c = λ ty without f h m served.
 
 pub returns-clause-once : goal.returns-clause-once
 returns-clause-once g c = λ ty without f h.
-    let G = g.O.PathSetting.setting c.args.out.now in
+    let G = g.O.RunSetting.setting c.args.out.now in
     let parts = c.args.parts.now in
     let body = view_statement parts.body.now in
     let slice = c.as_slice.ensures.value in
@@ -129,7 +129,7 @@ returns-clause-once g c = λ ty without f h.
 pub returns-clause-listed : goal.returns-clause-listed
 returns-clause-listed g c =
     λ ty without f h.
-    let G = g.O.PathSetting.setting c.args.out.now in
+    let G = g.O.RunSetting.setting c.args.out.now in
     let parts = c.args.parts.now in
     let body = view_statement parts.body.now in
     let slice = c.as_slice.ensures.value in
@@ -146,7 +146,7 @@ returns-clause-listed g c =
 pub returns-clause-cost : goal.returns-clause-cost
 returns-clause-cost g c =
     λ ty without f h.
-    let G = g.O.PathSetting.setting c.args.out.now in
+    let G = g.O.RunSetting.setting c.args.out.now in
     let body = view_statement c.args.parts.now.body.now in
     let few : length c.in_ok-state.state.cells.items ≤ length G.kept = omega (arith, c.in_ok-state.ensures.cells) in
     let walked = c.in_ok-walk_body.ensures.cost.within few in

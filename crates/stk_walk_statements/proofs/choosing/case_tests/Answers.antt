@@ -35,7 +35,7 @@ loop-x-preserved g c =
     let V = g.V.Values in
     let made = V.made in
     let shows = V.shows in
-    let ty = (g.O.PathSetting.setting c.args.out.now).typing in
+    let ty = (g.O.RunSetting.setting c.args.out.now).typing in
     let list = c.args.list.now in
     let i = c.loop-x.x-index in
     let so_far = c.loop-x.invariant in
@@ -77,7 +77,7 @@ loop-x-preserved g c =
 pub returns-clause-value : goal.returns-clause-value
 returns-clause-value g c = λ m x a served hx ha.
     let shows = g.V.Values.shows in
-    let ty = (g.O.PathSetting.setting c.args.out.now).typing in
+    let ty = (g.O.RunSetting.setting c.args.out.now).typing in
     let y = c.loop-x.invariant.4 m x a served hx ha in
     let b : Bool = y.0 in
     let whole = sections_before (has_case ty c.args.kind x) (sections (map view_section c.args.list.now)) in

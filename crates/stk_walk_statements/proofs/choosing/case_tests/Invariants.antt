@@ -19,6 +19,6 @@ invariant-loop-x g l =
     × (length l.tests.items ≡ l.x-index)
     × ((m : List ℤ) (x : ℤ) (a : Bool) → g.V.Values.serves l.fn.values m → g.V.Values.shows l.fn.values m l.kind l.fn.number x → g.V.Values.shows l.fn.values m Int l.fn.guard (bit a) →
     (b : Bool) × g.V.Values.shows l.values m Int l.left (bit b)
-    × TestsLead (g.V.Values.shows l.values m) l.tests.items (goes_if a (sections_before (has_case (g.O.PathSetting.setting l.fn.out).typing l.kind x) (sections (map view_section l.list)))) (goes_if b (sections_before (has_case (g.O.PathSetting.setting l.fn.out).typing l.kind x) (sections (map view_section (drop l.x-index l.list)))))
-    × ((b && is_none (sections_before (has_case (g.O.PathSetting.setting l.fn.out).typing l.kind x) (sections (map view_section (drop l.x-index l.list))))) ≡ (a && is_none (sections_before (has_case (g.O.PathSetting.setting l.fn.out).typing l.kind x) (sections (map view_section l.list))))))
+    × TestsLead (g.V.Values.shows l.values m) l.tests.items (goes_if a (sections_before (has_case (g.O.RunSetting.setting l.fn.out).typing l.kind x) (sections (map view_section l.list)))) (goes_if b (sections_before (has_case (g.O.RunSetting.setting l.fn.out).typing l.kind x) (sections (map view_section (drop l.x-index l.list)))))
+    × ((b && is_none (sections_before (has_case (g.O.RunSetting.setting l.fn.out).typing l.kind x) (sections (map view_section (drop l.x-index l.list))))) ≡ (a && is_none (sections_before (has_case (g.O.RunSetting.setting l.fn.out).typing l.kind x) (sections (map view_section l.list))))))
     × ChargedSoFar (g.V.Values.cost l.fn.values) (g.V.Values.cost l.values) (cases_spent (sections (map view_section l.list)) (width_of l.kind)) (cases_spent (sections (map view_section (drop l.x-index l.list))) (width_of l.kind))

@@ -24,7 +24,7 @@ or_case-requires-clause-found g c = c.loop-label.invariant.1
 pub loop-label-preserved : goal.loop-label-preserved
 loop-label-preserved g c =
     let V = g.V.Values in
-    let ty = (g.O.PathSetting.setting c.args.out.now).typing in
+    let ty = (g.O.RunSetting.setting c.args.out.now).typing in
     let list = c.args.list.now in
     let i = c.loop-label.label-index in
     let so_far = c.loop-label.invariant in
@@ -47,7 +47,7 @@ loop-label-preserved g c =
 
 pub returns-clause-value : goal.returns-clause-value
 returns-clause-value g c = λ m x served hx.
-    let ty = (g.O.PathSetting.setting c.args.out.now).typing in
+    let ty = (g.O.RunSetting.setting c.args.out.now).typing in
     let found = c.loop-label.invariant.2 m x served hx in
     let none : drop c.loop-label.label-index c.args.list.now ≡ [] = drop_all c.loop-label.label-index c.args.list.now (omega arith) in
     let b : Bool = found.0 in

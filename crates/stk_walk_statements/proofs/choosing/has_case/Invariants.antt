@@ -15,5 +15,5 @@ invariant-loop-label g l =
     Keeps g.V.Values.serves g.V.Values.has_key g.V.Values.made g.V.Values.shows l.fn.values l.values
     × g.V.Values.made l.values Int l.found
     × ((m : List ℤ) (x : ℤ) → g.V.Values.serves l.fn.values m → g.V.Values.shows l.fn.values m l.kind l.fn.number x →
-    (b : Bool) × g.V.Values.shows l.values m Int l.found (bit b) × ((b || has_case (g.O.PathSetting.setting l.fn.out).typing l.kind x (labels (map view_label (drop l.label-index l.list)))) ≡ has_case (g.O.PathSetting.setting l.fn.out).typing l.kind x (labels (map view_label l.list))))
+    (b : Bool) × g.V.Values.shows l.values m Int l.found (bit b) × ((b || has_case (g.O.RunSetting.setting l.fn.out).typing l.kind x (labels (map view_label (drop l.label-index l.list)))) ≡ has_case (g.O.RunSetting.setting l.fn.out).typing l.kind x (labels (map view_label l.list))))
     × ChargedSoFar (g.V.Values.cost l.fn.values) (g.V.Values.cost l.values) (labels_spent (labels (map view_label l.list)) (width_of l.kind)) (labels_spent (labels (map view_label (drop l.label-index l.list))) (width_of l.kind))

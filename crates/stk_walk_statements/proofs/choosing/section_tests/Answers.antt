@@ -19,7 +19,7 @@ pub returns-in-None-clause-value : goal.returns-in-None-clause-value
 returns-in-None-clause-value g c = λ m x a served hx ha.
     let shows = g.V.Values.shows in
     let ss = sections (map view_section c.args.list.now) in
-    let cases = sections_before (has_case (g.O.PathSetting.setting c.args.out.now).typing c.args.kind x) ss in
+    let cases = sections_before (has_case (g.O.RunSetting.setting c.args.out.now).typing c.args.kind x) ss in
     let there : None ≡ sections_before has_default ss = sym c.in-None.is ∙ c.default_at.ensures in
     let same : cases ≡ or_default cases (sections_before has_default ss) = sym (no_default cases) ∙ ap (or_default cases) there in
     let y = c.in_ok-tests.ensures.value m x a served hx ha in (
@@ -31,7 +31,7 @@ pub returns-in_ok-all-in-Some-clause-value : goal.returns-in_ok-all-in-Some-clau
 returns-in_ok-all-in-Some-clause-value g c = λ m x a served hx ha.
     let shows = g.V.Values.shows in
     let ss = sections (map view_section c.args.list.now) in
-    let cases = sections_before (has_case (g.O.PathSetting.setting c.args.out.now).typing c.args.kind x) ss in
+    let cases = sections_before (has_case (g.O.RunSetting.setting c.args.out.now).typing c.args.kind x) ss in
     let at = c.in-Some.at in
     let there : Some at ≡ sections_before has_default ss = sym c.in-Some.is ∙ c.default_at.ensures in
     let same : or_default cases (Some at) ≡ or_default cases (sections_before has_default ss) = ap (or_default cases) there in

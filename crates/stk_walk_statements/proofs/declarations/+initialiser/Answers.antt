@@ -23,7 +23,7 @@ use Rattle.stk_walk_statements.proofs.declarations.+initialiser.Goals as goal
 pub initialiser-returns-in_ok-_number-in-Plain-clause-walked : goal.initialiser-returns-in_ok-_number-in-Plain-clause-walked
 initialiser-returns-in_ok-_number-in-Plain-clause-walked g t c =
     let V = g.V.Values in
-    let G = g.O.PathSetting.setting c.args.out.now in
+    let G = g.O.RunSetting.setting c.args.out.now in
     let e = view_expression c.in-Plain.e in
     let n = c.in_ok-_number-in-Plain in
     rw (at_plain c.args.x.now c.in-Plain.e c.in-Plain.is)
@@ -33,7 +33,7 @@ initialiser-returns-in_ok-_number-in-Plain-clause-walked g t c =
 pub items-item-requires : goal.items-item-requires
 items-item-requires g t c κs within =
     let V = g.V.Values in
-    let G = g.O.PathSetting.setting c.args.out.now in
+    let G = g.O.RunSetting.setting c.args.out.now in
     let so_far = c.loop-x.invariant in
     let list = c.args.list.now in
     let kinded = kinded_item G list c.loop-x.x-index c.x-item.result c.loop-x-test.true c.x-item.is c.requires.kinded in
@@ -44,12 +44,12 @@ items-item-requires g t c κs within =
 pub items-loop-x-init : goal.items-loop-x-init
 items-loop-x-init g t c =
     let V = g.V.Values in
-    ([], refl, walked_none V.serves V.has_key V.made V.shows (g.O.PathSetting.setting c.args.out.now) _ c.args.values.now c.args.state.now c.requires.made (λ m s u h. h), record { so_far = 0; costs = costs_none; completes = omega arith })
+    ([], refl, walked_none V.serves V.has_key V.made V.shows (g.O.RunSetting.setting c.args.out.now) _ c.args.values.now c.args.state.now c.requires.made (λ m s u h. h), record { so_far = 0; costs = costs_none; completes = omega arith })
 
 pub items-loop-x-preserved : goal.items-loop-x-preserved
 items-loop-x-preserved g t c =
     let V = g.V.Values in
-    let G = g.O.PathSetting.setting c.args.out.now in
+    let G = g.O.RunSetting.setting c.args.out.now in
     let list = c.args.list.now in
     let i = c.loop-x.x-index in
     let so_far = c.loop-x.invariant in
@@ -73,7 +73,7 @@ items-loop-x-preserved g t c =
 pub items-returns-clause-walked : goal.items-returns-clause-walked
 items-returns-clause-walked g t c =
     let V = g.V.Values in
-    let G = g.O.PathSetting.setting c.args.out.now in
+    let G = g.O.RunSetting.setting c.args.out.now in
     let list = c.args.list.now in
     let so_far = c.loop-x.invariant in
     let none : drop c.loop-x.x-index list ≡ [] = drop_all c.loop-x.x-index list (omega arith) in
@@ -84,7 +84,7 @@ items-returns-clause-walked g t c =
 
 pub items-returns-clause-cost : goal.items-returns-clause-cost
 items-returns-clause-cost g t c =
-    let G = g.O.PathSetting.setting c.args.out.now in
+    let G = g.O.RunSetting.setting c.args.out.now in
     let list = c.args.list.now in
     let none : drop c.loop-x.x-index list ≡ [] = drop_all c.loop-x.x-index list (omega arith) in
     let rest : items_spent G (items (map view_item (drop c.loop-x.x-index list))) ≡ 0 = ap (λ z. items_spent G (items (map view_item z))) none in

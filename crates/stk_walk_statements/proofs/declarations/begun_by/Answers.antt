@@ -17,7 +17,7 @@ use Rattle.stk_walk_statements.proofs.declarations.begun_by.Goals as goal
 pub returns-in_ok-begun_with-clause-walked : goal.returns-in_ok-begun_with-clause-walked
 returns-in_ok-begun_with-clause-walked g c =
     let V = g.V.Values in
-    let G = g.O.PathSetting.setting c.args.out.now in
+    let G = g.O.RunSetting.setting c.args.out.now in
     let e = view_expression c.args.e.now in
     let t = G.typing.type_at c.args.k in
     let x = c.in_ok-number.ensures in
@@ -42,7 +42,7 @@ returns-in_ok-begun_with-clause-walked g c =
 pub returns-in_ok-forget-clause-walked : goal.returns-in_ok-forget-clause-walked
 returns-in_ok-forget-clause-walked g c =
     let V = g.V.Values in
-    let G = g.O.PathSetting.setting c.args.out.now in
+    let G = g.O.RunSetting.setting c.args.out.now in
     let e = view_expression c.args.e.now in
     let t = G.typing.type_at c.args.k in
     let x = c.in_ok-number.ensures in
@@ -68,4 +68,4 @@ pub returns-in_ok-begun_with-clause-cost : goal.returns-in_ok-begun_with-clause-
 returns-in_ok-begun_with-clause-cost g c = rw (sym c.if-is_scalar_at.ensures) (costs_then c.in_ok-number.ensures.cost c.in_ok-begun_with.ensures.cost)
 
 pub returns-in_ok-forget-clause-cost : goal.returns-in_ok-forget-clause-cost
-returns-in_ok-forget-clause-cost g c = rw (sym c.if-is_scalar_at.ensures) (costs_then c.in_ok-number.ensures.cost (c.in_ok-forget.ensures.cost (length (g.O.PathSetting.setting c.args.out.now).kept)))
+returns-in_ok-forget-clause-cost g c = rw (sym c.if-is_scalar_at.ensures) (costs_then c.in_ok-number.ensures.cost (c.in_ok-forget.ensures.cost (length (g.O.RunSetting.setting c.args.out.now).kept)))

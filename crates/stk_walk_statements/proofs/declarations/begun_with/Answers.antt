@@ -15,7 +15,7 @@ use Rattle.stk_walk_statements.proofs.declarations.begun_with.Goals as goal
 pub returns-in-Register-clause-made : goal.returns-in-Register-clause-made
 returns-in-Register-clause-made g c =
     let made = g.V.Values.made in
-    let G = g.O.PathSetting.setting c.args.out.now in
+    let G = g.O.RunSetting.setting c.args.out.now in
     let K = number_kind (G.typing.type_at c.args.k) in
     let at = c.in-Register.at in
     let e : target_at G c.args.k ≡ in_register at = sym c.target_at.ensures ∙ ap target_shown c.in-Register.is in
@@ -34,7 +34,7 @@ returns-in-Register-clause-made g c =
 pub returns-in-Register-clause-follows : goal.returns-in-Register-clause-follows
 returns-in-Register-clause-follows g c = λ m s x served hv at0.
     let shows = g.V.Values.shows in
-    let G = g.O.PathSetting.setting c.args.out.now in
+    let G = g.O.RunSetting.setting c.args.out.now in
     let K = number_kind (G.typing.type_at c.args.k) in
     let y = converted (G.typing.type_at c.args.k) x in
     let at = c.in-Register.at in
@@ -56,7 +56,7 @@ returns-in-Register-clause-follows g c = λ m s x served hv at0.
 
 pub store_cell-requires-clause-row : goal.store_cell-requires-clause-row
 store_cell-requires-clause-row g c =
-    let G = g.O.PathSetting.setting c.args.out.now in
+    let G = g.O.RunSetting.setting c.args.out.now in
     let K = number_kind (G.typing.type_at c.args.k) in
     let at = c.in-Kept.at in
     let e : target_at G c.args.k ≡ in_kept at = sym c.target_at.ensures ∙ ap target_shown c.in-Kept.is in
@@ -66,7 +66,7 @@ store_cell-requires-clause-row g c =
 pub returns-in_ok-store_cell-in-Kept-clause-made : goal.returns-in_ok-store_cell-in-Kept-clause-made
 returns-in_ok-store_cell-in-Kept-clause-made g c =
     let made = g.V.Values.made in
-    let G = g.O.PathSetting.setting c.args.out.now in
+    let G = g.O.RunSetting.setting c.args.out.now in
     let K = number_kind (G.typing.type_at c.args.k) in
     let at = c.in-Kept.at in
     let e : target_at G c.args.k ≡ in_kept at = sym c.target_at.ensures ∙ ap target_shown c.in-Kept.is in
@@ -84,7 +84,7 @@ returns-in_ok-store_cell-in-Kept-clause-made g c =
 pub returns-in_ok-store_cell-in-Kept-clause-follows : goal.returns-in_ok-store_cell-in-Kept-clause-follows
 returns-in_ok-store_cell-in-Kept-clause-follows g c = λ m s x served hv at0.
     let shows = g.V.Values.shows in
-    let G = g.O.PathSetting.setting c.args.out.now in
+    let G = g.O.RunSetting.setting c.args.out.now in
     let K = number_kind (G.typing.type_at c.args.k) in
     let y = converted (G.typing.type_at c.args.k) x in
     let at = c.in-Kept.at in
@@ -108,25 +108,25 @@ returns-in_ok-store_cell-in-Kept-clause-follows g c = λ m s x served hv at0.
 
 pub returns-in-Register-clause-cost : goal.returns-in-Register-clause-cost
 returns-in-Register-clause-cost g c =
-    let G = g.O.PathSetting.setting c.args.out.now in
+    let G = g.O.RunSetting.setting c.args.out.now in
     let e : target_at G c.args.k ≡ in_register c.in-Register.at = sym c.target_at.ensures ∙ ap target_shown c.in-Register.is in
     rw e costs_none
 
 pub returns-in_ok-store_cell-in-Kept-clause-cost : goal.returns-in_ok-store_cell-in-Kept-clause-cost
 returns-in_ok-store_cell-in-Kept-clause-cost g c =
-    let G = g.O.PathSetting.setting c.args.out.now in
+    let G = g.O.RunSetting.setting c.args.out.now in
     let e : target_at G c.args.k ≡ in_kept c.in-Kept.at = sym c.target_at.ensures ∙ ap target_shown c.in-Kept.is in
     let stored = rw c.kind_at-kind.ensures at c.in_ok-store_cell-in-Kept.ensures.cost in
     rw e (stored (length G.kept))
 
 pub returns-in-Object-clause-cost : goal.returns-in-Object-clause-cost
 returns-in-Object-clause-cost g c =
-    let G = g.O.PathSetting.setting c.args.out.now in
+    let G = g.O.RunSetting.setting c.args.out.now in
     let e : target_at G c.args.k ≡ in_object c.in-Object.field-0 = sym c.target_at.ensures ∙ ap target_shown c.in-Object.is in
     rw e costs_none
 
 pub returns-in_ok-forget-in-Unnamed-clause-cost : goal.returns-in_ok-forget-in-Unnamed-clause-cost
 returns-in_ok-forget-in-Unnamed-clause-cost g c =
-    let G = g.O.PathSetting.setting c.args.out.now in
+    let G = g.O.RunSetting.setting c.args.out.now in
     let e : target_at G c.args.k ≡ unnamed = sym c.target_at.ensures ∙ ap target_shown c.in-Unnamed.is in
     rw e (c.in_ok-forget-in-Unnamed.ensures.cost (length G.kept))

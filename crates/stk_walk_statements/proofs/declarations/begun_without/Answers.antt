@@ -19,7 +19,7 @@ pub returns-in_ok-number-in-Register-clause-walked : goal.returns-in_ok-number-i
 returns-in_ok-number-in-Register-clause-walked g c =
     let made = g.V.Values.made in
     let shows = g.V.Values.shows in
-    let G = g.O.PathSetting.setting c.args.out.now in
+    let G = g.O.RunSetting.setting c.args.out.now in
     let K = number_kind (G.typing.type_at c.args.k) in
     let at = c.in-Register.at in
     let n = c.in_ok-number-in-Register in
@@ -64,7 +64,7 @@ pub returns-in_ok-remove_cell-in-Kept-clause-walked : goal.returns-in_ok-remove_
 returns-in_ok-remove_cell-in-Kept-clause-walked g c =
     let made = g.V.Values.made in
     let shows = g.V.Values.shows in
-    let G = g.O.PathSetting.setting c.args.out.now in
+    let G = g.O.RunSetting.setting c.args.out.now in
     let at = c.in-Kept.at in
     let n = c.in_ok-remove_cell-in-Kept in
     let e : target_at G c.args.k ≡ in_kept at = sym c.target_at.ensures ∙ ap target_shown c.in-Kept.is in
@@ -100,24 +100,24 @@ returns-in_ok-remove_cell-in-Kept-clause-walked g c =
 
 pub returns-in_ok-number-in-Register-clause-cost : goal.returns-in_ok-number-in-Register-clause-cost
 returns-in_ok-number-in-Register-clause-cost g c =
-    let G = g.O.PathSetting.setting c.args.out.now in
+    let G = g.O.RunSetting.setting c.args.out.now in
     let e : target_at G c.args.k ≡ in_register c.in-Register.at = sym c.target_at.ensures ∙ ap target_shown c.in-Register.is in
     rw e (costs_free refl c.in_ok-number-in-Register.ensures.charge)
 
 pub returns-in_ok-remove_cell-in-Kept-clause-cost : goal.returns-in_ok-remove_cell-in-Kept-clause-cost
 returns-in_ok-remove_cell-in-Kept-clause-cost g c =
-    let G = g.O.PathSetting.setting c.args.out.now in
+    let G = g.O.RunSetting.setting c.args.out.now in
     let e : target_at G c.args.k ≡ in_kept c.in-Kept.at = sym c.target_at.ensures ∙ ap target_shown c.in-Kept.is in
     rw e (c.in_ok-remove_cell-in-Kept.ensures.cost (length G.kept))
 
 pub returns-in-Object-clause-cost : goal.returns-in-Object-clause-cost
 returns-in-Object-clause-cost g c =
-    let G = g.O.PathSetting.setting c.args.out.now in
+    let G = g.O.RunSetting.setting c.args.out.now in
     let e : target_at G c.args.k ≡ in_object c.in-Object.field-0 = sym c.target_at.ensures ∙ ap target_shown c.in-Object.is in
     rw e costs_none
 
 pub returns-in-Unnamed-clause-cost : goal.returns-in-Unnamed-clause-cost
 returns-in-Unnamed-clause-cost g c =
-    let G = g.O.PathSetting.setting c.args.out.now in
+    let G = g.O.RunSetting.setting c.args.out.now in
     let e : target_at G c.args.k ≡ unnamed = sym c.target_at.ensures ∙ ap target_shown c.in-Unnamed.is in
     rw e costs_none

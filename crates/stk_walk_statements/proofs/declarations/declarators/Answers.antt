@@ -20,10 +20,10 @@ use Rattle.stk_walk_statements.proofs.declarations.declarators.Goals as goal
 pub loop-d-init : goal.loop-d-init
 loop-d-init g c =
     let V = g.V.Values in
-    ([], refl, walked_none V.serves V.has_key V.made V.shows (g.O.PathSetting.setting c.args.out.now) _ c.args.values.now c.args.state.now c.requires.made (λ m s u h. h), record { so_far = 0; costs = costs_none; completes = omega arith })
+    ([], refl, walked_none V.serves V.has_key V.made V.shows (g.O.RunSetting.setting c.args.out.now) _ c.args.values.now c.args.state.now c.requires.made (λ m s u h. h), record { so_far = 0; costs = costs_none; completes = omega arith })
 
 pub declarator-requires-clause-kinded : goal.declarator-requires-clause-kinded
-declarator-requires-clause-kinded g c = kinded_declarator (g.O.PathSetting.setting c.args.out.now) c.args.lasts c.args.list.now c.loop-d.d-index c.d-item.result c.loop-d-test.true c.d-item.is c.requires.kinded
+declarator-requires-clause-kinded g c = kinded_declarator (g.O.RunSetting.setting c.args.out.now) c.args.lasts c.args.list.now c.loop-d.d-index c.d-item.result c.loop-d-test.true c.d-item.is c.requires.kinded
 
 pub declarator-requires-clause-keys : goal.declarator-requires-clause-keys
 declarator-requires-clause-keys g c =
@@ -36,7 +36,7 @@ declarator-requires-clause-made g c = c.loop-d.invariant.2.made
 pub loop-d-preserved : goal.loop-d-preserved
 loop-d-preserved g c =
     let V = g.V.Values in
-    let G = g.O.PathSetting.setting c.args.out.now in
+    let G = g.O.RunSetting.setting c.args.out.now in
     let lasts = c.args.lasts in
     let list = c.args.list.now in
     let i = c.loop-d.d-index in
@@ -61,7 +61,7 @@ loop-d-preserved g c =
 pub returns-clause-walked : goal.returns-clause-walked
 returns-clause-walked g c =
     let V = g.V.Values in
-    let G = g.O.PathSetting.setting c.args.out.now in
+    let G = g.O.RunSetting.setting c.args.out.now in
     let list = c.args.list.now in
     let so_far = c.loop-d.invariant in
     let none : drop c.loop-d.d-index list ≡ [] = drop_all c.loop-d.d-index list (omega arith) in
@@ -73,7 +73,7 @@ returns-clause-walked g c =
 
 pub returns-clause-cost : goal.returns-clause-cost
 returns-clause-cost g c =
-    let G = g.O.PathSetting.setting c.args.out.now in
+    let G = g.O.RunSetting.setting c.args.out.now in
     let list = c.args.list.now in
     let none : drop c.loop-d.d-index list ≡ [] = drop_all c.loop-d.d-index list (omega arith) in
     let rest : declarators_spent G c.args.lasts (declarators (map view_declarator (drop c.loop-d.d-index list))) ≡ 0 = ap (λ z. declarators_spent G c.args.lasts (declarators (map view_declarator z))) none in

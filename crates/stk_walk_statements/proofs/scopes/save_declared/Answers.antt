@@ -13,7 +13,7 @@ use Rattle.stk_walk_statements.proofs.scopes.save_declared.Goals as goal
 pub loop-d-init : goal.loop-d-init
 loop-d-init g c =
     let V = g.V.Values in
-    let row = register_kind (g.O.PathSetting.setting c.args.out.now) in (
+    let row = register_kind (g.O.RunSetting.setting c.args.out.now) in (
       keeps_none V.serves V.has_key V.made V.shows c.args.values.now,
       c.requires.saved,
       [],
@@ -26,7 +26,7 @@ loop-d-init g c =
 pub save-requires-clause-registers : goal.save-requires-clause-registers
 save-requires-clause-registers g c =
     let made = g.V.Values.made in
-    row_made (made c.args.values.now) (made c.loop-d.values) c.loop-d.invariant.0.made_still (register_kind (g.O.PathSetting.setting c.args.out.now)) 0 c.args.registers.now.items c.requires.registers
+    row_made (made c.args.values.now) (made c.loop-d.values) c.loop-d.invariant.0.made_still (register_kind (g.O.RunSetting.setting c.args.out.now)) 0 c.args.registers.now.items c.requires.registers
 
 pub save-requires-clause-saved : goal.save-requires-clause-saved
 save-requires-clause-saved g c = c.loop-d.invariant.1
@@ -34,7 +34,7 @@ save-requires-clause-saved g c = c.loop-d.invariant.1
 pub loop-d-preserved : goal.loop-d-preserved
 loop-d-preserved g c =
     let V = g.V.Values in
-    let row = register_kind (g.O.PathSetting.setting c.args.out.now) in
+    let row = register_kind (g.O.RunSetting.setting c.args.out.now) in
     let list = c.args.list.now in
     let i = c.loop-d.d-index in
     let so_far = c.loop-d.invariant in
@@ -59,7 +59,7 @@ loop-d-preserved g c =
 pub returns-clause-shown : goal.returns-clause-shown
 returns-clause-shown g c = λ m js xs served at h.
     let V = g.V.Values in
-    let row = register_kind (g.O.PathSetting.setting c.args.out.now) in
+    let row = register_kind (g.O.RunSetting.setting c.args.out.now) in
     let so_far = c.loop-d.invariant in
     let none : drop c.loop-d.d-index c.args.list.now ≡ [] = drop_all c.loop-d.d-index c.args.list.now (omega arith) in
     let whole : so_far.2 ++ [] ≡ declared_by (declarators (map view_declarator c.args.list.now)) = rw none at so_far.3 in

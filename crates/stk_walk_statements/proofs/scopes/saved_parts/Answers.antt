@@ -11,14 +11,14 @@ use Rattle.stk_walk_statements.proofs.scopes.saved_parts.Goals as goal
 pub loop-part-init : goal.loop-part-init
 loop-part-init g c =
     let V = g.V.Values in
-    let row = register_kind (g.O.PathSetting.setting c.args.out.now) in
+    let row = register_kind (g.O.RunSetting.setting c.args.out.now) in
     let made : SavedMade (V.made c.args.values.now) row c.new-saved.result.items = rw c.new-saved.ensures.items tt in
     (keeps_none V.serves V.has_key V.made V.shows c.args.values.now, made, [], refl, (λ m xs served at. rw c.new-saved.ensures.items tt), omega arith)
 
 pub save_part-requires-clause-registers : goal.save_part-requires-clause-registers
 save_part-requires-clause-registers g c =
     let made = g.V.Values.made in
-    row_made (made c.args.values.now) (made c.loop-part.values) c.loop-part.invariant.0.made_still (register_kind (g.O.PathSetting.setting c.args.out.now)) 0 c.args.registers.now.items c.requires
+    row_made (made c.args.values.now) (made c.loop-part.values) c.loop-part.invariant.0.made_still (register_kind (g.O.RunSetting.setting c.args.out.now)) 0 c.args.registers.now.items c.requires
 
 pub save_part-requires-clause-saved : goal.save_part-requires-clause-saved
 save_part-requires-clause-saved g c = c.loop-part.invariant.1
@@ -26,7 +26,7 @@ save_part-requires-clause-saved g c = c.loop-part.invariant.1
 pub loop-part-preserved : goal.loop-part-preserved
 loop-part-preserved g c =
     let V = g.V.Values in
-    let row = register_kind (g.O.PathSetting.setting c.args.out.now) in
+    let row = register_kind (g.O.RunSetting.setting c.args.out.now) in
     let list = c.args.list.now in
     let i = c.loop-part.part-index in
     let so_far = c.loop-part.invariant in
@@ -49,7 +49,7 @@ loop-part-preserved g c =
 pub returns-clause-shown : goal.returns-clause-shown
 returns-clause-shown g c = λ m xs served at.
     let V = g.V.Values in
-    let row = register_kind (g.O.PathSetting.setting c.args.out.now) in
+    let row = register_kind (g.O.RunSetting.setting c.args.out.now) in
     let so_far = c.loop-part.invariant in
     let none : drop c.loop-part.part-index c.args.list.now ≡ [] = drop_all c.loop-part.part-index c.args.list.now (omega arith) in
     let whole : so_far.2 ++ [] ≡ parts_declare (parts (map view_part c.args.list.now)) = rw none at so_far.3 in

@@ -11,7 +11,7 @@ use Rattle.stk_walk_statements.proofs.scopes.saved_parts.Given as goal
 abbrev pub invariant-loop-part : goal.invariant-loop-part
 invariant-loop-part g l =
     Keeps g.V.Values.serves g.V.Values.has_key g.V.Values.made g.V.Values.shows l.fn.values l.values
-    × SavedMade (g.V.Values.made l.values) (register_kind (g.O.PathSetting.setting l.fn.out)) l.saved.items
+    × SavedMade (g.V.Values.made l.values) (register_kind (g.O.RunSetting.setting l.fn.out)) l.saved.items
     × (is : List ℕ) × (is ++ parts_declare (parts (map view_part (drop l.part-index l.list))) ≡ parts_declare (parts (map view_part l.list)))
-    × ((m : List ℤ) (xs : List ℤ) → g.V.Values.serves l.fn.values m → RowShows (g.V.Values.shows l.fn.values m) (register_kind (g.O.PathSetting.setting l.fn.out)) 0 l.fn.registers.items xs → SavedShow (g.V.Values.shows l.values m) (register_kind (g.O.PathSetting.setting l.fn.out)) l.saved.items is xs)
+    × ((m : List ℤ) (xs : List ℤ) → g.V.Values.serves l.fn.values m → RowShows (g.V.Values.shows l.fn.values m) (register_kind (g.O.RunSetting.setting l.fn.out)) 0 l.fn.registers.items xs → SavedShow (g.V.Values.shows l.values m) (register_kind (g.O.RunSetting.setting l.fn.out)) l.saved.items is xs)
     × (g.V.Values.cost l.values ≤ g.V.Values.cost l.fn.values)

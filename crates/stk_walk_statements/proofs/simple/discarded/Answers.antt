@@ -15,13 +15,13 @@ use Rattle.stk_walk_statements.proofs.simple.discarded.Goals as goal
 pub returns-in-None-clause-walked : goal.returns-in-None-clause-walked
 returns-in-None-clause-walked g c =
     let V = g.V.Values in
-    let G = g.O.PathSetting.setting c.args.out.now in
+    let G = g.O.RunSetting.setting c.args.out.now in
     rw c.in-None.is (walked_none V.serves V.has_key V.made V.shows G (as_part (λ m. discarded_run G (path_world (g.O.WalkSetting.under c.args.out.now m)) s.no_expression)) c.args.values.now c.args.state.now c.requires.made (λ m s. gives_goes Normal s))
 
 pub returns-in_ok-_number-in-Some-clause-walked : goal.returns-in_ok-_number-in-Some-clause-walked
 returns-in_ok-_number-in-Some-clause-walked g c =
     let V = g.V.Values in
-    let G = g.O.PathSetting.setting c.args.out.now in
+    let G = g.O.RunSetting.setting c.args.out.now in
     let e = view_expression c.in-Some.e.now in
     let n = c.in_ok-_number-in-Some in
     rw c.in-Some.is (walked_value V.serves V.has_key V.made V.shows G (value_events G e) (λ m. value_of G (path_world (g.O.WalkSetting.under c.args.out.now m)) e) (λ m x. V.shows c.value.new.values m (number_kind (type_in G.typing e)) n._number x)

@@ -14,7 +14,7 @@ use Rattle.stk_walk_statements.proofs.simple.returned.Goals as goal
 pub returns-clause-walked : goal.returns-clause-walked
 returns-clause-walked g c =
     let V = g.V.Values in
-    let G = g.O.PathSetting.setting c.args.out.now in
+    let G = g.O.RunSetting.setting c.args.out.now in
     let e = given_expression (option_copied c.args.e) in
     let x = c.in_ok-discarded.ensures.walked in
     let y = c.in_ok-leave_by_return.ensures in

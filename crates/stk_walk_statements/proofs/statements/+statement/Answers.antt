@@ -65,7 +65,7 @@ statement-returns-in-Block-clause-walked g t c = rw (at_block c.args.s.now c.in-
 pub statement-returns-in_ok-discarded-in-Plain-clause-walked : goal.statement-returns-in_ok-discarded-in-Plain-clause-walked
 statement-returns-in_ok-discarded-in-Plain-clause-walked g t c =
     let V = g.V.Values in
-    let G = g.O.PathSetting.setting c.args.out.now in
+    let G = g.O.RunSetting.setting c.args.out.now in
     let e = given_expression c.in-Plain.e in
     let part = rw c.as_ref.ensures.value at c.in_ok-discarded-in-Plain.ensures.walked in
     rw (at_expression_statement c.args.s.now c.in-Plain.e c.in-Plain.is)
@@ -75,7 +75,7 @@ statement-returns-in_ok-discarded-in-Plain-clause-walked g t c =
 pub statement-returns-in_ok-join-in-If-clause-walked : goal.statement-returns-in_ok-join-in-If-clause-walked
 statement-returns-in_ok-join-in-If-clause-walked g t c =
     let V = g.V.Values in
-    let G = g.O.PathSetting.setting c.args.out.now in
+    let G = g.O.RunSetting.setting c.args.out.now in
     let e = view_expression c.in-If.e in
     let x = view_statement c.get.result.now in
     let y = maybe_statement (option_map view_statement c.in-If.other) in
@@ -125,7 +125,7 @@ statement-returns-in-Switch-clause-walked g t c = rw (at_switch_statement c.args
 pub statement-returns-in_ok-while_loop-in-While-clause-walked : goal.statement-returns-in_ok-while_loop-in-While-clause-walked
 statement-returns-in_ok-while_loop-in-While-clause-walked g t c =
     let V = g.V.Values in
-    let G = g.O.PathSetting.setting c.args.out.now in
+    let G = g.O.RunSetting.setting c.args.out.now in
     let e = view_expression c.in-While.e in
     let x = view_statement c.in-While.x in
     let is = at_while_statement c.args.s.now c.in-While.e c.in-While.x c.in-While.is in
@@ -148,7 +148,7 @@ statement-returns-in-For-clause-walked g t c =
 
 pub statement-returns-in_ok-leave_by_break-in-Break-clause-walked : goal.statement-returns-in_ok-leave_by_break-in-Break-clause-walked
 statement-returns-in_ok-leave_by_break-in-Break-clause-walked g t c =
-    let G = g.O.PathSetting.setting c.args.out.now in
+    let G = g.O.RunSetting.setting c.args.out.now in
     let x1 = c.in_ok-leave_by_break-in-Break.ensures in
     rw (at_break_statement c.args.s.now c.in-Break.is)
     (record {
@@ -160,7 +160,7 @@ statement-returns-in_ok-leave_by_break-in-Break-clause-walked g t c =
 
 pub statement-returns-in_ok-leave_by_continue-in-Continue-clause-walked : goal.statement-returns-in_ok-leave_by_continue-in-Continue-clause-walked
 statement-returns-in_ok-leave_by_continue-in-Continue-clause-walked g t c =
-    let G = g.O.PathSetting.setting c.args.out.now in
+    let G = g.O.RunSetting.setting c.args.out.now in
     let x1 = c.in_ok-leave_by_continue-in-Continue.ensures in
     rw (at_continue_statement c.args.s.now c.in-Continue.is)
     (record {
@@ -178,7 +178,7 @@ statement-returns-in-Return-clause-walked g t c = rw (at_return_statement c.args
 pub entered-returns-clause-walked : goal.entered-returns-clause-walked
 entered-returns-clause-walked g t c =
     let V = g.V.Values in
-    let G = g.O.PathSetting.setting c.args.out.now in
+    let G = g.O.RunSetting.setting c.args.out.now in
     let k = (out-Stmt c.args.s.now).node.number in
     let x = view_statement c.args.s.now in
     let e1 = c.in_ok-enter.ensures in
@@ -197,7 +197,7 @@ entered-returns-clause-walked g t c =
 pub otherwise-returns-in-None-clause-walked : goal.otherwise-returns-in-None-clause-walked
 otherwise-returns-in-None-clause-walked g t c =
     let V = g.V.Values in
-    let G = g.O.PathSetting.setting c.args.out.now in
+    let G = g.O.RunSetting.setting c.args.out.now in
     rw c.in-None.is (walked_none V.serves V.has_key V.made V.shows G _ c.args.values.now c.args.state.now c.requires.made (λ m s. empty_flows s))
 
 -- ---- blocks
@@ -205,7 +205,7 @@ otherwise-returns-in-None-clause-walked g t c =
 pub block-returns-clause-walked : goal.block-returns-clause-walked
 block-returns-clause-walked g t c =
     let V = g.V.Values in
-    let G = g.O.PathSetting.setting c.args.out.now in
+    let G = g.O.RunSetting.setting c.args.out.now in
     let row = register_kind G in
     let ps = parts (map view_part c.args.list.now) in
     let ks = parts_declare ps in
@@ -246,12 +246,12 @@ block-returns-clause-walked g t c =
 pub parts-loop-p-init : goal.parts-loop-p-init
 parts-loop-p-init g t c =
     let V = g.V.Values in
-    ([], refl, walked_none V.serves V.has_key V.made V.shows (g.O.PathSetting.setting c.args.out.now) _ c.args.values.now c.args.state.now c.requires.made (λ m s u h. h), record { so_far = 0; costs = costs_none; completes = omega arith })
+    ([], refl, walked_none V.serves V.has_key V.made V.shows (g.O.RunSetting.setting c.args.out.now) _ c.args.values.now c.args.state.now c.requires.made (λ m s u h. h), record { so_far = 0; costs = costs_none; completes = omega arith })
 
 pub parts-loop-p-preserved : goal.parts-loop-p-preserved
 parts-loop-p-preserved g t c =
     let V = g.V.Values in
-    let G = g.O.PathSetting.setting c.args.out.now in
+    let G = g.O.RunSetting.setting c.args.out.now in
     let list = c.args.list.now in
     let i = c.loop-p.p-index in
     let so_far = c.loop-p.invariant in
@@ -275,7 +275,7 @@ parts-loop-p-preserved g t c =
 pub parts-returns-clause-walked : goal.parts-returns-clause-walked
 parts-returns-clause-walked g t c =
     let V = g.V.Values in
-    let G = g.O.PathSetting.setting c.args.out.now in
+    let G = g.O.RunSetting.setting c.args.out.now in
     let list = c.args.list.now in
     let so_far = c.loop-p.invariant in
     let none : drop c.loop-p.p-index list ≡ [] = drop_all c.loop-p.p-index list (omega arith) in
@@ -288,7 +288,7 @@ parts-returns-clause-walked g t c =
 pub part-returns-in_ok-declaration-in-Local-clause-walked : goal.part-returns-in_ok-declaration-in-Local-clause-walked
 part-returns-in_ok-declaration-in-Local-clause-walked g t c =
     let V = g.V.Values in
-    let G = g.O.PathSetting.setting c.args.out.now in
+    let G = g.O.RunSetting.setting c.args.out.now in
     rw (at_local c.args.p.now c.in-Local.d c.in-Local.is)
     (walked_as V.serves V.has_key V.made V.shows G _ _ _ c.args.values.now c.declaration.new.values c.args.state.now c.declaration.new.state (λ m s t h. declares_flows _ _ s t h) c.in_ok-declaration-in-Local.ensures.walked)
 
@@ -300,7 +300,7 @@ part-returns-in-Run-clause-walked g t c = rw (at_run c.args.p.now c.in-Run.s c.i
 pub for_loop-returns-clause-walked : goal.for_loop-returns-clause-walked
 for_loop-returns-clause-walked g t c =
     let V = g.V.Values in
-    let G = g.O.PathSetting.setting c.args.out.now in
+    let G = g.O.RunSetting.setting c.args.out.now in
     let row = register_kind G in
     let first = view_start c.args.first.now in
     let test = given_expression (option_copied c.args.test) in
@@ -356,7 +356,7 @@ while_loop-begin_loop-requires-clause-known g t c = rw (view_node c.args.whole.n
 pub while_loop-returns-clause-walked : goal.while_loop-returns-clause-walked
 while_loop-returns-clause-walked g t c =
     let V = g.V.Values in
-    let G = g.O.PathSetting.setting c.args.out.now in
+    let G = g.O.RunSetting.setting c.args.out.now in
     let test = given_expression (option_copied c.args.test) in
     let step = given_expression (option_copied c.args.step) in
     let node = (out-Stmt c.args.whole.now).node.number in
@@ -385,7 +385,7 @@ while_turn-returns-in-None-clause-walked g t c = rw c.in-None.is c.turn.ensures.
 pub while_turn-returns-in_ok-join-in-Some-clause-walked : goal.while_turn-returns-in_ok-join-in-Some-clause-walked
 while_turn-returns-in_ok-join-in-Some-clause-walked g t c =
     let V = g.V.Values in
-    let G = g.O.PathSetting.setting c.args.out.now in
+    let G = g.O.RunSetting.setting c.args.out.now in
     let e = view_expression c.in-Some.e.now in
     let step = given_expression (option_copied c.args.step) in
     let body = view_statement c.args.body.now in
@@ -420,7 +420,7 @@ while_turn-returns-in_ok-join-in-Some-clause-walked g t c =
 pub turn-returns-clause-walked : goal.turn-returns-clause-walked
 turn-returns-clause-walked g t c =
     let V = g.V.Values in
-    let G = g.O.PathSetting.setting c.args.out.now in
+    let G = g.O.RunSetting.setting c.args.out.now in
     let step = given_expression (option_copied c.args.step) in
     let body = view_statement c.args.body.now in
     let o1 = c.in_ok-open_body.ensures in
@@ -472,7 +472,7 @@ do_loop-begin_loop-requires-clause-known g t c = rw (view_node c.args.whole.now)
 pub do_loop-returns-clause-walked : goal.do_loop-returns-clause-walked
 do_loop-returns-clause-walked g t c =
     let V = g.V.Values in
-    let G = g.O.PathSetting.setting c.args.out.now in
+    let G = g.O.RunSetting.setting c.args.out.now in
     let e = view_expression c.args.test.now in
     let node = (out-Stmt c.args.whole.now).node.number in
     let form = view_statement_form (out-Stmt c.args.whole.now).form in
@@ -497,7 +497,7 @@ do_loop-returns-clause-walked g t c =
 pub do_turn-returns-clause-walked : goal.do_turn-returns-clause-walked
 do_turn-returns-clause-walked g t c =
     let V = g.V.Values in
-    let G = g.O.PathSetting.setting c.args.out.now in
+    let G = g.O.RunSetting.setting c.args.out.now in
     let e = view_expression c.args.test.now in
     let body = view_statement c.args.body.now in
     let o1 = c.in_ok-open_body.ensures in
@@ -551,7 +551,7 @@ do_turn-returns-clause-walked g t c =
 
 pub switch-converted-requires : goal.switch-converted-requires
 switch-converted-requires g t c =
-    let G = g.O.PathSetting.setting c.args.out.now in
+    let G = g.O.RunSetting.setting c.args.out.now in
     let e = view_expression c.args.e.now in
     let own : c.kind_at-own.result ≡ number_kind (type_in G.typing e) = c.kind_at-own.ensures ∙ ap (λ k. number_kind (G.typing.type_at k)) c.node_of.ensures in
     subst (λ (j : IntKind). g.V.Values.made c.value.new.values j c.in_ok-number.number) (sym own) c.in_ok-number.ensures.makes
@@ -559,7 +559,7 @@ switch-converted-requires g t c =
 pub switch-returns-clause-walked : goal.switch-returns-clause-walked
 switch-returns-clause-walked g t c =
     let V = g.V.Values in
-    let G = g.O.PathSetting.setting c.args.out.now in
+    let G = g.O.RunSetting.setting c.args.out.now in
     let e = view_expression c.args.e.now in
     let ss = sections (map view_section c.args.list.now) in
     let own : c.kind_at-own.result ≡ number_kind (type_in G.typing e) = c.kind_at-own.ensures ∙ ap (λ k. number_kind (G.typing.type_at k)) c.node_of.ensures in
@@ -628,7 +628,7 @@ sections-join-requires-clause-other g t c =
 pub sections-loop-at-preserved : goal.sections-loop-at-preserved
 sections-loop-at-preserved g t c =
     let V = g.V.Values in
-    let G = g.O.PathSetting.setting c.args.out.now in
+    let G = g.O.RunSetting.setting c.args.out.now in
     let list = c.args.list.now in
     let tests = c.args.tests.now in
     let i = c.loop-at.at in
@@ -680,7 +680,7 @@ sections-loop-at-preserved g t c =
 pub sections-returns-clause-walked : goal.sections-returns-clause-walked
 sections-returns-clause-walked g t c =
     let V = g.V.Values in
-    let G = g.O.PathSetting.setting c.args.out.now in
+    let G = g.O.RunSetting.setting c.args.out.now in
     let list = c.args.list.now in
     let so_far = c.loop-at.invariant in
     let at = c.loop-at.at in
@@ -704,7 +704,7 @@ sections-returns-clause-walked g t c =
 pub section-returns-clause-walked : goal.section-returns-clause-walked
 section-returns-clause-walked g t c =
     let V = g.V.Values in
-    let G = g.O.PathSetting.setting c.args.out.now in
+    let G = g.O.RunSetting.setting c.args.out.now in
     let k = (out-Section c.args.x.now).node.number in
     let xs = statements (map view_statement c.as_slice.result.now) in
     let e1 = c.in_ok-enter.ensures in
@@ -723,12 +723,12 @@ section-returns-clause-walked g t c =
 pub statements-loop-s-init : goal.statements-loop-s-init
 statements-loop-s-init g t c =
     let V = g.V.Values in
-    ([], refl, walked_none V.serves V.has_key V.made V.shows (g.O.PathSetting.setting c.args.out.now) _ c.args.values.now c.args.state.now c.requires.made (λ m s u h. h), record { so_far = 0; costs = costs_none; completes = omega arith })
+    ([], refl, walked_none V.serves V.has_key V.made V.shows (g.O.RunSetting.setting c.args.out.now) _ c.args.values.now c.args.state.now c.requires.made (λ m s u h. h), record { so_far = 0; costs = costs_none; completes = omega arith })
 
 pub statements-loop-s-preserved : goal.statements-loop-s-preserved
 statements-loop-s-preserved g t c =
     let V = g.V.Values in
-    let G = g.O.PathSetting.setting c.args.out.now in
+    let G = g.O.RunSetting.setting c.args.out.now in
     let list = c.args.list.now in
     let i = c.loop-s.s-index in
     let so_far = c.loop-s.invariant in
@@ -752,7 +752,7 @@ statements-loop-s-preserved g t c =
 pub statements-returns-clause-walked : goal.statements-returns-clause-walked
 statements-returns-clause-walked g t c =
     let V = g.V.Values in
-    let G = g.O.PathSetting.setting c.args.out.now in
+    let G = g.O.RunSetting.setting c.args.out.now in
     let list = c.args.list.now in
     let so_far = c.loop-s.invariant in
     let none : drop c.loop-s.s-index list ≡ [] = drop_all c.loop-s.s-index list (omega arith) in
@@ -766,8 +766,8 @@ statements-returns-clause-walked g t c =
 
 pub statement-block-requires : goal.statement-block-requires
 statement-block-requires g t c κs within =
-    let P = g.O.PathSetting.knows c.args.out.now in
-    let G = g.O.PathSetting.setting c.args.out.now in
+    let P = g.O.RunSetting.knows c.args.out.now in
+    let G = g.O.RunSetting.setting c.args.out.now in
     let is = at_block c.args.s.now c.in-Block.list c.in-Block.is in
     let each : EachLoopOfParts P (parts (map view_part c.as_slice.result.now)) = rw (is, ← c.as_slice.ensures) at c.requires.loops in
     let kinded : KindedBlock G (parts (map view_part c.as_slice.result.now)) = rw (is, ← c.as_slice.ensures) at c.requires.kinded in
@@ -778,8 +778,8 @@ statement-block-requires g t c κs within =
 pub statement-entered-requires : goal.statement-entered-requires
 statement-entered-requires g t c κs within =
     let V = g.V.Values in
-    let P = g.O.PathSetting.knows c.args.out.now in
-    let G = g.O.PathSetting.setting c.args.out.now in
+    let P = g.O.RunSetting.knows c.args.out.now in
+    let G = g.O.RunSetting.setting c.args.out.now in
     let is = at_if_statement c.args.s.now c.in-If.e c.in-If.x c.in-If.other c.in-If.is in
     let known : EachLoop P (view_statement c.in-If.x) × EachLoopOfOther P (maybe_statement (option_map view_statement c.in-If.other)) = rw is at c.requires.loops in
     let kinds : Kinded G (view_expression c.in-If.e) × KindedStatement G (view_statement c.in-If.x) × KindedOther G (maybe_statement (option_map view_statement c.in-If.other)) = rw is at c.requires.kinded in
@@ -796,8 +796,8 @@ statement-entered-requires g t c κs within =
 pub statement-otherwise-requires : goal.statement-otherwise-requires
 statement-otherwise-requires g t c κs within =
     let V = g.V.Values in
-    let P = g.O.PathSetting.knows c.args.out.now in
-    let G = g.O.PathSetting.setting c.args.out.now in
+    let P = g.O.RunSetting.knows c.args.out.now in
+    let G = g.O.RunSetting.setting c.args.out.now in
     let is = at_if_statement c.args.s.now c.in-If.e c.in-If.x c.in-If.other c.in-If.is in
     let known : EachLoop P (view_statement c.in-If.x) × EachLoopOfOther P (maybe_statement (option_map view_statement c.in-If.other)) = rw is at c.requires.loops in
     let kinds : Kinded G (view_expression c.in-If.e) × KindedStatement G (view_statement c.in-If.x) × KindedOther G (maybe_statement (option_map view_statement c.in-If.other)) = rw is at c.requires.kinded in
@@ -812,8 +812,8 @@ statement-otherwise-requires g t c κs within =
 
 pub statement-switch-requires : goal.statement-switch-requires
 statement-switch-requires g t c κs within =
-    let P = g.O.PathSetting.knows c.args.out.now in
-    let G = g.O.PathSetting.setting c.args.out.now in
+    let P = g.O.RunSetting.knows c.args.out.now in
+    let G = g.O.RunSetting.setting c.args.out.now in
     let is = at_switch_statement c.args.s.now c.in-Switch.e c.in-Switch.list c.in-Switch.is in
     let each : EachLoopOfSections P (sections (map view_section c.as_slice-in-Switch.result.now)) = rw (is, ← c.as_slice-in-Switch.ensures) at c.requires.loops in
     let kinds : Kinded G (view_expression c.in-Switch.e) × KindedSections G (sections (map view_section c.as_slice-in-Switch.result.now)) = rw (is, ← c.as_slice-in-Switch.ensures) at c.requires.kinded in
@@ -823,8 +823,8 @@ statement-switch-requires g t c κs within =
 
 pub statement-while_loop-requires : goal.statement-while_loop-requires
 statement-while_loop-requires g t c κs within =
-    let P = g.O.PathSetting.knows c.args.out.now in
-    let G = g.O.PathSetting.setting c.args.out.now in
+    let P = g.O.RunSetting.knows c.args.out.now in
+    let G = g.O.RunSetting.setting c.args.out.now in
     let whole = view_statement c.args.s.now in
     let x = view_statement c.in-While.x in
     let e = view_expression c.in-While.e in
@@ -840,8 +840,8 @@ statement-while_loop-requires g t c κs within =
 
 pub statement-do_loop-requires : goal.statement-do_loop-requires
 statement-do_loop-requires g t c κs within =
-    let P = g.O.PathSetting.knows c.args.out.now in
-    let G = g.O.PathSetting.setting c.args.out.now in
+    let P = g.O.RunSetting.knows c.args.out.now in
+    let G = g.O.RunSetting.setting c.args.out.now in
     let whole = view_statement c.args.s.now in
     let x = view_statement c.in-Do.x in
     let e = view_expression c.in-Do.e in
@@ -857,8 +857,8 @@ statement-do_loop-requires g t c κs within =
 
 pub statement-for_loop-requires : goal.statement-for_loop-requires
 statement-for_loop-requires g t c κs within =
-    let P = g.O.PathSetting.knows c.args.out.now in
-    let G = g.O.PathSetting.setting c.args.out.now in
+    let P = g.O.RunSetting.knows c.args.out.now in
+    let G = g.O.RunSetting.setting c.args.out.now in
     let whole = view_statement c.args.s.now in
     let x = view_statement c.in-For.x in
     let first = view_start c.in-For.first in
@@ -879,8 +879,8 @@ statement-for_loop-requires g t c κs within =
 pub parts-part-requires : goal.parts-part-requires
 parts-part-requires g t c κs within =
     let V = g.V.Values in
-    let P = g.O.PathSetting.knows c.args.out.now in
-    let G = g.O.PathSetting.setting c.args.out.now in
+    let P = g.O.RunSetting.knows c.args.out.now in
+    let G = g.O.RunSetting.setting c.args.out.now in
     let so_far = c.loop-p.invariant in
     let each : EachLoopOfPart P (view_part c.p-item.result) = of_part P c.args.list.now c.loop-p.p-index c.p-item.result c.loop-p-test.true c.p-item.is c.requires.loops in
     let kinded = kinded_part G c.args.list.now c.loop-p.p-index c.p-item.result c.loop-p-test.true c.p-item.is c.requires.kinded in
@@ -890,8 +890,8 @@ parts-part-requires g t c κs within =
 
 pub part-statement-requires : goal.part-statement-requires
 part-statement-requires g t c κs within =
-    let P = g.O.PathSetting.knows c.args.out.now in
-    let G = g.O.PathSetting.setting c.args.out.now in
+    let P = g.O.RunSetting.knows c.args.out.now in
+    let G = g.O.RunSetting.setting c.args.out.now in
     let is = at_run c.args.p.now c.in-Run.s c.in-Run.is in
     let each : EachLoop P (view_statement c.in-Run.s) = rw is at c.requires.loops in
     let kinded : KindedStatement G (view_statement c.in-Run.s) = rw is at c.requires.kinded in
@@ -901,8 +901,8 @@ part-statement-requires g t c κs within =
 pub sections-section-requires : goal.sections-section-requires
 sections-section-requires g t c κs within =
     let V = g.V.Values in
-    let P = g.O.PathSetting.knows c.args.out.now in
-    let G = g.O.PathSetting.setting c.args.out.now in
+    let P = g.O.RunSetting.knows c.args.out.now in
+    let G = g.O.RunSetting.setting c.args.out.now in
     let so_far = c.loop-at.invariant in
     let j1 = c.in_ok-join.ensures in
     let below : c.loop-at.at < length c.args.list.now = omega arith in
@@ -916,8 +916,8 @@ sections-section-requires g t c κs within =
 
 pub section-statements-requires : goal.section-statements-requires
 section-statements-requires g t c κs within =
-    let P = g.O.PathSetting.knows c.args.out.now in
-    let G = g.O.PathSetting.setting c.args.out.now in
+    let P = g.O.RunSetting.knows c.args.out.now in
+    let G = g.O.RunSetting.setting c.args.out.now in
     let is = at_section c.args.x.now in
     let each : EachLoopOfStatements P (statements (map view_statement c.as_slice.result.now)) = rw (is, ← c.as_slice.ensures) at c.requires.loops in
     let kinded : KindedStatements G (statements (map view_statement c.as_slice.result.now)) = rw (is, ← c.as_slice.ensures) at c.requires.kinded in
@@ -928,8 +928,8 @@ section-statements-requires g t c κs within =
 pub statements-statement-requires : goal.statements-statement-requires
 statements-statement-requires g t c κs within =
     let V = g.V.Values in
-    let P = g.O.PathSetting.knows c.args.out.now in
-    let G = g.O.PathSetting.setting c.args.out.now in
+    let P = g.O.RunSetting.knows c.args.out.now in
+    let G = g.O.RunSetting.setting c.args.out.now in
     let so_far = c.loop-s.invariant in
     let each : EachLoop P (view_statement c.s-item.result) = of_statement P c.args.list.now c.loop-s.s-index c.s-item.result c.loop-s-test.true c.s-item.is c.requires.loops in
     let kinded = kinded_statement G c.args.list.now c.loop-s.s-index c.s-item.result c.loop-s-test.true c.s-item.is c.requires.kinded in
@@ -940,7 +940,7 @@ statements-statement-requires g t c κs within =
 pub block-parts-requires : goal.block-parts-requires
 block-parts-requires g t c κs within =
     let V = g.V.Values in
-    let G = g.O.PathSetting.setting c.args.out.now in
+    let G = g.O.RunSetting.setting c.args.out.now in
     let k1 = c.in_ok-saved.ensures.keeps in
     let keys = there_still V.serves V.has_key V.made V.shows c.args.values.now c.saved_parts.new.values (g.O.WalkSetting.kinds c.args.out.now) k1 c.requires.keys in
     let made = is_made_still (V.made c.args.values.now) (V.made c.saved_parts.new.values) k1.made_still G c.args.state.now c.requires.made in
@@ -949,12 +949,12 @@ block-parts-requires g t c κs within =
 pub for_loop-start-requires-clause-made : goal.for_loop-start-requires-clause-made
 for_loop-start-requires-clause-made g t c =
     let V = g.V.Values in
-    is_made_still (V.made c.args.values.now) (V.made c.saved_start.new.values) c.in_ok-saved.ensures.keeps.made_still (g.O.PathSetting.setting c.args.out.now) c.args.state.now c.requires.made
+    is_made_still (V.made c.args.values.now) (V.made c.saved_start.new.values) c.in_ok-saved.ensures.keeps.made_still (g.O.RunSetting.setting c.args.out.now) c.args.state.now c.requires.made
 
 pub switch-sections-requires : goal.switch-sections-requires
 switch-sections-requires g t c κs within =
     let V = g.V.Values in
-    let G = g.O.PathSetting.setting c.args.out.now in
+    let G = g.O.RunSetting.setting c.args.out.now in
     let x1 = c.in_ok-number.ensures in
     let v1 = c.in_ok-promoted.ensures in
     let t1 = c.in_ok-tests.ensures in
@@ -1027,7 +1027,7 @@ block-returns-clause-cost g t c = costs_after c.in_ok-saved.ensures.charge c.in_
 
 pub parts-returns-clause-cost : goal.parts-returns-clause-cost
 parts-returns-clause-cost g t c =
-    let G = g.O.PathSetting.setting c.args.out.now in
+    let G = g.O.RunSetting.setting c.args.out.now in
     let list = c.args.list.now in
     let none : drop c.loop-p.p-index list ≡ [] = drop_all c.loop-p.p-index list (omega arith) in
     let rest : parts_spent G (parts (map view_part (drop c.loop-p.p-index list))) ≡ 0 = ap (λ z. parts_spent G (parts (map view_part z))) none in
@@ -1072,7 +1072,7 @@ do_turn-returns-clause-cost g t c =
 
 pub switch-returns-clause-cost : goal.switch-returns-clause-cost
 switch-returns-clause-cost g t c =
-    let G = g.O.PathSetting.setting c.args.out.now in
+    let G = g.O.RunSetting.setting c.args.out.now in
     let e = view_expression c.args.e.now in
     let own : c.kind_at-own.result ≡ number_kind (type_in G.typing e) = c.kind_at-own.ensures ∙ ap (λ k. number_kind (G.typing.type_at k)) c.node_of.ensures in
     let kind : c.promote-kind.result ≡ promote (number_kind (type_in G.typing e)) = c.promote-kind.ensures ∙ ap promote own in
@@ -1084,7 +1084,7 @@ switch-returns-clause-cost g t c =
 
 pub sections-returns-clause-cost : goal.sections-returns-clause-cost
 sections-returns-clause-cost g t c =
-    let G = g.O.PathSetting.setting c.args.out.now in
+    let G = g.O.RunSetting.setting c.args.out.now in
     let list = c.args.list.now in
     let none : drop c.loop-at.at list ≡ [] = drop_all c.loop-at.at list (omega arith) in
     let rest : sections_spent G (sections (map view_section (drop c.loop-at.at list))) ≡ 0 = ap (λ z. sections_spent G (sections (map view_section z))) none in
@@ -1095,7 +1095,7 @@ section-returns-clause-cost g t c = rw (at_section c.args.x.now, ← c.as_slice.
 
 pub statements-returns-clause-cost : goal.statements-returns-clause-cost
 statements-returns-clause-cost g t c =
-    let G = g.O.PathSetting.setting c.args.out.now in
+    let G = g.O.RunSetting.setting c.args.out.now in
     let list = c.args.list.now in
     let none : drop c.loop-s.s-index list ≡ [] = drop_all c.loop-s.s-index list (omega arith) in
     let rest : statements_spent G (statements (map view_statement (drop c.loop-s.s-index list))) ≡ 0 = ap (λ z. statements_spent G (statements (map view_statement z))) none in

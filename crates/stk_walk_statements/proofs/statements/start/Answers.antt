@@ -11,7 +11,7 @@ use Rattle.stk_walk_statements.proofs.statements.start.Goals as goal
 pub returns-in_ok-discarded-in-Plain-clause-walked : goal.returns-in_ok-discarded-in-Plain-clause-walked
 returns-in_ok-discarded-in-Plain-clause-walked g c =
     let V = g.V.Values in
-    let G = g.O.PathSetting.setting c.args.out.now in
+    let G = g.O.RunSetting.setting c.args.out.now in
     let e = given_expression c.in-Plain.e in
     let part = rw c.as_ref.ensures.value at c.in_ok-discarded-in-Plain.ensures.walked in
     rw c.in-Plain.is

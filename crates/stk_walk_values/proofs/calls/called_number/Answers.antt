@@ -20,7 +20,7 @@ returns-in_ok-any-clause-events g c = λ es. c.in_ok-any.ensures.events ∙ c.in
 pub returns-in_ok-any-clause-follows : goal.returns-in_ok-any-clause-follows
 returns-in_ok-any-clause-follows g c = λ es xs m s0 served at.
     let shows = g.V.Values.shows in
-    let G = g.O.PathSetting.setting c.args.out.now in
+    let G = g.O.RunSetting.setting c.args.out.now in
     let e = view_expression c.args.callee.now in
     let f = s.call e es in
     let t = breaks G c.args.node true f (get_or xs 0 (pos 0)) (get_or xs 1 (pos 0)) (get_or xs 2 (pos 0)) in
@@ -36,7 +36,7 @@ returns-in_ok-number-clause-events g c = λ es. c.in_ok-number.ensures.events �
 pub returns-in_ok-number-clause-follows : goal.returns-in_ok-number-clause-follows
 returns-in_ok-number-clause-follows g c = λ es xs m s0 served at.
     let shows = g.V.Values.shows in
-    let G = g.O.PathSetting.setting c.args.out.now in
+    let G = g.O.RunSetting.setting c.args.out.now in
     let e = view_expression c.args.callee.now in
     let f = s.call e es in
     let library = option_map library_shown c.args.library in
@@ -50,7 +50,7 @@ returns-in_ok-number-clause-follows g c = λ es xs m s0 served at.
     c.if-never_returns.ensures c.requires.library y
 
 pub returns-in_ok-any-clause-cost : goal.returns-in_ok-any-clause-cost
-returns-in_ok-any-clause-cost g c = rw (← c.requires.library) (costs_within _ (checked_within (length (g.O.PathSetting.setting c.args.out.now).kept) (option_map library_shown c.args.library)) (costs_then (costs_only (ap length c.in_ok-check_arguments.ensures.cells) c.in_ok-check_arguments.ensures.charge) c.in_ok-any.ensures.cost))
+returns-in_ok-any-clause-cost g c = rw (← c.requires.library) (costs_within _ (checked_within (length (g.O.RunSetting.setting c.args.out.now).kept) (option_map library_shown c.args.library)) (costs_then (costs_only (ap length c.in_ok-check_arguments.ensures.cells) c.in_ok-check_arguments.ensures.charge) c.in_ok-any.ensures.cost))
 
 pub returns-in_ok-number-clause-cost : goal.returns-in_ok-number-clause-cost
-returns-in_ok-number-clause-cost g c = rw (← c.requires.library) (costs_within _ (called_within (length (g.O.PathSetting.setting c.args.out.now).kept) (option_map library_shown c.args.library)) (costs_then (costs_only (ap length c.in_ok-check_arguments.ensures.cells) c.in_ok-check_arguments.ensures.charge) c.in_ok-number.ensures.cost))
+returns-in_ok-number-clause-cost g c = rw (← c.requires.library) (costs_within _ (called_within (length (g.O.RunSetting.setting c.args.out.now).kept) (option_map library_shown c.args.library)) (costs_then (costs_only (ap length c.in_ok-check_arguments.ensures.cells) c.in_ok-check_arguments.ensures.charge) c.in_ok-number.ensures.cost))

@@ -13,7 +13,7 @@ use Rattle.stk_walk_values.proofs.calls.library_number.Goals as goal
 
 pub returns-in_ok-number-in-AbsoluteIn-clause-makes : goal.returns-in_ok-number-in-AbsoluteIn-clause-makes
 returns-in_ok-number-in-AbsoluteIn-clause-makes g c =
-    let K = number_kind ((g.O.PathSetting.setting c.args.out.now).typing.type_at c.args.node) in
+    let K = number_kind ((g.O.RunSetting.setting c.args.out.now).typing.type_at c.args.node) in
     let kind = c.in-AbsoluteIn.kind in
     let value_kind = rw c.in-AbsoluteIn.is at c.requires.value in
     let n = c.in_ok-number-in-AbsoluteIn in
@@ -25,7 +25,7 @@ returns-in_ok-number-in-AbsoluteIn-clause-made g c = still_made c.in_ok-number-i
 pub returns-in_ok-number-in-AbsoluteIn-clause-follows : goal.returns-in_ok-number-in-AbsoluteIn-clause-follows
 returns-in_ok-number-in-AbsoluteIn-clause-follows g c =
     let shows = g.V.Values.shows in
-    let K = number_kind ((g.O.PathSetting.setting c.args.out.now).typing.type_at c.args.node) in
+    let K = number_kind ((g.O.RunSetting.setting c.args.out.now).typing.type_at c.args.node) in
     let kind = c.in-AbsoluteIn.kind in
     let value_kind = rw c.in-AbsoluteIn.is at c.requires.value in
     let first_kind = rw c.in-AbsoluteIn.is at c.requires.arguments.first in
@@ -44,7 +44,7 @@ returns-in_ok-number-in-AbsoluteIn-clause-follows g c =
 
 pub returns-in_ok-forget-in-CopyBytes-clause-makes : goal.returns-in_ok-forget-in-CopyBytes-clause-makes
 returns-in_ok-forget-in-CopyBytes-clause-makes g c =
-    let K = number_kind ((g.O.PathSetting.setting c.args.out.now).typing.type_at c.args.node) in
+    let K = number_kind ((g.O.RunSetting.setting c.args.out.now).typing.type_at c.args.node) in
     let value_kind = rw c.in-CopyBytes.is at c.requires.value in
     let first_kind = rw c.in-CopyBytes.is at c.requires.arguments.first in
     let first = c.args.arguments.operands.first in
@@ -53,7 +53,7 @@ returns-in_ok-forget-in-CopyBytes-clause-makes g c =
 pub returns-in_ok-forget-in-CopyBytes-clause-follows : goal.returns-in_ok-forget-in-CopyBytes-clause-follows
 returns-in_ok-forget-in-CopyBytes-clause-follows g c =
     let shows = g.V.Values.shows in
-    let K = number_kind ((g.O.PathSetting.setting c.args.out.now).typing.type_at c.args.node) in
+    let K = number_kind ((g.O.RunSetting.setting c.args.out.now).typing.type_at c.args.node) in
     let value_kind = rw c.in-CopyBytes.is at c.requires.value in
     let first_kind = rw c.in-CopyBytes.is at c.requires.arguments.first in
     let first = c.args.arguments.operands.first in
@@ -72,4 +72,4 @@ pub returns-in_ok-number-in-AbsoluteIn-clause-cost : goal.returns-in_ok-number-i
 returns-in_ok-number-in-AbsoluteIn-clause-cost g c = rw c.in-AbsoluteIn.is (costs_only refl c.in_ok-number-in-AbsoluteIn.ensures.charge)
 
 pub returns-in_ok-forget-in-CopyBytes-clause-cost : goal.returns-in_ok-forget-in-CopyBytes-clause-cost
-returns-in_ok-forget-in-CopyBytes-clause-cost g c = rw c.in-CopyBytes.is (c.in_ok-forget-in-CopyBytes.ensures.cost (length (g.O.PathSetting.setting c.args.out.now).kept))
+returns-in_ok-forget-in-CopyBytes-clause-cost g c = rw c.in-CopyBytes.is (c.in_ok-forget-in-CopyBytes.ensures.cost (length (g.O.RunSetting.setting c.args.out.now).kept))

@@ -12,7 +12,7 @@ pub returns-clause-made : goal.returns-clause-made
 returns-clause-made g c =
     let k1 = c.in_ok-none.ensures.keeps in
     let k2 = c.in_ok-number.ensures.keeps in
-    is_made_guarded (g.V.Values.made c.zero-2.new.values) (g.O.PathSetting.setting c.args.out.now) c.args.state.now c.in_ok-none.none (still_made (both_keep k1 k2) c.requires.made) (k2.made_still _ _ c.in_ok-none.ensures.makes)
+    is_made_guarded (g.V.Values.made c.zero-2.new.values) (g.O.RunSetting.setting c.args.out.now) c.args.state.now c.in_ok-none.none (still_made (both_keep k1 k2) c.requires.made) (k2.made_still _ _ c.in_ok-none.ensures.makes)
 
 pub returns-clause-follows : goal.returns-clause-follows
 returns-clause-follows g c = λ m s served at.
@@ -25,7 +25,7 @@ returns-clause-follows g c = λ m s served at.
       number = pos 0;
       standing = live false s;
       value = subst (λ (k : IntKind). now k c.in_ok-number.number (pos 0)) c.kind_at.ensures (c.in_ok-number.ensures.value m s1);
-      stands = stands_guarded now (g.O.PathSetting.setting c.args.out.now) c.args.state.now s c.in_ok-none.none false (still_stands (both_keep k1 k2) m at) (k2.shown m _ _ _ (c.in_ok-none.ensures.value m served));
+      stands = stands_guarded now (g.O.RunSetting.setting c.args.out.now) c.args.state.now s c.in_ok-none.none false (still_stands (both_keep k1 k2) m at) (k2.shown m _ _ _ (c.in_ok-none.ensures.value m served));
       goes = cut_goes (pos 0) s;
     }
 

@@ -17,7 +17,7 @@ returns-in_ok-number-clause-made g c = still_made c.in_ok-number.ensures.keeps c
 
 pub returns-in_ok-nothing-clause-follows : goal.returns-in_ok-nothing-clause-follows
 returns-in_ok-nothing-clause-follows g c = λ xs m s served at.
-    let G = g.O.PathSetting.setting c.args.out.now in
+    let G = g.O.RunSetting.setting c.args.out.now in
     let t = result_in (called_signature G.typing (view_expression c.args.callee.now)) in
     let now = g.V.Values.shows c.zero.new.values m in
     let k = c.in_ok-nothing.ensures.keeps in
@@ -28,7 +28,7 @@ returns-in_ok-nothing-clause-follows g c = λ xs m s served at.
 
 pub returns-in_ok-number-clause-follows : goal.returns-in_ok-number-clause-follows
 returns-in_ok-number-clause-follows g c = λ xs m s served at.
-    let G = g.O.PathSetting.setting c.args.out.now in
+    let G = g.O.RunSetting.setting c.args.out.now in
     let inputs = g.O.WalkSetting.under c.args.out.now m in
     let t = result_in (called_signature G.typing (view_expression c.args.callee.now)) in
     let now = g.V.Values.shows c.input_value.new.values m in
@@ -39,7 +39,7 @@ returns-in_ok-number-clause-follows g c = λ xs m s served at.
     (still_stands k m (c.in_ok-forget.ensures.stands m s served at))
 
 pub returns-in_ok-nothing-clause-cost : goal.returns-in_ok-nothing-clause-cost
-returns-in_ok-nothing-clause-cost g c = costs_before (c.in_ok-forget.ensures.cost (length (g.O.PathSetting.setting c.args.out.now).kept)) c.in_ok-nothing.ensures.charge
+returns-in_ok-nothing-clause-cost g c = costs_before (c.in_ok-forget.ensures.cost (length (g.O.RunSetting.setting c.args.out.now).kept)) c.in_ok-nothing.ensures.charge
 
 pub returns-in_ok-number-clause-cost : goal.returns-in_ok-number-clause-cost
-returns-in_ok-number-clause-cost g c = costs_before (c.in_ok-forget.ensures.cost (length (g.O.PathSetting.setting c.args.out.now).kept)) c.in_ok-number.ensures.charge
+returns-in_ok-number-clause-cost g c = costs_before (c.in_ok-forget.ensures.cost (length (g.O.RunSetting.setting c.args.out.now).kept)) c.in_ok-number.ensures.charge

@@ -9,7 +9,7 @@ use Rattle.stk_walk_values.proofs.calls.returned_number.Goals as goal
 
 pub library_number-requires-clause-value : goal.library_number-requires-clause-value
 library_number-requires-clause-value g c =
-    let G = g.O.PathSetting.setting c.args.out.now in
+    let G = g.O.RunSetting.setting c.args.out.now in
     let whole = called_kind G.typing (view_expression c.args.callee.now) (option_map library_shown c.args.library) (number_kind (G.typing.type_at c.args.node)) c.requires.library c.requires.kinded in
     rw c.in-Some.is at whole
 
@@ -18,7 +18,7 @@ returns-in-None-clause-follows g c = rw c.in-None.is (IfOk-weaker c.outside_numb
 
 pub returns-in-Some-clause-follows : goal.returns-in-Some-clause-follows
 returns-in-Some-clause-follows g c =
-    let t = result_in (called_signature (g.O.PathSetting.setting c.args.out.now).typing (view_expression c.args.callee.now)) in
+    let t = result_in (called_signature (g.O.RunSetting.setting c.args.out.now).typing (view_expression c.args.callee.now)) in
     rw c.in-Some.is (IfOk-weaker c.library_number.result _ _ (λ v h. h t) c.library_number.ensures.follows)
 
 pub returns-in-None-clause-cost : goal.returns-in-None-clause-cost

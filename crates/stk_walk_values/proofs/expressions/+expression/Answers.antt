@@ -8,12 +8,13 @@ use Rattle.stk_tree.specs.declared.expression.UnaryOp.TheVariants as unary
 use Rattle.stk_tree.specs.Syntax as s
 use Rattle.stk_tree.specs.Syntax.{ExprTree, then_expression}
 use Rattle.stk_tree.proofs.expression.Expr.TheLaws.{the_size}
+use Rattle.stk_tree.specs.Parts.{bare}
 use Rattle.stk_numbers.specs.Kinds.{wrap, promote}
 use Rattle.stk_numbers.specs.Values.{moved}
 use Rattle.stk_numbers.specs.declared.conditions.CandKind.TheVariants.{Arm}
 use Rattle.stk_numbers.specs.declared.operators.ArithOp.TheVariants.{Sub}
 use Rattle.stk_meaning.specs.declared.entry.Entry.TheVariants.{Enter}
-use Rattle.stk_meaning.specs.Typings.{type_in, node_of, bare, number_kind, converted, is_array, pointed, stride_in}
+use Rattle.stk_meaning.specs.Typings.{type_in, node_of, number_kind, converted, is_array, pointed, stride_in}
 use Rattle.stk_meaning.specs.Operations.{Operation, BinarySort, operates, arithmetic, shifting, joins, or_else, and_also, comparing, sort_of, operation_of, operation_tests, assigned_operator, operated, in_kind, to_address, truth, bit}
 use Rattle.stk_meaning.specs.Libraries.{Library, called_signature, parameters_in}
 use Rattle.stk_meaning.specs.Conditions.{binary_tests, assigned_tests}
@@ -60,14 +61,14 @@ cast-value-requires g t c κs within =
 pub cast-converted-requires : goal.cast-converted-requires
 cast-converted-requires g t c =
     let V = g.V.Values in
-    let G = g.O.PathSetting.setting c.args.out.now in
+    let G = g.O.RunSetting.setting c.args.out.now in
     let kind = c.kind_at.ensures ∙ ap (λ i. number_kind (G.typing.type_at i)) c.node_of.ensures in
     subst (λ (k : IntKind). V.made c.value.new.values k c.in_ok-n.n) (sym kind) c.in_ok-n.ensures.walks.answered
 
 pub cast-returns-clause-walks : goal.cast-returns-clause-walks
 cast-returns-clause-walks g t c =
     let V = g.V.Values in
-    let G = g.O.PathSetting.setting c.args.out.now in
+    let G = g.O.RunSetting.setting c.args.out.now in
     let e = view_expression c.args.e.now in
     let n = c.in_ok-n.n in
     let v = c.in_ok-found.found in
@@ -90,25 +91,25 @@ tested-seen_test-requires-clause-ready g t c =
 
 pub tested-returns-clause-walks : goal.tested-returns-clause-walks
 tested-returns-clause-walks g t c =
-    let G = g.O.PathSetting.setting c.args.out.now in
+    let G = g.O.RunSetting.setting c.args.out.now in
     let e = view_expression c.args.e.now in
     walks_one (λ x m r i. Went x r i (seen (bare e) x)) (pos 0) c.in_ok-n.ensures.walks (λ x. c.in_ok-test.ensures.walks x)
 
 pub right_operand-value-requires : goal.right_operand-value-requires
 right_operand-value-requires g t c κs within =
-    (omega (arith, c.decreases), (search rules, (search rules, (search rules, (c.requires.kinded, record { keys = c.requires.ready.keys; values_made = c.in_ok-enter.ensures.made (g.O.PathSetting.setting c.args.out.now) c.requires.ready.values_made })))))
+    (omega (arith, c.decreases), (search rules, (search rules, (search rules, (c.requires.kinded, record { keys = c.requires.ready.keys; values_made = c.in_ok-enter.ensures.made (g.O.RunSetting.setting c.args.out.now) c.requires.ready.values_made })))))
 
 pub right_operand-is_true-requires : goal.right_operand-is_true-requires
 right_operand-is_true-requires g t c =
     let V = g.V.Values in
-    let G = g.O.PathSetting.setting c.args.out.now in
+    let G = g.O.RunSetting.setting c.args.out.now in
     let kind = c.kind_at.ensures ∙ ap (λ i. number_kind (G.typing.type_at i)) c.node_of-2.ensures in
     subst (λ (k : IntKind). V.made c.value.new.values k c.in_ok-n.n) (sym kind) c.in_ok-n.ensures.walks.answered
 
 pub right_operand-returns-clause-walks : goal.right_operand-returns-clause-walks
 right_operand-returns-clause-walks g t c =
     let V = g.V.Values in
-    let G = g.O.PathSetting.setting c.args.out.now in
+    let G = g.O.RunSetting.setting c.args.out.now in
     let e = view_expression c.args.e.now in
     let n = c.in_ok-n.n in
     let old = c.args.values.now in
@@ -123,19 +124,19 @@ right_operand-returns-clause-walks g t c =
 
 pub branch-value-requires : goal.branch-value-requires
 branch-value-requires g t c κs within =
-    (omega (arith, c.decreases), (search rules, (search rules, (search rules, (c.requires.kinded, record { keys = c.requires.ready.keys; values_made = c.in_ok-enter.ensures.made (g.O.PathSetting.setting c.args.out.now) c.requires.ready.values_made })))))
+    (omega (arith, c.decreases), (search rules, (search rules, (search rules, (c.requires.kinded, record { keys = c.requires.ready.keys; values_made = c.in_ok-enter.ensures.made (g.O.RunSetting.setting c.args.out.now) c.requires.ready.values_made })))))
 
 pub branch-converted-requires : goal.branch-converted-requires
 branch-converted-requires g t c =
     let V = g.V.Values in
-    let G = g.O.PathSetting.setting c.args.out.now in
+    let G = g.O.RunSetting.setting c.args.out.now in
     let kind = c.kind_at.ensures ∙ ap (λ i. number_kind (G.typing.type_at i)) c.node_of-2.ensures in
     subst (λ (k : IntKind). V.made c.value.new.values k c.in_ok-n.n) (sym kind) c.in_ok-n.ensures.walks.answered
 
 pub branch-returns-clause-walks : goal.branch-returns-clause-walks
 branch-returns-clause-walks g t c =
     let V = g.V.Values in
-    let G = g.O.PathSetting.setting c.args.out.now in
+    let G = g.O.RunSetting.setting c.args.out.now in
     let e = view_expression c.args.e.now in
     let n = c.in_ok-n.n in
     let old = c.args.values.now in
@@ -159,7 +160,7 @@ member-member_place-requires g t c =
 pub member-returns-clause-walks : goal.member-returns-clause-walks
 member-returns-clause-walks g t c =
     let V = g.V.Values in
-    let G = g.O.PathSetting.setting c.args.out.now in
+    let G = g.O.RunSetting.setting c.args.out.now in
     let e = view_expression c.args.e.now in
     let at : c.node_of.result ≡ node_of e = c.node_of.ensures in
     let v = c.in_ok-found.found in
@@ -173,7 +174,7 @@ target-value-requires g t c κs within =
 pub target-target_place-requires-clause-pointer : goal.target-target_place-requires-clause-pointer
 target-target_place-requires-clause-pointer g t c =
     let V = g.V.Values in
-    let G = g.O.PathSetting.setting c.args.out.now in
+    let G = g.O.RunSetting.setting c.args.out.now in
     let e = view_expression c.args.e.now in
     let kind : c.kind_at-kind.result ≡ number_kind (type_in G.typing e) = c.kind_at-kind.ensures ∙ ap (λ i. number_kind (G.typing.type_at i)) c.node_of.ensures in
     subst (λ (k : IntKind). V.made c.value.new.values k c.in_ok-value.value) (sym kind) c.in_ok-value.ensures.walks.answered
@@ -185,7 +186,7 @@ target-target_place-requires-clause-ready g t c =
 pub target-returns-clause-walks : goal.target-returns-clause-walks
 target-returns-clause-walks g t c =
     let V = g.V.Values in
-    let G = g.O.PathSetting.setting c.args.out.now in
+    let G = g.O.RunSetting.setting c.args.out.now in
     let e = view_expression c.args.e.now in
     let kind : c.kind_at-kind.result ≡ number_kind (type_in G.typing e) = c.kind_at-kind.ensures ∙ ap (λ i. number_kind (G.typing.type_at i)) c.node_of.ensures in
     let n = c.in_ok-value.value in
@@ -211,7 +212,7 @@ target_value-place_number-requires-clause-ready g t c =
 pub target_value-returns-clause-walks : goal.target_value-returns-clause-walks
 target_value-returns-clause-walks g t c =
     let V = g.V.Values in
-    let G = g.O.PathSetting.setting c.args.out.now in
+    let G = g.O.RunSetting.setting c.args.out.now in
     let I = g.O.WalkSetting.under c.args.out.now in
     let e = view_expression c.args.e.now in
     let k = c.args.k in
@@ -220,7 +221,7 @@ target_value-returns-clause-walks g t c =
     let E1 = (unary_events G k unary.Deref e (expression_events G e)).place in
     let accessed : not c.is_array_at.result ≡ not (is_array (G.typing.type_at k)) = ap not c.is_array_at.ensures in
     let p = subst (λ (b : Bool). Finds V.serves V.has_key V.made V.shows G c.in_ok-address.address (λ m. P m b) (E1 b) c.args.values.now c.target.new.values c.args.state.now c.target.new.state) accessed c.in_ok-address.ensures.walks in
-    walks_marked (walks_as (λ m. (unary_meaning G (path_world (I m)) k unary.Deref e (meaning_in G (I m) e)).value) (walks_one (λ x m. place_end G (I m) k unnamed x) 0 p (λ x. c.in_ok-found.ensures.walks x)) (λ m r i. placed_as G (I m) unnamed k (P m) r i)) (append-nil (E1 (not (is_array (G.typing.type_at k)))))
+    walks_marked (walks_as (λ m. (unary_meaning G (path_world (I m)) k unary.Deref e (meaning_in G (I m) e)).value) (walks_one (λ x m. place_end G (path_world (I m)) k unnamed x) 0 p (λ x. c.in_ok-found.ensures.walks x)) (λ m r i. placed_as G (I m) unnamed k (P m) r i)) (append-nil (E1 (not (is_array (G.typing.type_at k)))))
 
 pub place_value-place-requires : goal.place_value-place-requires
 place_value-place-requires g t c κs within =
@@ -229,7 +230,7 @@ place_value-place-requires g t c κs within =
 pub place_value-place_number-requires-clause-suits : goal.place_value-place_number-requires-clause-suits
 place_value-place_number-requires-clause-suits g t c =
     let V = g.V.Values in
-    let G = g.O.PathSetting.setting c.args.out.now in
+    let G = g.O.RunSetting.setting c.args.out.now in
     let e = view_expression c.args.e.now in
     let at : c.node_of-k.result ≡ node_of e = c.node_of-k.ensures in
     rw (c.target_of.ensures, at) c.requires.suits
@@ -245,7 +246,7 @@ place_value-place_number-requires-clause-ready g t c =
 pub place_value-returns-clause-walks : goal.place_value-returns-clause-walks
 place_value-returns-clause-walks g t c =
     let V = g.V.Values in
-    let G = g.O.PathSetting.setting c.args.out.now in
+    let G = g.O.RunSetting.setting c.args.out.now in
     let I = g.O.WalkSetting.under c.args.out.now in
     let e = view_expression c.args.e.now in
     let at : c.node_of-k.result ≡ node_of e = c.node_of-k.ensures in
@@ -255,8 +256,8 @@ place_value-returns-clause-walks g t c =
     let target = target_of G e in
     let accessed : not c.is_array_at.result ≡ not (is_array (type_in G.typing e)) = ap not c.is_array_at.ensures ∙ ap (λ i. not (is_array (G.typing.type_at i))) at in
     let p = subst (λ (b : Bool). Finds V.serves V.has_key V.made V.shows G c.in_ok-address.address (λ m. P m b) (E1 b) c.args.values.now c.place.new.values c.args.state.now c.place.new.state) accessed c.in_ok-address.ensures.walks in
-    let q : (a : ℕ) → WalksBehind V.serves V.has_key V.made V.shows G (λ m. V.shows c.place.new.values m ULong c.in_ok-address.address (pos a)) (number_kind (type_in G.typing e)) c.in_ok-found.found (λ m. place_end G (I m) k target a) [] c.place.new.values c.place_number.new.values c.place.new.state c.place_number.new.state = rw (c.target_of.ensures, at) at c.in_ok-found.ensures.walks in
-    walks_marked (walks_as (λ m. place_value (path_world (I m)) target k (type_in G.typing e) (P m)) (walks_one (λ x m. place_end G (I m) k target x) 0 p q) (λ m r i. placed_as G (I m) target k (P m) r i)) (append-nil (E1 (not (is_array (type_in G.typing e)))))
+    let q : (a : ℕ) → WalksBehind V.serves V.has_key V.made V.shows G (λ m. V.shows c.place.new.values m ULong c.in_ok-address.address (pos a)) (number_kind (type_in G.typing e)) c.in_ok-found.found (λ m. place_end G (path_world (I m)) k target a) [] c.place.new.values c.place_number.new.values c.place.new.state c.place_number.new.state = rw (c.target_of.ensures, at) at c.in_ok-found.ensures.walks in
+    walks_marked (walks_as (λ m. place_value (path_world (I m)) target k (type_in G.typing e) (P m)) (walks_one (λ x m. place_end G (path_world (I m)) k target x) 0 p q) (λ m r i. placed_as G (I m) target k (P m) r i)) (append-nil (E1 (not (is_array (type_in G.typing e)))))
 
 pub index_place-indexed-requires : goal.index_place-indexed-requires
 index_place-indexed-requires g t c κs within =
@@ -269,7 +270,7 @@ index_place-value-requires g t c κs within =
 pub index_place-indexed_place-requires-clause-first : goal.index_place-indexed_place-requires-clause-first
 index_place-indexed_place-requires-clause-first g t c =
     let V = g.V.Values in
-    let G = g.O.PathSetting.setting c.args.out.now in
+    let G = g.O.RunSetting.setting c.args.out.now in
     let a = view_expression c.args.a.now in
     let b = view_expression c.args.b.now in
     let ka : c.kind_at.result ≡ number_kind (type_in G.typing a) = c.kind_at.ensures ∙ ap (λ i. number_kind (G.typing.type_at i)) c.node_of.ensures in
@@ -279,7 +280,7 @@ index_place-indexed_place-requires-clause-first g t c =
 pub index_place-indexed_place-requires-clause-second : goal.index_place-indexed_place-requires-clause-second
 index_place-indexed_place-requires-clause-second g t c =
     let V = g.V.Values in
-    let G = g.O.PathSetting.setting c.args.out.now in
+    let G = g.O.RunSetting.setting c.args.out.now in
     let a = view_expression c.args.a.now in
     let b = view_expression c.args.b.now in
     let ka : c.kind_at.result ≡ number_kind (type_in G.typing a) = c.kind_at.ensures ∙ ap (λ i. number_kind (G.typing.type_at i)) c.node_of.ensures in
@@ -293,7 +294,7 @@ index_place-indexed_place-requires-clause-ready g t c =
 pub index_place-returns-clause-walks : goal.index_place-returns-clause-walks
 index_place-returns-clause-walks g t c =
     let V = g.V.Values in
-    let G = g.O.PathSetting.setting c.args.out.now in
+    let G = g.O.RunSetting.setting c.args.out.now in
     let a = view_expression c.args.a.now in
     let b = view_expression c.args.b.now in
     let ka : c.kind_at.result ≡ number_kind (type_in G.typing a) = c.kind_at.ensures ∙ ap (λ i. number_kind (G.typing.type_at i)) c.node_of.ensures in
@@ -323,7 +324,7 @@ compared_value-compared_number-requires-clause-ready g t c =
 pub compared_value-returns-clause-walks : goal.compared_value-returns-clause-walks
 compared_value-returns-clause-walks g t c =
     let V = g.V.Values in
-    let G = g.O.PathSetting.setting c.args.out.now in
+    let G = g.O.RunSetting.setting c.args.out.now in
     let a = view_expression c.args.a.now in
     let b = view_expression c.args.b.now in
     let how = c.args.how in
@@ -341,7 +342,7 @@ operator_sides-value-requires g t c κs within =
 pub operator_sides-operated_number-requires-clause-first : goal.operator_sides-operated_number-requires-clause-first
 operator_sides-operated_number-requires-clause-first g t c =
     let V = g.V.Values in
-    let G = g.O.PathSetting.setting c.args.out.now in
+    let G = g.O.RunSetting.setting c.args.out.now in
     let a = view_expression c.args.a.now in
     let b = view_expression c.args.b.now in
     let ka : c.kind_at.result ≡ number_kind (type_in G.typing a) = c.kind_at.ensures ∙ ap (λ i. number_kind (G.typing.type_at i)) c.node_of.ensures in
@@ -351,7 +352,7 @@ operator_sides-operated_number-requires-clause-first g t c =
 pub operator_sides-operated_number-requires-clause-second : goal.operator_sides-operated_number-requires-clause-second
 operator_sides-operated_number-requires-clause-second g t c =
     let V = g.V.Values in
-    let G = g.O.PathSetting.setting c.args.out.now in
+    let G = g.O.RunSetting.setting c.args.out.now in
     let a = view_expression c.args.a.now in
     let b = view_expression c.args.b.now in
     let ka : c.kind_at.result ≡ number_kind (type_in G.typing a) = c.kind_at.ensures ∙ ap (λ i. number_kind (G.typing.type_at i)) c.node_of.ensures in
@@ -361,7 +362,7 @@ operator_sides-operated_number-requires-clause-second g t c =
 pub operator_sides-operated_number-requires-clause-shifts : goal.operator_sides-operated_number-requires-clause-shifts
 operator_sides-operated_number-requires-clause-shifts g t c =
     let V = g.V.Values in
-    let G = g.O.PathSetting.setting c.args.out.now in
+    let G = g.O.RunSetting.setting c.args.out.now in
     let a = view_expression c.args.a.now in
     let b = view_expression c.args.b.now in
     let ka : c.kind_at.result ≡ number_kind (type_in G.typing a) = c.kind_at.ensures ∙ ap (λ i. number_kind (G.typing.type_at i)) c.node_of.ensures in
@@ -380,7 +381,7 @@ operator_sides-operated_number-requires-clause-ready g t c =
 pub operator_sides-returns-clause-value : goal.operator_sides-returns-clause-value
 operator_sides-returns-clause-value g t c =
     let V = g.V.Values in
-    let G = g.O.PathSetting.setting c.args.out.now in
+    let G = g.O.RunSetting.setting c.args.out.now in
     let a = view_expression c.args.a.now in
     let b = view_expression c.args.b.now in
     let ka : c.kind_at.result ≡ number_kind (type_in G.typing a) = c.kind_at.ensures ∙ ap (λ i. number_kind (G.typing.type_at i)) c.node_of.ensures in
@@ -402,7 +403,7 @@ operator_sides-returns-clause-value g t c =
 pub operator_sides-returns-clause-sides : goal.operator_sides-returns-clause-sides
 operator_sides-returns-clause-sides g t c =
     let V = g.V.Values in
-    let G = g.O.PathSetting.setting c.args.out.now in
+    let G = g.O.RunSetting.setting c.args.out.now in
     let a = view_expression c.args.a.now in
     let b = view_expression c.args.b.now in
     let ka : c.kind_at.result ≡ number_kind (type_in G.typing a) = c.kind_at.ensures ∙ ap (λ i. number_kind (G.typing.type_at i)) c.node_of.ensures in
@@ -434,7 +435,7 @@ right_behind-parted-requires-clause-guard g t c =
 pub right_behind-right_operand-requires : goal.right_behind-right_operand-requires
 right_behind-right_operand-requires g t c κs within =
     let V = g.V.Values in
-    let G = g.O.PathSetting.setting c.args.out.now in
+    let G = g.O.RunSetting.setting c.args.out.now in
     (omega (arith, c.decreases), (search rules, (search rules, (search rules, (c.requires.kinded, record { keys = (ready_keeps c.requires.ready c.in_ok-first.ensures.keeps).keys; values_made = is_made_guarded (V.made c.parted.new.values) G c.args.state.now c.in_ok-first.first (ready_keeps c.requires.ready c.in_ok-first.ensures.keeps).values_made c.in_ok-first.ensures.first })))))
 
 pub right_behind-either-requires-clause-left : goal.right_behind-either-requires-clause-left
@@ -470,7 +471,7 @@ pub right_behind-returns-clause-walks : goal.right_behind-returns-clause-walks
 right_behind-returns-clause-walks g t c =
     λ d o.
     let V = g.V.Values in
-    let G = g.O.PathSetting.setting c.args.out.now in
+    let G = g.O.RunSetting.setting c.args.out.now in
     let e = view_expression c.args.e.now in
     let k1 = c.in_ok-first.ensures.keeps in
     let k2 = c.in_ok-right.ensures.walks.keeps in
@@ -494,7 +495,7 @@ choice-parted-requires-clause-guard g t c =
 pub choice-branch-out-requires : goal.choice-branch-out-requires
 choice-branch-out-requires g t c κs within =
     let V = g.V.Values in
-    let G = g.O.PathSetting.setting c.args.out.now in
+    let G = g.O.RunSetting.setting c.args.out.now in
     (omega (arith, c.decreases), (search rules, (search rules, (search rules, (c.requires.first, record { keys = (ready_keeps c.requires.ready c.in_ok-first.ensures.keeps).keys; values_made = is_made_guarded (V.made c.parted.new.values) G c.args.state.now c.in_ok-first.first (ready_keeps c.requires.ready c.in_ok-first.ensures.keeps).values_made c.in_ok-first.ensures.first })))))
 
 pub choice-either-requires-clause-left : goal.choice-either-requires-clause-left
@@ -535,7 +536,7 @@ pub choice-returns-clause-walks : goal.choice-returns-clause-walks
 choice-returns-clause-walks g t c =
     λ d.
     let V = g.V.Values in
-    let G = g.O.PathSetting.setting c.args.out.now in
+    let G = g.O.RunSetting.setting c.args.out.now in
     let k1 = c.in_ok-first.ensures.keeps in
     let k2 = c.in_ok-x.ensures.walks.keeps in
     let k3 = c.in_ok-y.ensures.walks.keeps in
@@ -570,7 +571,7 @@ and_also-right_behind-requires g t c κs within =
 pub and_also-returns-clause-walks : goal.and_also-returns-clause-walks
 and_also-returns-clause-walks g t c =
     let V = g.V.Values in
-    let G = g.O.PathSetting.setting c.args.out.now in
+    let G = g.O.RunSetting.setting c.args.out.now in
     let I = g.O.WalkSetting.under c.args.out.now in
     let a = view_expression c.args.a.now in
     let b = view_expression c.args.b.now in
@@ -591,7 +592,7 @@ or_else-right_behind-requires g t c κs within =
 pub or_else-returns-clause-walks : goal.or_else-returns-clause-walks
 or_else-returns-clause-walks g t c =
     let V = g.V.Values in
-    let G = g.O.PathSetting.setting c.args.out.now in
+    let G = g.O.RunSetting.setting c.args.out.now in
     let I = g.O.WalkSetting.under c.args.out.now in
     let a = view_expression c.args.a.now in
     let b = view_expression c.args.b.now in
@@ -615,7 +616,7 @@ indexed-value-requires g t c κs within =
 pub indexed-returns-in_ok-address-clause-walks : goal.indexed-returns-in_ok-address-clause-walks
 indexed-returns-in_ok-address-clause-walks g t c =
     let V = g.V.Values in
-    let G = g.O.PathSetting.setting c.args.out.now in
+    let G = g.O.RunSetting.setting c.args.out.now in
     let I = g.O.WalkSetting.under c.args.out.now in
     let e = view_expression c.args.e.now in
     let at : c.node_of.result ≡ node_of e = c.node_of.ensures in
@@ -645,13 +646,13 @@ stepped_value-stepped_number-requires-clause-made g t c =
 pub stepped_value-returns-clause-walks : goal.stepped_value-returns-clause-walks
 stepped_value-returns-clause-walks g t c =
     let V = g.V.Values in
-    let G = g.O.PathSetting.setting c.args.out.now in
+    let G = g.O.RunSetting.setting c.args.out.now in
     let I = g.O.WalkSetting.under c.args.out.now in
     let e = view_expression c.args.e.now in
     let k = c.args.k in
     let op = c.args.op in
     let n = c.in_ok-found.ensures in
-    walks_then {Q = λ x m. Unit {0}} (λ x m. step_end G (I m) k op e x) 0 c.in_ok-_place.ensures.walks
+    walks_then {Q = λ x m. Unit {0}} (λ x m. step_end G (path_world (I m)) k op e x) 0 c.in_ok-_place.ensures.walks
     (λ x. record { answered = n.makes; values_made = n.made; events = n.events; leads = λ m s served h at. n.follows x m s served at; keeps = n.keeps }) (λ m x served h hx. tt)
 
 pub assigned_value-value-requires : goal.assigned_value-value-requires
@@ -665,7 +666,7 @@ assigned_value-place-requires g t c κs within =
 pub assigned_value-assigned_number-requires-clause-number : goal.assigned_value-assigned_number-requires-clause-number
 assigned_value-assigned_number-requires-clause-number g t c =
     let V = g.V.Values in
-    let G = g.O.PathSetting.setting c.args.out.now in
+    let G = g.O.RunSetting.setting c.args.out.now in
     let a = view_expression c.args.a.now in
     let b = view_expression c.args.b.now in
     let kind : c.kind_at-kind.result ≡ number_kind (type_in G.typing b) = c.kind_at-kind.ensures ∙ ap (λ i. number_kind (G.typing.type_at i)) c.node_of.ensures in
@@ -678,7 +679,7 @@ assigned_value-assigned_number-requires-clause-made g t c =
 pub assigned_value-compound_number-requires-clause-number : goal.assigned_value-compound_number-requires-clause-number
 assigned_value-compound_number-requires-clause-number g t c =
     let V = g.V.Values in
-    let G = g.O.PathSetting.setting c.args.out.now in
+    let G = g.O.RunSetting.setting c.args.out.now in
     let a = view_expression c.args.a.now in
     let b = view_expression c.args.b.now in
     let kind : c.kind_at-kind.result ≡ number_kind (type_in G.typing b) = c.kind_at-kind.ensures ∙ ap (λ i. number_kind (G.typing.type_at i)) c.node_of.ensures in
@@ -695,7 +696,7 @@ assigned_value-compound_number-requires-clause-keys g t c =
 pub assigned_value-compound_number-requires-clause-shifts : goal.assigned_value-compound_number-requires-clause-shifts
 assigned_value-compound_number-requires-clause-shifts g t c =
     let V = g.V.Values in
-    let G = g.O.PathSetting.setting c.args.out.now in
+    let G = g.O.RunSetting.setting c.args.out.now in
     let a = view_expression c.args.a.now in
     let b = view_expression c.args.b.now in
     let how = operator_shown c.in-Some.how in
@@ -708,7 +709,7 @@ assigned_value-compound_number-requires-clause-shifts g t c =
 pub assigned_value-returns-in_ok-found-in-None-clause-walks : goal.assigned_value-returns-in_ok-found-in-None-clause-walks
 assigned_value-returns-in_ok-found-in-None-clause-walks g t c =
     let V = g.V.Values in
-    let G = g.O.PathSetting.setting c.args.out.now in
+    let G = g.O.RunSetting.setting c.args.out.now in
     let I = g.O.WalkSetting.under c.args.out.now in
     let a = view_expression c.args.a.now in
     let b = view_expression c.args.b.now in
@@ -717,14 +718,14 @@ assigned_value-returns-in_ok-found-in-None-clause-walks g t c =
     let n = c.in_ok-found-in-None.ensures in
     let k2 = c.in_ok-_place.ensures.walks.keeps in
     rw (sym none)
-    (walks_marked (walks_two (λ x y m. plain_end G (I m) a x y) (pos 0) 0 c.in_ok-value.ensures.walks c.in_ok-_place.ensures.walks
-    (λ x y. walks_follows (λ m. plain_end G (I m) a x y) n.makes n.made n.events (λ m s served h at. n.follows x y m s (served, subst (λ (k : IntKind). V.shows c.place.new.values m k c.in_ok-value.value x) (sym kind) h.0) at) n.keeps)
+    (walks_marked (walks_two (λ x y m. plain_end G (path_world (I m)) a x y) (pos 0) 0 c.in_ok-value.ensures.walks c.in_ok-_place.ensures.walks
+    (λ x y. walks_follows (λ m. plain_end G (path_world (I m)) a x y) n.makes n.made n.events (λ m s served h at. n.follows x y m s (served, subst (λ (k : IntKind). V.shows c.place.new.values m k c.in_ok-value.value x) (sym kind) h.0) at) n.keeps)
     (λ m x hx. k2.shown m _ _ _ hx)) (ap (λ z. (expression_events G b).value ++ z) (append-nil ((expression_events G a).place true))))
 
 pub assigned_value-returns-in_ok-found-in-Some-clause-walks : goal.assigned_value-returns-in_ok-found-in-Some-clause-walks
 assigned_value-returns-in_ok-found-in-Some-clause-walks g t c =
     let V = g.V.Values in
-    let G = g.O.PathSetting.setting c.args.out.now in
+    let G = g.O.RunSetting.setting c.args.out.now in
     let I = g.O.WalkSetting.under c.args.out.now in
     let a = view_expression c.args.a.now in
     let b = view_expression c.args.b.now in
@@ -740,22 +741,22 @@ assigned_value-returns-in_ok-found-in-Some-clause-walks g t c =
     let n = c.in_ok-found-in-Some.ensures in
     let k2 = c.in_ok-_place.ensures.walks.keeps in
     rw (sym some)
-    (walks_two (λ x y m. compound_end G (I m) c.args.k f o a x y) (pos 0) 0 c.in_ok-value.ensures.walks c.in_ok-_place.ensures.walks
-    (λ x y. walks_as (λ m. compound_end G (I m) c.args.k f o a x y) (record { answered = n.makes; values_made = n.made; events = n.events f asked; leads = λ m s served h at. n.follows f x y asked m s (served, subst (λ (k : IntKind). V.shows c.place.new.values m k c.in_ok-value.value x) (sym kind) h.0) at; keeps = n.keeps })
-    (λ m r i. ap (λ (u : Operation). compound_end G (I m) c.args.k f u a x y r i) same))
+    (walks_two (λ x y m. compound_end G (path_world (I m)) c.args.k f o a x y) (pos 0) 0 c.in_ok-value.ensures.walks c.in_ok-_place.ensures.walks
+    (λ x y. walks_as (λ m. compound_end G (path_world (I m)) c.args.k f o a x y) (record { answered = n.makes; values_made = n.made; events = n.events f asked; leads = λ m s served h at. n.follows f x y asked m s (served, subst (λ (k : IntKind). V.shows c.place.new.values m k c.in_ok-value.value x) (sym kind) h.0) at; keeps = n.keeps })
+    (λ m r i. ap (λ (u : Operation). compound_end G (path_world (I m)) c.args.k f u a x y r i) same))
     (λ m x hx. k2.shown m _ _ _ hx))
 
 pub arguments-loop-e-init : goal.arguments-loop-e-init
 arguments-loop-e-init g t c =
     let V = g.V.Values in
-    let G = g.O.PathSetting.setting c.args.out.now in
+    let G = g.O.RunSetting.setting c.args.out.now in
     let k0 = c.in_ok-found.ensures.keeps in
     let new = c.no_arguments.new.values in
     (passed_none (expressions (map view_expression c.args.list.now)) c.in_ok-found.ensures.makes (λ m served. c.in_ok-found.ensures.shown m (k0.served_before m served)) (is_made_still (V.made c.args.values.now) (V.made new) k0.made_still G c.args.state.now c.requires.ready.values_made) (keeps_none V.serves V.has_key V.made V.shows new), record { so_far = 0; costs = costs_none; completes = omega arith })
 
 pub arguments-value-requires : goal.arguments-value-requires
 arguments-value-requires g t c κs within =
-    let G = g.O.PathSetting.setting c.args.out.now in
+    let G = g.O.RunSetting.setting c.args.out.now in
     let so_far = c.loop-e.invariant.0 in
     let k0 = c.in_ok-found.ensures.keeps in
     let kinded = kinded_argument G c.args.list.now c.loop-e.e-index c.e-item.result c.loop-e-test.true c.e-item.is c.requires.kinded in
@@ -771,7 +772,7 @@ arguments-passed-requires-clause-arguments g t c =
 pub arguments-passed-requires-clause-argument : goal.arguments-passed-requires-clause-argument
 arguments-passed-requires-clause-argument g t c =
     let V = g.V.Values in
-    let G = g.O.PathSetting.setting c.args.out.now in
+    let G = g.O.RunSetting.setting c.args.out.now in
     let e = view_expression c.e-item.result in
     let kind : c.kind_at-kind.result ≡ number_kind (type_in G.typing e) = c.kind_at-kind.ensures ∙ ap (λ i. number_kind (G.typing.type_at i)) c.node_of.ensures in
     subst (λ (k : IntKind). V.made c.value.new.values k c.in_ok-value.value) (sym kind) c.in_ok-value.ensures.walks.answered
@@ -779,7 +780,7 @@ arguments-passed-requires-clause-argument g t c =
 pub arguments-loop-e-preserved : goal.arguments-loop-e-preserved
 arguments-loop-e-preserved g t c =
     let V = g.V.Values in
-    let G = g.O.PathSetting.setting c.args.out.now in
+    let G = g.O.RunSetting.setting c.args.out.now in
     let so_far = c.loop-e.invariant.0 in
     let e = view_expression c.e-item.result in
     let kind : c.kind_at-kind.result ≡ number_kind (type_in G.typing e) = c.kind_at-kind.ensures ∙ ap (λ i. number_kind (G.typing.type_at i)) c.node_of.ensures in
@@ -791,7 +792,7 @@ arguments-loop-e-preserved g t c =
     let p : Passed V.serves V.has_key V.made V.shows G (g.O.WalkSetting.under c.args.out.now) (option_map library_shown c.args.library) c.loop-e.found (expressions (map view_expression list)) (then_expression e es) c.no_arguments.new.values c.loop-e.values c.args.state.now c.loop-e.state = rw step at so_far in
     let l = option_map library_shown c.args.library in
     let spent = c.loop-e.invariant.1 in
-    let rest : arguments_spent (g.O.PathSetting.setting c.args.out.now) l (expressions (map view_expression (drop i list))) ≡ arguments_spent (g.O.PathSetting.setting c.args.out.now) l (then_expression e es) = ap (λ zs. arguments_spent (g.O.PathSetting.setting c.args.out.now) l (expressions (map view_expression zs))) step in (
+    let rest : arguments_spent (g.O.RunSetting.setting c.args.out.now) l (expressions (map view_expression (drop i list))) ≡ arguments_spent (g.O.RunSetting.setting c.args.out.now) l (then_expression e es) = ap (λ zs. arguments_spent (g.O.RunSetting.setting c.args.out.now) l (expressions (map view_expression zs))) step in (
       passed_more e es p c.in_ok-value.ensures.walks c.in_ok-more.ensures.makes
           (λ m ts xs x served takes h hx. c.in_ok-more.ensures.shown m ts xs x served takes h (subst (λ (k : IntKind). V.shows c.value.new.values m k v x) (sym kind) hx))
           (λ m xs h. arguments_shown (V.shows c.loop-e.values m) (V.shows c.value.new.values m) (c.in_ok-value.ensures.walks.keeps.shown m) (option_map library_shown c.args.library) c.loop-e.found xs h) c.in_ok-more.ensures.keeps,
@@ -801,7 +802,7 @@ arguments-loop-e-preserved g t c =
 pub arguments-returns-clause-walks : goal.arguments-returns-clause-walks
 arguments-returns-clause-walks g t c =
     let V = g.V.Values in
-    let G = g.O.PathSetting.setting c.args.out.now in
+    let G = g.O.RunSetting.setting c.args.out.now in
     let so_far = c.loop-e.invariant.0 in
     let list = c.args.list.now in
     let rest = expressions (map view_expression (drop c.loop-e.e-index list)) in
@@ -815,12 +816,12 @@ call_value-arguments-requires g t c κs within =
 
 pub call_value-called_number-requires-clause-library : goal.call_value-called_number-requires-clause-library
 call_value-called_number-requires-clause-library g t c =
-    let G = g.O.PathSetting.setting c.args.out.now in
+    let G = g.O.RunSetting.setting c.args.out.now in
     c.library-library.ensures
 
 pub call_value-called_number-requires-clause-arguments : goal.call_value-called_number-requires-clause-arguments
 call_value-called_number-requires-clause-arguments g t c =
-    let G = g.O.PathSetting.setting c.args.out.now in
+    let G = g.O.RunSetting.setting c.args.out.now in
     let callee = view_expression c.args.callee.now in
     let l = option_map library_shown c.library-library.result in
     let ts = parameters_in (called_signature G.typing callee) in
@@ -830,7 +831,7 @@ call_value-called_number-requires-clause-arguments g t c =
 
 pub call_value-called_number-requires-clause-keys : goal.call_value-called_number-requires-clause-keys
 call_value-called_number-requires-clause-keys g t c =
-    let G = g.O.PathSetting.setting c.args.out.now in
+    let G = g.O.RunSetting.setting c.args.out.now in
     let callee = view_expression c.args.callee.now in
     let l = option_map library_shown c.library-library.result in
     let ts = parameters_in (called_signature G.typing callee) in
@@ -840,7 +841,7 @@ call_value-called_number-requires-clause-keys g t c =
 
 pub call_value-called_number-requires-clause-made : goal.call_value-called_number-requires-clause-made
 call_value-called_number-requires-clause-made g t c =
-    let G = g.O.PathSetting.setting c.args.out.now in
+    let G = g.O.RunSetting.setting c.args.out.now in
     let callee = view_expression c.args.callee.now in
     let l = option_map library_shown c.library-library.result in
     let ts = parameters_in (called_signature G.typing callee) in
@@ -851,7 +852,7 @@ call_value-called_number-requires-clause-made g t c =
 pub call_value-returns-clause-walks : goal.call_value-returns-clause-walks
 call_value-returns-clause-walks g t c =
     let V = g.V.Values in
-    let G = g.O.PathSetting.setting c.args.out.now in
+    let G = g.O.RunSetting.setting c.args.out.now in
     let I = g.O.WalkSetting.under c.args.out.now in
     let callee = view_expression c.args.callee.now in
     let l = option_map library_shown c.library-library.result in
@@ -860,7 +861,7 @@ call_value-returns-clause-walks g t c =
     let p = c.in_ok-found.ensures.walks ts takes in
     let es = expressions (map view_expression c.args.list.now) in
     let n = c.in_ok-number.ensures in
-    walks_one (λ xs m. call_end G (I m) c.args.k callee es xs) [] p
+    walks_one (λ xs m. call_end G (path_world (I m)) c.args.k callee es xs) [] p
     (λ xs. record { answered = n.makes; values_made = n.made; events = n.events es; leads = λ m s served h at. n.follows es xs m s (served, h) at; keeps = n.keeps })
 
 pub value-returns-in-Cast-clause-walks : goal.value-returns-in-Cast-clause-walks
@@ -869,7 +870,7 @@ value-returns-in-Cast-clause-walks g t c =
 
 pub value-returns-in_ok-found-in-Choice-clause-walks : goal.value-returns-in_ok-found-in-Choice-clause-walks
 value-returns-in_ok-found-in-Choice-clause-walks g t c =
-    let G = g.O.PathSetting.setting c.args.out.now in
+    let G = g.O.RunSetting.setting c.args.out.now in
     let I = g.O.WalkSetting.under c.args.out.now in
     let a = view_expression c.get-in-Choice.result.now in
     let b = view_expression c.get-in-Choice-2.result.now in
@@ -905,7 +906,7 @@ place-returns-in_ok-found-in-Name-clause-walks g t c =
 
 pub place-returns-in_ok-found-in-Arrow-clause-walks : goal.place-returns-in_ok-found-in-Arrow-clause-walks
 place-returns-in_ok-found-in-Arrow-clause-walks g t c =
-    let G = g.O.PathSetting.setting c.args.out.now in
+    let G = g.O.RunSetting.setting c.args.out.now in
     let e = view_expression c.get-x.result.now in
     let f = s.arrow e c.in-Arrow.name in
     let k = c.args.e.now.node.number in
@@ -927,7 +928,7 @@ place-returns-in-Unary-clause-walks g t c =
 pub binary_value-returns-in-Operates-Comparing-clause-walks : goal.binary_value-returns-in-Operates-Comparing-clause-walks
 binary_value-returns-in-Operates-Comparing-clause-walks g t c =
     let V = g.V.Values in
-    let G = g.O.PathSetting.setting c.args.out.now in
+    let G = g.O.RunSetting.setting c.args.out.now in
     let a = view_expression c.args.a.now in
     let b = view_expression c.args.b.now in
     let sort : sort_of c.args.op ≡ operates (comparing c.in-Operates-Comparing.how) = sym c.sort_of.ensures ∙ ap sort_shown c.in-Operates-Comparing.is ∙ ap (λ u. operates (operator_shown u)) c.in-Operates-Comparing.field-0-is in
@@ -937,7 +938,7 @@ binary_value-returns-in-Operates-Comparing-clause-walks g t c =
 pub binary_value-returns-in_ok-found-in-Operates-Arithmetic-clause-walks : goal.binary_value-returns-in_ok-found-in-Operates-Arithmetic-clause-walks
 binary_value-returns-in_ok-found-in-Operates-Arithmetic-clause-walks g t c =
     let V = g.V.Values in
-    let G = g.O.PathSetting.setting c.args.out.now in
+    let G = g.O.RunSetting.setting c.args.out.now in
     let a = view_expression c.args.a.now in
     let b = view_expression c.args.b.now in
     let sort : sort_of c.args.op ≡ operates (arithmetic c.in-Operates-Arithmetic.how) = sym c.sort_of.ensures ∙ ap sort_shown c.in-Operates-Arithmetic.is ∙ ap (λ u. operates (operator_shown u)) c.in-Operates-Arithmetic.field-0-is in
@@ -947,7 +948,7 @@ binary_value-returns-in_ok-found-in-Operates-Arithmetic-clause-walks g t c =
 pub binary_sides-returns-in-Operates-Arithmetic-clause-walks : goal.binary_sides-returns-in-Operates-Arithmetic-clause-walks
 binary_sides-returns-in-Operates-Arithmetic-clause-walks g t c =
     let V = g.V.Values in
-    let G = g.O.PathSetting.setting c.args.out.now in
+    let G = g.O.RunSetting.setting c.args.out.now in
     let a = view_expression c.args.a.now in
     let b = view_expression c.args.b.now in
     let sort : sort_of c.args.op ≡ operates (arithmetic c.in-Operates-Arithmetic.how) = sym c.sort_of.ensures ∙ ap sort_shown c.in-Operates-Arithmetic.is ∙ ap (λ u. operates (operator_shown u)) c.in-Operates-Arithmetic.field-0-is in
@@ -957,7 +958,7 @@ binary_sides-returns-in-Operates-Arithmetic-clause-walks g t c =
 pub binary_value-returns-in_ok-found-in-Operates-Shifting-clause-walks : goal.binary_value-returns-in_ok-found-in-Operates-Shifting-clause-walks
 binary_value-returns-in_ok-found-in-Operates-Shifting-clause-walks g t c =
     let V = g.V.Values in
-    let G = g.O.PathSetting.setting c.args.out.now in
+    let G = g.O.RunSetting.setting c.args.out.now in
     let a = view_expression c.args.a.now in
     let b = view_expression c.args.b.now in
     let sort : sort_of c.args.op ≡ operates (shifting c.in-Operates-Shifting.how) = sym c.sort_of.ensures ∙ ap sort_shown c.in-Operates-Shifting.is ∙ ap (λ u. operates (operator_shown u)) c.in-Operates-Shifting.field-0-is in
@@ -967,7 +968,7 @@ binary_value-returns-in_ok-found-in-Operates-Shifting-clause-walks g t c =
 pub binary_sides-returns-in-Operates-Shifting-clause-walks : goal.binary_sides-returns-in-Operates-Shifting-clause-walks
 binary_sides-returns-in-Operates-Shifting-clause-walks g t c =
     let V = g.V.Values in
-    let G = g.O.PathSetting.setting c.args.out.now in
+    let G = g.O.RunSetting.setting c.args.out.now in
     let a = view_expression c.args.a.now in
     let b = view_expression c.args.b.now in
     let sort : sort_of c.args.op ≡ operates (shifting c.in-Operates-Shifting.how) = sym c.sort_of.ensures ∙ ap sort_shown c.in-Operates-Shifting.is ∙ ap (λ u. operates (operator_shown u)) c.in-Operates-Shifting.field-0-is in
@@ -977,7 +978,7 @@ binary_sides-returns-in-Operates-Shifting-clause-walks g t c =
 pub binary_value-returns-in_ok-found-in-Joins-clause-walks : goal.binary_value-returns-in_ok-found-in-Joins-clause-walks
 binary_value-returns-in_ok-found-in-Joins-clause-walks g t c =
     let V = g.V.Values in
-    let G = g.O.PathSetting.setting c.args.out.now in
+    let G = g.O.RunSetting.setting c.args.out.now in
     let a = view_expression c.args.a.now in
     let b = view_expression c.args.b.now in
     let sort : sort_of c.args.op ≡ joins = sym c.sort_of.ensures ∙ ap sort_shown c.in-Joins.is in
@@ -987,7 +988,7 @@ binary_value-returns-in_ok-found-in-Joins-clause-walks g t c =
 pub binary_value-returns-in-OrElse-clause-walks : goal.binary_value-returns-in-OrElse-clause-walks
 binary_value-returns-in-OrElse-clause-walks g t c =
     let V = g.V.Values in
-    let G = g.O.PathSetting.setting c.args.out.now in
+    let G = g.O.RunSetting.setting c.args.out.now in
     let a = view_expression c.args.a.now in
     let b = view_expression c.args.b.now in
     let sort : sort_of c.args.op ≡ or_else = sym c.sort_of.ensures ∙ ap sort_shown c.in-OrElse.is in
@@ -997,7 +998,7 @@ binary_value-returns-in-OrElse-clause-walks g t c =
 pub binary_value-returns-in-AndAlso-clause-walks : goal.binary_value-returns-in-AndAlso-clause-walks
 binary_value-returns-in-AndAlso-clause-walks g t c =
     let V = g.V.Values in
-    let G = g.O.PathSetting.setting c.args.out.now in
+    let G = g.O.RunSetting.setting c.args.out.now in
     let a = view_expression c.args.a.now in
     let b = view_expression c.args.b.now in
     let sort : sort_of c.args.op ≡ and_also = sym c.sort_of.ensures ∙ ap sort_shown c.in-AndAlso.is in
@@ -1007,7 +1008,7 @@ binary_value-returns-in-AndAlso-clause-walks g t c =
 pub sides-returns-in_ok-found-in-Name-clause-walks : goal.sides-returns-in_ok-found-in-Name-clause-walks
 sides-returns-in_ok-found-in-Name-clause-walks g t c =
     let V = g.V.Values in
-    let G = g.O.PathSetting.setting c.args.out.now in
+    let G = g.O.RunSetting.setting c.args.out.now in
     let I = g.O.WalkSetting.under c.args.out.now in
     let e = view_expression c.args.e.now in
     let k1 = number_kind (type_in G.typing e) in
@@ -1022,7 +1023,7 @@ sides-returns-in-Binary-clause-walks g t c =
 pub binary_sides-returns-in_ok-found-in-Operates-Comparing-clause-walks : goal.binary_sides-returns-in_ok-found-in-Operates-Comparing-clause-walks
 binary_sides-returns-in_ok-found-in-Operates-Comparing-clause-walks g t c =
     let V = g.V.Values in
-    let G = g.O.PathSetting.setting c.args.out.now in
+    let G = g.O.RunSetting.setting c.args.out.now in
     let I = g.O.WalkSetting.under c.args.out.now in
     let a = view_expression c.args.a.now in
     let b = view_expression c.args.b.now in
@@ -1034,7 +1035,7 @@ binary_sides-returns-in_ok-found-in-Operates-Comparing-clause-walks g t c =
 pub binary_sides-returns-in_ok-found-in-Joins-clause-walks : goal.binary_sides-returns-in_ok-found-in-Joins-clause-walks
 binary_sides-returns-in_ok-found-in-Joins-clause-walks g t c =
     let V = g.V.Values in
-    let G = g.O.PathSetting.setting c.args.out.now in
+    let G = g.O.RunSetting.setting c.args.out.now in
     let I = g.O.WalkSetting.under c.args.out.now in
     let a = view_expression c.args.a.now in
     let b = view_expression c.args.b.now in
@@ -1046,7 +1047,7 @@ binary_sides-returns-in_ok-found-in-Joins-clause-walks g t c =
 pub binary_sides-returns-in_ok-found-in-OrElse-clause-walks : goal.binary_sides-returns-in_ok-found-in-OrElse-clause-walks
 binary_sides-returns-in_ok-found-in-OrElse-clause-walks g t c =
     let V = g.V.Values in
-    let G = g.O.PathSetting.setting c.args.out.now in
+    let G = g.O.RunSetting.setting c.args.out.now in
     let I = g.O.WalkSetting.under c.args.out.now in
     let a = view_expression c.args.a.now in
     let b = view_expression c.args.b.now in
@@ -1058,7 +1059,7 @@ binary_sides-returns-in_ok-found-in-OrElse-clause-walks g t c =
 pub binary_sides-returns-in_ok-found-in-AndAlso-clause-walks : goal.binary_sides-returns-in_ok-found-in-AndAlso-clause-walks
 binary_sides-returns-in_ok-found-in-AndAlso-clause-walks g t c =
     let V = g.V.Values in
-    let G = g.O.PathSetting.setting c.args.out.now in
+    let G = g.O.RunSetting.setting c.args.out.now in
     let I = g.O.WalkSetting.under c.args.out.now in
     let a = view_expression c.args.a.now in
     let b = view_expression c.args.b.now in
@@ -1070,7 +1071,7 @@ binary_sides-returns-in_ok-found-in-AndAlso-clause-walks g t c =
 pub unary_value-returns-in_ok-address-in-Address-clause-walks : goal.unary_value-returns-in_ok-address-in-Address-clause-walks
 unary_value-returns-in_ok-address-in-Address-clause-walks g t c =
     let V = g.V.Values in
-    let G = g.O.PathSetting.setting c.args.out.now in
+    let G = g.O.RunSetting.setting c.args.out.now in
     let e = view_expression c.args.e.now in
     let kind : number_kind (G.typing.type_at c.args.k) ≡ ULong = subst (λ o. UnaryHasKind G.typing c.args.k (number_kind (type_in G.typing e)) o) c.in-Address.is c.requires.kind in
     let p = c.in_ok-address-in-Address.ensures.walks in
@@ -1087,7 +1088,7 @@ unary_value-returns-in-Plus-clause-walks g t c =
 pub unary_value-returns-in_ok-found-in-Minus-clause-walks : goal.unary_value-returns-in_ok-found-in-Minus-clause-walks
 unary_value-returns-in_ok-found-in-Minus-clause-walks g t c =
     let V = g.V.Values in
-    let G = g.O.PathSetting.setting c.args.out.now in
+    let G = g.O.RunSetting.setting c.args.out.now in
     let e = view_expression c.args.e.now in
     let kind : number_kind (G.typing.type_at c.args.k) ≡ promote (number_kind (type_in G.typing e)) = subst (λ o. UnaryHasKind G.typing c.args.k (number_kind (type_in G.typing e)) o) c.in-Minus.is c.requires.kind in
     let j = promote (number_kind (type_in G.typing e)) in
@@ -1097,7 +1098,7 @@ unary_value-returns-in_ok-found-in-Minus-clause-walks g t c =
 pub unary_value-returns-in_ok-found-in-Flip-clause-walks : goal.unary_value-returns-in_ok-found-in-Flip-clause-walks
 unary_value-returns-in_ok-found-in-Flip-clause-walks g t c =
     let V = g.V.Values in
-    let G = g.O.PathSetting.setting c.args.out.now in
+    let G = g.O.RunSetting.setting c.args.out.now in
     let e = view_expression c.args.e.now in
     let kind : number_kind (G.typing.type_at c.args.k) ≡ promote (number_kind (type_in G.typing e)) = subst (λ o. UnaryHasKind G.typing c.args.k (number_kind (type_in G.typing e)) o) c.in-Flip.is c.requires.kind in
     let j = promote (number_kind (type_in G.typing e)) in
@@ -1107,7 +1108,7 @@ unary_value-returns-in_ok-found-in-Flip-clause-walks g t c =
 pub unary_value-returns-in_ok-found-in-Not-clause-walks : goal.unary_value-returns-in_ok-found-in-Not-clause-walks
 unary_value-returns-in_ok-found-in-Not-clause-walks g t c =
     let V = g.V.Values in
-    let G = g.O.PathSetting.setting c.args.out.now in
+    let G = g.O.RunSetting.setting c.args.out.now in
     let e = view_expression c.args.e.now in
     let kind : number_kind (G.typing.type_at c.args.k) ≡ Int = subst (λ o. UnaryHasKind G.typing c.args.k (number_kind (type_in G.typing e)) o) c.in-Not.is c.requires.kind in
     let n = c.in_ok-found-in-Not.ensures in
@@ -1119,7 +1120,7 @@ unary_place-returns-in-Deref-clause-walks g t c =
 
 pub cast-returns-clause-cost : goal.cast-returns-clause-cost
 cast-returns-clause-cost g t c =
-    let G = g.O.PathSetting.setting c.args.out.now in
+    let G = g.O.RunSetting.setting c.args.out.now in
     let e = view_expression c.args.e.now in
     let kind : c.kind_at.result ≡ number_kind (type_in G.typing e) = c.kind_at.ensures ∙ ap (λ i. number_kind (G.typing.type_at i)) c.node_of.ensures in
     costs_more _ c.in_ok-n.ensures.cost (rw (kind, c.kind_at-2.ensures) at c.in_ok-found.ensures.charge)
@@ -1129,14 +1130,14 @@ tested-returns-clause-cost g t c = costs_then c.in_ok-n.ensures.cost c.in_ok-tes
 
 pub right_operand-returns-clause-cost : goal.right_operand-returns-clause-cost
 right_operand-returns-clause-cost g t c =
-    let G = g.O.PathSetting.setting c.args.out.now in
+    let G = g.O.RunSetting.setting c.args.out.now in
     let e = view_expression c.args.e.now in
     let kind : c.kind_at.result ≡ number_kind (type_in G.typing e) = c.kind_at.ensures ∙ ap (λ i. number_kind (G.typing.type_at i)) c.node_of-2.ensures in
     costs_cells (ap length c.in_ok-enter.ensures.cells) (costs_more _ c.in_ok-n.ensures.cost (rw kind at c.in_ok-test.ensures.charge))
 
 pub branch-returns-clause-cost : goal.branch-returns-clause-cost
 branch-returns-clause-cost g t c =
-    let G = g.O.PathSetting.setting c.args.out.now in
+    let G = g.O.RunSetting.setting c.args.out.now in
     let e = view_expression c.args.e.now in
     let kind : c.kind_at.result ≡ number_kind (type_in G.typing e) = c.kind_at.ensures ∙ ap (λ i. number_kind (G.typing.type_at i)) c.node_of-2.ensures in
     costs_cells (ap length c.in_ok-enter.ensures.cells) (costs_more _ c.in_ok-n.ensures.cost (rw (kind, c.kind_at-2.ensures) at c.in_ok-found.ensures.charge))
@@ -1146,7 +1147,7 @@ member-returns-clause-cost g t c = costs_more _ c.in_ok-address.ensures.cost c.i
 
 pub target-returns-clause-cost : goal.target-returns-clause-cost
 target-returns-clause-cost g t c =
-    let G = g.O.PathSetting.setting c.args.out.now in
+    let G = g.O.RunSetting.setting c.args.out.now in
     let e = view_expression c.args.e.now in
     let kind : c.kind_at-kind.result ≡ number_kind (type_in G.typing e) = c.kind_at-kind.ensures ∙ ap (λ i. number_kind (G.typing.type_at i)) c.node_of.ensures in
     costs_then c.in_ok-value.ensures.cost (rw kind at c.in_ok-found.ensures.cost)
@@ -1156,14 +1157,14 @@ target_value-returns-clause-cost g t c = costs_within _ (none_more _) (costs_the
 
 pub place_value-returns-clause-cost : goal.place_value-returns-clause-cost
 place_value-returns-clause-cost g t c =
-    let G = g.O.PathSetting.setting c.args.out.now in
+    let G = g.O.RunSetting.setting c.args.out.now in
     let e = view_expression c.args.e.now in
     let at : c.node_of-k.result ≡ node_of e = c.node_of-k.ensures in
     costs_then c.in_ok-address.ensures.cost (rw (c.target_of.ensures, at) at c.in_ok-found.ensures.cost)
 
 pub index_place-returns-clause-cost : goal.index_place-returns-clause-cost
 index_place-returns-clause-cost g t c =
-    let G = g.O.PathSetting.setting c.args.out.now in
+    let G = g.O.RunSetting.setting c.args.out.now in
     let a = view_expression c.args.a.now in
     let b = view_expression c.args.b.now in
     let ka : c.kind_at.result ≡ number_kind (type_in G.typing a) = c.kind_at.ensures ∙ ap (λ i. number_kind (G.typing.type_at i)) c.node_of.ensures in
@@ -1171,7 +1172,7 @@ index_place-returns-clause-cost g t c =
 
 pub indexed-returns-in_ok-address-clause-cost : goal.indexed-returns-in_ok-address-clause-cost
 indexed-returns-in_ok-address-clause-cost g t c =
-    let G = g.O.PathSetting.setting c.args.out.now in
+    let G = g.O.RunSetting.setting c.args.out.now in
     let e = view_expression c.args.e.now in
     let at : c.node_of.result ≡ node_of e = c.node_of.ensures in
     let t1 = type_in G.typing e in
@@ -1180,7 +1181,7 @@ indexed-returns-in_ok-address-clause-cost g t c =
 
 pub indexed-returns-in_ok-n-clause-cost : goal.indexed-returns-in_ok-n-clause-cost
 indexed-returns-in_ok-n-clause-cost g t c =
-    let G = g.O.PathSetting.setting c.args.out.now in
+    let G = g.O.RunSetting.setting c.args.out.now in
     let e = view_expression c.args.e.now in
     let at : c.node_of.result ≡ node_of e = c.node_of.ensures in
     let t1 = type_in G.typing e in
@@ -1277,7 +1278,7 @@ and_also-returns-clause-cost g t c = costs_within _ (joined_regrouped _ _ _ _) (
 
 pub operator_sides-returns-clause-cost : goal.operator_sides-returns-clause-cost
 operator_sides-returns-clause-cost g t c =
-    let G = g.O.PathSetting.setting c.args.out.now in
+    let G = g.O.RunSetting.setting c.args.out.now in
     let a = view_expression c.args.a.now in
     let b = view_expression c.args.b.now in
     let ka : c.kind_at.result ≡ number_kind (type_in G.typing a) = c.kind_at.ensures ∙ ap (λ i. number_kind (G.typing.type_at i)) c.node_of.ensures in
@@ -1300,7 +1301,7 @@ stepped_value-returns-clause-cost g t c = costs_then c.in_ok-_place.ensures.cost
 
 pub assigned_value-returns-in_ok-found-in-None-clause-cost : goal.assigned_value-returns-in_ok-found-in-None-clause-cost
 assigned_value-returns-in_ok-found-in-None-clause-cost g t c =
-    let G = g.O.PathSetting.setting c.args.out.now in
+    let G = g.O.RunSetting.setting c.args.out.now in
     let a = view_expression c.args.a.now in
     let b = view_expression c.args.b.now in
     let kind : c.kind_at-kind.result ≡ number_kind (type_in G.typing b) = c.kind_at-kind.ensures ∙ ap (λ i. number_kind (G.typing.type_at i)) c.node_of.ensures in
@@ -1310,7 +1311,7 @@ assigned_value-returns-in_ok-found-in-None-clause-cost g t c =
 
 pub assigned_value-returns-in_ok-found-in-Some-clause-cost : goal.assigned_value-returns-in_ok-found-in-Some-clause-cost
 assigned_value-returns-in_ok-found-in-Some-clause-cost g t c =
-    let G = g.O.PathSetting.setting c.args.out.now in
+    let G = g.O.RunSetting.setting c.args.out.now in
     let a = view_expression c.args.a.now in
     let b = view_expression c.args.b.now in
     let kind : c.kind_at-kind.result ≡ number_kind (type_in G.typing b) = c.kind_at-kind.ensures ∙ ap (λ i. number_kind (G.typing.type_at i)) c.node_of.ensures in
@@ -1327,7 +1328,7 @@ call_value-returns-clause-cost g t c = costs_then (rw c.library-library.ensures 
 
 pub arguments-returns-clause-cost : goal.arguments-returns-clause-cost
 arguments-returns-clause-cost g t c =
-    let G = g.O.PathSetting.setting c.args.out.now in
+    let G = g.O.RunSetting.setting c.args.out.now in
     let so_far = c.loop-e.invariant.1 in
     let list = c.args.list.now in
     let l = option_map library_shown c.args.library in
@@ -1360,31 +1361,31 @@ value-returns-in-Call-clause-cost g t c = rw (at_call c.args.e.now c.in-Call.f c
 
 pub value-returns-in-Text-clause-cost : goal.value-returns-in-Text-clause-cost
 value-returns-in-Text-clause-cost g t c =
-    let G = g.O.PathSetting.setting c.args.out.now in
+    let G = g.O.RunSetting.setting c.args.out.now in
     let w = c.args.e.now in
     placed_costs _ _ _ _ _ _ c.place_value-in-Text.result G (view_expression w) w.node (s.text c.in-Text.field-0) (at_text w c.in-Text.field-0 c.in-Text.is) (none_more _) c.place_value-in-Text.ensures.cost
 
 pub value-returns-in-Index-clause-cost : goal.value-returns-in-Index-clause-cost
 value-returns-in-Index-clause-cost g t c =
-    let G = g.O.PathSetting.setting c.args.out.now in
+    let G = g.O.RunSetting.setting c.args.out.now in
     let w = c.args.e.now in
     placed_costs _ _ _ _ _ _ c.place_value-in-Index.result G (view_expression w) w.node (s.index (view_expression c.in-Index.field-0) (view_expression c.in-Index.field-1)) (at_index w c.in-Index.field-0 c.in-Index.field-1 c.in-Index.is) (none_more _) c.place_value-in-Index.ensures.cost
 
 pub value-returns-in-Arrow-clause-cost : goal.value-returns-in-Arrow-clause-cost
 value-returns-in-Arrow-clause-cost g t c =
-    let G = g.O.PathSetting.setting c.args.out.now in
+    let G = g.O.RunSetting.setting c.args.out.now in
     let w = c.args.e.now in
     placed_costs _ _ _ _ _ _ c.place_value-in-Arrow.result G (view_expression w) w.node (s.arrow (view_expression c.in-Arrow.field-0) c.in-Arrow.field-1) (at_arrow w c.in-Arrow.field-0 c.in-Arrow.field-1 c.in-Arrow.is) (none_more _) c.place_value-in-Arrow.ensures.cost
 
 pub value-returns-in-Dot-clause-cost : goal.value-returns-in-Dot-clause-cost
 value-returns-in-Dot-clause-cost g t c =
-    let G = g.O.PathSetting.setting c.args.out.now in
+    let G = g.O.RunSetting.setting c.args.out.now in
     let w = c.args.e.now in
     placed_costs _ _ _ _ _ _ c.place_value-in-Dot.result G (view_expression w) w.node (s.dot (view_expression c.in-Dot.field-0) c.in-Dot.field-1) (at_dot w c.in-Dot.field-0 c.in-Dot.field-1 c.in-Dot.is) (itself _) c.place_value-in-Dot.ensures.cost
 
 pub value-returns-in-None-clause-cost : goal.value-returns-in-None-clause-cost
 value-returns-in-None-clause-cost g t c =
-    let G = g.O.PathSetting.setting c.args.out.now in
+    let G = g.O.RunSetting.setting c.args.out.now in
     let w = c.args.e.now in
     placed_costs _ _ _ _ _ _ c.place_value.result G (view_expression w) w.node (s.name c.in-Name.field-0) (at_name w c.in-Name.field-0 c.in-Name.is) (named_within G w.node.number (target_at G (object_named G w.node.number c.in-Name.field-0)) (G.typing.number_at w.node.number) _ (sym c.in-None.is ∙ c.own_number.ensures)) c.place_value.ensures.cost
 

@@ -12,8 +12,8 @@ use Rattle.stk_walk_values.proofs.expressions.+expression.Given as goal
 -- what completes the rest completes the whole
 abbrev pub invariant-arguments-loop-e : goal.invariant-arguments-loop-e
 invariant-arguments-loop-e g l =
-    Passed g.V.Values.serves g.V.Values.has_key g.V.Values.made g.V.Values.shows (g.O.PathSetting.setting l.out) (g.O.WalkSetting.under l.out) (option_map library_shown l.library) l.found (expressions (map view_expression l.list)) (expressions (map view_expression (drop l.e-index l.list))) l.initial.values l.values l.initial.state l.state
-    × SpentSoFar g.V.Values.cost (length (g.O.PathSetting.setting l.out).kept) (arguments_spent (g.O.PathSetting.setting l.out) (option_map library_shown l.library) (expressions (map view_expression l.list))) (arguments_spent (g.O.PathSetting.setting l.out) (option_map library_shown l.library) (expressions (map view_expression (drop l.e-index l.list)))) l.initial.values l.values (length l.initial.state.cells.items) (length l.state.cells.items)
+    Passed g.V.Values.serves g.V.Values.has_key g.V.Values.made g.V.Values.shows (g.O.RunSetting.setting l.out) (g.O.WalkSetting.under l.out) (option_map library_shown l.library) l.found (expressions (map view_expression l.list)) (expressions (map view_expression (drop l.e-index l.list))) l.initial.values l.values l.initial.state l.state
+    × SpentSoFar g.V.Values.cost (length (g.O.RunSetting.setting l.out).kept) (arguments_spent (g.O.RunSetting.setting l.out) (option_map library_shown l.library) (expressions (map view_expression l.list))) (arguments_spent (g.O.RunSetting.setting l.out) (option_map library_shown l.library) (expressions (map view_expression (drop l.e-index l.list)))) l.initial.values l.values (length l.initial.state.cells.items) (length l.state.cells.items)
 
 -- the depth of the tree, and by how many calls on the same tree a function stands above the place of an expression; of
 -- several operands, the larger depth

@@ -22,13 +22,13 @@ use Rattle.stk_walk_values.proofs.operators.compared_number.Goals as goal
 
 pub operated-requires-clause-left : goal.operated-requires-clause-left
 operated-requires-clause-left g c =
-    let G = g.O.PathSetting.setting c.args.out.now in
+    let G = g.O.RunSetting.setting c.args.out.now in
     let kind = c.kind_at.ensures ∙ ap (λ i. number_kind (G.typing.type_at i)) c.node_of-first.ensures in
     subst (λ (k : IntKind). g.V.Values.made c.args.values.now k c.args.pair.0.number) (sym kind) c.requires.first.number
 
 pub operated-requires-clause-right : goal.operated-requires-clause-right
 operated-requires-clause-right g c =
-    let G = g.O.PathSetting.setting c.args.out.now in
+    let G = g.O.RunSetting.setting c.args.out.now in
     let kind = c.kind_at-2.ensures ∙ ap (λ i. number_kind (G.typing.type_at i)) c.node_of-second.ensures in
     subst (λ (k : IntKind). g.V.Values.made c.args.values.now k c.args.pair.1.number) (sym kind) c.requires.second.number
 
@@ -63,7 +63,7 @@ see-requires-clause-steps g c =
 pub returns-clause-walks : goal.returns-clause-walks
 returns-clause-walks g c = λ p q.
     let V = g.V.Values in
-    let G = g.O.PathSetting.setting c.args.out.now in
+    let G = g.O.RunSetting.setting c.args.out.now in
     let a = view_expression c.args.left.now in
     let b = view_expression c.args.right.now in
     let ta = type_in G.typing a in
@@ -98,7 +98,7 @@ returns-clause-walks g c = λ p q.
 
 pub returns-clause-cost : goal.returns-clause-cost
 returns-clause-cost g c =
-    let G = g.O.PathSetting.setting c.args.out.now in
+    let G = g.O.RunSetting.setting c.args.out.now in
     let a = view_expression c.args.left.now in
     let b = view_expression c.args.right.now in
     let op = c.args.op in

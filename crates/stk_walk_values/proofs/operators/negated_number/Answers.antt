@@ -17,23 +17,23 @@ use Rattle.stk_walk_values.proofs.operators.negated_number.Goals as goal
 
 pub negated-requires : goal.negated-requires
 negated-requires g c =
-    let G = g.O.PathSetting.setting c.args.out.now in
+    let G = g.O.RunSetting.setting c.args.out.now in
     let kind = c.kind_at-from.ensures ∙ ap (λ i. number_kind (G.typing.type_at i)) c.node_of.ensures in
     subst (λ (k : IntKind). g.V.Values.made c.args.values.now k c.args.value) (sym kind) c.requires.value
 
 pub check_one-requires-clause-first : goal.check_one-requires-clause-first
 check_one-requires-clause-first g c =
-    let G = g.O.PathSetting.setting c.args.out.now in
+    let G = g.O.RunSetting.setting c.args.out.now in
     let kind = c.kind_at-from.ensures ∙ ap (λ i. number_kind (G.typing.type_at i)) c.node_of.ensures in
     c.in_ok-number.ensures.keeps.made_still _ _ (subst (λ (k : IntKind). g.V.Values.made c.args.values.now k c.args.value) (sym kind) c.requires.value)
 
 pub check_one-requires-clause-made : goal.check_one-requires-clause-made
-check_one-requires-clause-made g c = is_made_still (g.V.Values.made c.args.values.now) (g.V.Values.made c.negated.new.values) c.in_ok-number.ensures.keeps.made_still (g.O.PathSetting.setting c.args.out.now) c.args.state.now c.requires.ready.values_made
+check_one-requires-clause-made g c = is_made_still (g.V.Values.made c.args.values.now) (g.V.Values.made c.negated.new.values) c.in_ok-number.ensures.keeps.made_still (g.O.RunSetting.setting c.args.out.now) c.args.state.now c.requires.ready.values_made
 
 pub returns-clause-walks : goal.returns-clause-walks
 returns-clause-walks g c = λ x.
     let V = g.V.Values in
-    let G = g.O.PathSetting.setting c.args.out.now in
+    let G = g.O.RunSetting.setting c.args.out.now in
     let e = view_expression c.args.e.now in
     let f = s.unary unary.Minus e in
     let j = promote (number_kind (type_in G.typing e)) in
@@ -52,7 +52,7 @@ returns-clause-walks g c = λ x.
 
 pub returns-clause-cost : goal.returns-clause-cost
 returns-clause-cost g c =
-    let G = g.O.PathSetting.setting c.args.out.now in
+    let G = g.O.RunSetting.setting c.args.out.now in
     let e = view_expression c.args.e.now in
     let from : c.kind_at-from.result ≡ number_kind (type_in G.typing e) = c.kind_at-from.ensures ∙ ap (λ i. number_kind (G.typing.type_at i)) c.node_of.ensures in
     let kind : c.promote-kind.result ≡ promote (number_kind (type_in G.typing e)) = c.promote-kind.ensures ∙ ap promote from in

@@ -8,11 +8,11 @@ use Rattle.stk_walking.proofs.Costing.{costs_only, plus}
 use Rattle.stk_walk_values.proofs.operators.operated_number.Goals as goal
 
 pub check_two-requires-clause-made : goal.check_two-requires-clause-made
-check_two-requires-clause-made g c = is_made_still (g.V.Values.made c.args.values.now) (g.V.Values.made c.operated.new.values) c.in_ok-number.ensures.keeps.made_still (g.O.PathSetting.setting c.args.out.now) c.args.state.now c.requires.ready.values_made
+check_two-requires-clause-made g c = is_made_still (g.V.Values.made c.args.values.now) (g.V.Values.made c.operated.new.values) c.in_ok-number.ensures.keeps.made_still (g.O.RunSetting.setting c.args.out.now) c.args.state.now c.requires.ready.values_made
 
 pub returns-clause-walks : goal.returns-clause-walks
 returns-clause-walks g c = λ f x y same.
-    let G = g.O.PathSetting.setting c.args.out.now in
+    let G = g.O.RunSetting.setting c.args.out.now in
     let k1 = c.in_ok-number.ensures.keeps in
     let e2 = c.in_ok-check_two.ensures in
     walks_checked (operated (operation_shown c.args.operation) x y) (breaks G c.args.node true f x y (pos 0)) k1 (e2.keeps.made_still _ _ c.in_ok-number.ensures.makes) e2.made (e2.events true f same) e2.keeps

@@ -3,8 +3,9 @@ use Rattle.std.specs.Prelude.{if◌then◌else◌, Bool}
 use Rattle.stk_ctype.specs.declared.kind.IntKind.{IntKind}
 use Rattle.stk_ctype.specs.declared.kind.IntKind.TheVariants.{Int}
 use Rattle.stk_tree.specs.View.{view_expression}
+use Rattle.stk_tree.specs.Parts.{bare}
 use Rattle.stk_meaning.specs.declared.entry.Entry.TheVariants.{Seen}
-use Rattle.stk_meaning.specs.Typings.{type_in, number_kind, node_of, bare}
+use Rattle.stk_meaning.specs.Typings.{type_in, number_kind, node_of}
 use Rattle.stk_meaning.specs.Operations.{truth, bit}
 use Rattle.stk_meaning.specs.Worlds.{Went}
 use Rattle.stk_meaning.specs.Expressions.{is_comparison, seen}
@@ -18,7 +19,7 @@ use Rattle.stk_walk_values.proofs.operators.seen_test.Goals as goal
 
 pub is_true-requires : goal.is_true-requires
 is_true-requires g c =
-    let G = g.O.PathSetting.setting c.args.out.now in
+    let G = g.O.RunSetting.setting c.args.out.now in
     let kind = c.kind_at.ensures ∙ ap (λ i. number_kind (G.typing.type_at i)) c.node_of.ensures in
     subst (λ (k : IntKind). g.V.Values.made c.args.values.now k c.args.value) (sym kind) c.requires.value
 
@@ -31,7 +32,7 @@ see-requires-clause-steps g c = steps_made (g.V.Values.made c.args.values.now) (
 pub returns-then-is_comparison-clause-walks : goal.returns-then-is_comparison-clause-walks
 returns-then-is_comparison-clause-walks g c = λ x.
     let V = g.V.Values in
-    let G = g.O.PathSetting.setting c.args.out.now in
+    let G = g.O.RunSetting.setting c.args.out.now in
     let p = view_expression c.args.e.now in
     let b = bare p in
     let kind : c.kind_at.result ≡ number_kind (type_in G.typing p) = c.kind_at.ensures ∙ ap (λ i. number_kind (G.typing.type_at i)) c.node_of.ensures in
@@ -44,7 +45,7 @@ returns-then-is_comparison-clause-walks g c = λ x.
 pub returns-clause-walks : goal.returns-clause-walks
 returns-clause-walks g c = λ x.
     let V = g.V.Values in
-    let G = g.O.PathSetting.setting c.args.out.now in
+    let G = g.O.RunSetting.setting c.args.out.now in
     let p = view_expression c.args.e.now in
     let b = bare p in
     let kind : c.kind_at.result ≡ number_kind (type_in G.typing p) = c.kind_at.ensures ∙ ap (λ i. number_kind (G.typing.type_at i)) c.node_of.ensures in
@@ -61,7 +62,7 @@ returns-clause-walks g c = λ x.
 
 pub returns-then-is_comparison-clause-cost : goal.returns-then-is_comparison-clause-cost
 returns-then-is_comparison-clause-cost g c =
-    let G = g.O.PathSetting.setting c.args.out.now in
+    let G = g.O.RunSetting.setting c.args.out.now in
     let e = view_expression c.args.e.now in
     let kind : c.kind_at.result ≡ number_kind (type_in G.typing e) = c.kind_at.ensures ∙ ap (λ i. number_kind (G.typing.type_at i)) c.node_of.ensures in
     let test = rw kind at c.in_ok-test.ensures.charge in
@@ -69,7 +70,7 @@ returns-then-is_comparison-clause-cost g c =
 
 pub returns-clause-cost : goal.returns-clause-cost
 returns-clause-cost g c =
-    let G = g.O.PathSetting.setting c.args.out.now in
+    let G = g.O.RunSetting.setting c.args.out.now in
     let e = view_expression c.args.e.now in
     let kind : c.kind_at.result ≡ number_kind (type_in G.typing e) = c.kind_at.ensures ∙ ap (λ i. number_kind (G.typing.type_at i)) c.node_of.ensures in
     let test = rw kind at c.in_ok-test.ensures.charge in

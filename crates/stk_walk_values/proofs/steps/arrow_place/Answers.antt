@@ -14,13 +14,13 @@ use Rattle.stk_walk_values.proofs.steps.arrow_place.Goals as goal
 
 pub behind-requires : goal.behind-requires
 behind-requires g c =
-    let G = g.O.PathSetting.setting c.args.out.now in
+    let G = g.O.RunSetting.setting c.args.out.now in
     let kind = c.kind_at.ensures ∙ ap (λ i. number_kind (G.typing.type_at i)) c.node_of-at.ensures in
     subst (λ (k : IntKind). g.V.Values.made c.args.values.now k c.args.value) (sym kind) c.requires.value
 
 pub check_one-requires-clause-first : goal.check_one-requires-clause-first
 check_one-requires-clause-first g c =
-    let G = g.O.PathSetting.setting c.args.out.now in
+    let G = g.O.RunSetting.setting c.args.out.now in
     let kind = c.kind_at.ensures ∙ ap (λ i. number_kind (G.typing.type_at i)) c.node_of-at.ensures in
     c.in_ok-address.ensures.keeps.made_still _ _ (subst (λ (k : IntKind). g.V.Values.made c.args.values.now k c.args.value) (sym kind) c.requires.value)
 
@@ -28,12 +28,12 @@ pub check_one-requires-clause-asked : goal.check_one-requires-clause-asked
 check_one-requires-clause-asked g c = target_asked c.kind_at.result c.target_tests-tests.result c.args.accessed c.target_tests-tests.ensures.is
 
 pub check_one-requires-clause-made : goal.check_one-requires-clause-made
-check_one-requires-clause-made g c = is_made_still (g.V.Values.made c.args.values.now) (g.V.Values.made c.behind.new.values) c.in_ok-address.ensures.keeps.made_still (g.O.PathSetting.setting c.args.out.now) c.args.state.now c.requires.ready.values_made
+check_one-requires-clause-made g c = is_made_still (g.V.Values.made c.args.values.now) (g.V.Values.made c.behind.new.values) c.in_ok-address.ensures.keeps.made_still (g.O.RunSetting.setting c.args.out.now) c.args.state.now c.requires.ready.values_made
 
 pub returns-clause-walks : goal.returns-clause-walks
 returns-clause-walks g c = λ x.
     let V = g.V.Values in
-    let G = g.O.PathSetting.setting c.args.out.now in
+    let G = g.O.RunSetting.setting c.args.out.now in
     let e = view_expression c.args.e.now in
     let f = s.arrow e c.args.name in
     let kind : c.kind_at.result ≡ number_kind (type_in G.typing e) = c.kind_at.ensures ∙ ap (λ i. number_kind (G.typing.type_at i)) c.node_of-at.ensures in
@@ -49,7 +49,7 @@ returns-clause-walks g c = λ x.
 
 pub returns-clause-cost : goal.returns-clause-cost
 returns-clause-cost g c =
-    let G = g.O.PathSetting.setting c.args.out.now in
+    let G = g.O.RunSetting.setting c.args.out.now in
     let e = view_expression c.args.e.now in
     let kind : c.kind_at.result ≡ number_kind (type_in G.typing e) = c.kind_at.ensures ∙ ap (λ i. number_kind (G.typing.type_at i)) c.node_of-at.ensures in
     let tests = rw kind at (at_most _ c.in_ok-check_one.ensures.charge (c.target_tests-tests.ensures.charge c.kind_at.result c.kind_at.result)) in

@@ -7,13 +7,13 @@ pub violate-requires-clause-operands : goal.violate-requires-clause-operands
 violate-requires-clause-operands g c = let k1 = c.in_ok-value.ensures.keeps in record { first = k1.made_still _ _ c.requires.first; second = c.in_ok-value.ensures.makes; third = c.in_ok-value.ensures.makes }
 
 pub violate-requires-clause-made : goal.violate-requires-clause-made
-violate-requires-clause-made g c = is_made_still (g.V.Values.made c.args.values.now) (g.V.Values.made c.zero.new.values) c.in_ok-value.ensures.keeps.made_still (g.O.PathSetting.setting c.args.out.now) c.args.state.now c.requires.made
+violate-requires-clause-made g c = is_made_still (g.V.Values.made c.args.values.now) (g.V.Values.made c.zero.new.values) c.in_ok-value.ensures.keeps.made_still (g.O.RunSetting.setting c.args.out.now) c.args.state.now c.requires.made
 
 pub returns-clause-stands : goal.returns-clause-stands
 returns-clause-stands g c = λ m s x accessed f served hx same at.
     let shows = g.V.Values.shows in
     let k1 = c.in_ok-value.ensures.keeps in
-    let still = stands_still (shows c.args.values.now m) (shows c.zero.new.values m) (k1.shown m) (g.O.PathSetting.setting c.args.out.now) c.args.state.now s at in
+    let still = stands_still (shows c.args.values.now m) (shows c.zero.new.values m) (k1.shown m) (g.O.RunSetting.setting c.args.out.now) c.args.state.now s at in
     c.in_ok-violate.ensures.stands m s x (pos 0) (pos 0) accessed f (k1.served m served) (record { first = k1.shown m _ _ _ hx; second = c.in_ok-value.ensures.value m served; third = c.in_ok-value.ensures.value m served }) same still
 
 pub returns-clause-charge : goal.returns-clause-charge

@@ -15,17 +15,17 @@ use Rattle.stk_walk_values.proofs.steps.indexed_place.Goals as goal
 
 pub check_two-requires-clause-asked : goal.check_two-requires-clause-asked
 check_two-requires-clause-asked g c =
-    let ty = (g.O.PathSetting.setting c.args.out.now).typing in
+    let ty = (g.O.RunSetting.setting c.args.out.now).typing in
     let t = ty.type_at c.node_of-at.result in
     index_asked c.args.pair.0.kind c.index_tests-tests.result c.args.accessed t (stride_in ty t) c.index_tests-tests.ensures.is
 
 pub check_two-requires-clause-made : goal.check_two-requires-clause-made
-check_two-requires-clause-made g c = is_made_still (g.V.Values.made c.args.values.now) (g.V.Values.made c.moved_address.new.values) c.in_ok-address.ensures.keeps.made_still (g.O.PathSetting.setting c.args.out.now) c.args.state.now c.requires.ready.values_made
+check_two-requires-clause-made g c = is_made_still (g.V.Values.made c.args.values.now) (g.V.Values.made c.moved_address.new.values) c.in_ok-address.ensures.keeps.made_still (g.O.RunSetting.setting c.args.out.now) c.args.state.now c.requires.ready.values_made
 
 pub returns-clause-walks : goal.returns-clause-walks
 returns-clause-walks g c = λ right x y.
     let V = g.V.Values in
-    let G = g.O.PathSetting.setting c.args.out.now in
+    let G = g.O.RunSetting.setting c.args.out.now in
     let a = view_expression c.args.left.now in
     let f = s.index a right in
     let n = c.args.node in
@@ -41,7 +41,7 @@ returns-clause-walks g c = λ right x y.
 
 pub returns-clause-cost : goal.returns-clause-cost
 returns-clause-cost g c =
-    let G = g.O.PathSetting.setting c.args.out.now in
+    let G = g.O.RunSetting.setting c.args.out.now in
     let a = view_expression c.args.left.now in
     let stride : c.stride_at.result ≡ stride_in G.typing (type_in G.typing a) = c.stride_at.ensures ∙ ap (λ i. stride_in G.typing (G.typing.type_at i)) c.node_of-at.ensures in
     let address = rw stride at c.in_ok-address.ensures.charge in

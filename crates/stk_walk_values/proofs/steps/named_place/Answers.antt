@@ -11,13 +11,13 @@ use Rattle.stk_walk_values.proofs.steps.named_place.Goals as goal
 
 pub returns-in_ok-none-in-Some-clause-walks : goal.returns-in_ok-none-in-Some-clause-walks
 returns-in_ok-none-in-Some-clause-walks g c = λ accessed.
-    let G = g.O.PathSetting.setting c.args.out.now in
+    let G = g.O.RunSetting.setting c.args.out.now in
     walks_as (λ m. (name_meaning G (path_world (g.O.WalkSetting.under c.args.out.now m)) c.args.node (s.name c.args.name) (object_named G c.args.node c.args.name) (G.typing.number_at c.args.node)).place accessed) c.in_ok-none-in-Some.ensures.walks
     (λ m r k. name_cut G (path_world (g.O.WalkSetting.under c.args.out.now m)) c.args.node (s.name c.args.name) (object_named G c.args.node c.args.name) (G.typing.number_at c.args.node) _ _ (sym c.in-Some.is ∙ c.own_number.ensures) accessed r k)
 
 pub returns-in_ok-found-in-None-clause-walks : goal.returns-in_ok-found-in-None-clause-walks
 returns-in_ok-found-in-None-clause-walks g c = λ accessed.
-    let G = g.O.PathSetting.setting c.args.out.now in
+    let G = g.O.RunSetting.setting c.args.out.now in
     let W = λ (m : List ℤ). path_world (g.O.WalkSetting.under c.args.out.now m) in
     let object = c.object_named.result in
     walks_as (λ m. (name_meaning G (W m) c.args.node (s.name c.args.name) (object_named G c.args.node c.args.name) (G.typing.number_at c.args.node)).place accessed)

@@ -12,7 +12,7 @@ use Rattle.stk_walk_values.proofs.steps.own_number.Goals as goal
 
 pub constant-requires : goal.constant-requires
 constant-requires g c =
-    let G = g.O.PathSetting.setting c.args.out.now in
+    let G = g.O.RunSetting.setting c.args.out.now in
     let t = G.typing.type_at c.args.node in
     let own = G.typing.number_at c.args.node in
     let is = c.number.ensures.is ∙ c.own_word-own.ensures ∙ ap (λ o. unwrap_or o (pos 0)) c.own_number.ensures ∙ own_converted t own in
@@ -22,7 +22,7 @@ constant-requires g c =
 pub returns-clause-walks : goal.returns-clause-walks
 returns-clause-walks g c =
     let V = g.V.Values in
-    let G = g.O.PathSetting.setting c.args.out.now in
+    let G = g.O.RunSetting.setting c.args.out.now in
     let t = G.typing.type_at c.args.node in
     let own = G.typing.number_at c.args.node in
     let is = c.number.ensures.is ∙ c.own_word-own.ensures ∙ ap (λ o. unwrap_or o (pos 0)) c.own_number.ensures ∙ own_converted t own in

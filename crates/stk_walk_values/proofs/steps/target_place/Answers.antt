@@ -13,11 +13,11 @@ pub check_one-requires-clause-asked : goal.check_one-requires-clause-asked
 check_one-requires-clause-asked g c = target_asked c.args.pointer.kind c.target_tests-tests.result c.args.accessed c.target_tests-tests.ensures.is
 
 pub check_one-requires-clause-made : goal.check_one-requires-clause-made
-check_one-requires-clause-made g c = is_made_still (g.V.Values.made c.args.values.now) (g.V.Values.made c.to_address.new.values) c.in_ok-address.ensures.keeps.made_still (g.O.PathSetting.setting c.args.out.now) c.args.state.now c.requires.ready.values_made
+check_one-requires-clause-made g c = is_made_still (g.V.Values.made c.args.values.now) (g.V.Values.made c.to_address.new.values) c.in_ok-address.ensures.keeps.made_still (g.O.RunSetting.setting c.args.out.now) c.args.state.now c.requires.ready.values_made
 
 pub returns-clause-walks : goal.returns-clause-walks
 returns-clause-walks g c = λ e x.
-    let G = g.O.PathSetting.setting c.args.out.now in
+    let G = g.O.RunSetting.setting c.args.out.now in
     let f = s.unary unary.Deref e in
     let k1 = c.in_ok-address.ensures.keeps in
     let e2 = c.in_ok-check_one.ensures in

@@ -25,7 +25,7 @@ returns-clause-makes g c =
 pub returns-clause-follows : goal.returns-clause-follows
 returns-clause-follows g c = λ x place m s served at.
     let shows = g.V.Values.shows in
-    let G = g.O.PathSetting.setting c.args.out.now in
+    let G = g.O.RunSetting.setting c.args.out.now in
     let inputs = g.O.WalkSetting.under c.args.out.now m in
     let e = view_expression c.args.left.now in
     let t = type_in G.typing e in

@@ -33,7 +33,7 @@ pub returns-clause-value : goal.returns-clause-value
 returns-clause-value g c = λ m x y served hx hy.
     let shows = g.V.Values.shows in
     let z = operated (operation_shown c.args.operation) x y in
-    let t = type_in (g.O.PathSetting.setting c.args.out.now).typing (view_expression c.args.left.now) in
+    let t = type_in (g.O.RunSetting.setting c.args.out.now).typing (view_expression c.args.left.now) in
     let a = c.in_ok-number.ensures.value m x y served hx hy in
     let a0 = subst (λ (k : IntKind). shows c.operated_in.new.values m k c.in_ok-number.number (wrap k z)) c.kind_in-kind.ensures a in
     c.in_ok-store_number.ensures.keeps.shown m _ _ _ (c.in_ok-check_operation.ensures.keeps.shown m _ _ _ a0)
@@ -41,7 +41,7 @@ returns-clause-value g c = λ m x y served hx hy.
 pub returns-clause-stored : goal.returns-clause-stored
 returns-clause-stored g c = λ m s inputs f a x y z served hx hy same at.
     let shows = g.V.Values.shows in
-    let G = g.O.PathSetting.setting c.args.out.now in
+    let G = g.O.RunSetting.setting c.args.out.now in
     let e = view_expression c.args.left.now in
     let t = type_in G.typing e in
     let w = path_world inputs in

@@ -25,12 +25,12 @@ pub returns-clause-makes : goal.returns-clause-makes
 returns-clause-makes g c = subst (λ (k : IntKind). g.V.Values.made c.checked_store.new.values k c.in_ok-new.new) (sym c.requires.kinded) c.in_ok-new.ensures.makes
 
 pub returns-clause-events : goal.returns-clause-events
-returns-clause-events g c = λ f same. c.in_ok-new.ensures.events f same ∙ ap (λ es. es ++ condition_events (g.O.PathSetting.setting c.args.out.now) c.args.node true f) c.in_ok-old.ensures.events
+returns-clause-events g c = λ f same. c.in_ok-new.ensures.events f same ∙ ap (λ es. es ++ condition_events (g.O.RunSetting.setting c.args.out.now) c.args.node true f) c.in_ok-old.ensures.events
 
 pub returns-clause-follows : goal.returns-clause-follows
 returns-clause-follows g c = λ f y place same m s served at.
     let shows = g.V.Values.shows in
-    let G = g.O.PathSetting.setting c.args.out.now in
+    let G = g.O.RunSetting.setting c.args.out.now in
     let inputs = g.O.WalkSetting.under c.args.out.now m in
     let e = view_expression c.args.left.now in
     let t = type_in G.typing e in

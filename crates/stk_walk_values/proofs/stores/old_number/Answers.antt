@@ -1,7 +1,8 @@
 use Rattle.std.proofs.Common.{◌≡◌, ap, ◌∙◌, subst, length}
 use Rattle.stk_ctype.specs.declared.kind.IntKind.{IntKind}
 use Rattle.stk_tree.specs.View.{view_expression}
-use Rattle.stk_meaning.specs.Typings.{type_in, number_kind, node_of, bare}
+use Rattle.stk_tree.specs.Parts.{bare}
+use Rattle.stk_meaning.specs.Typings.{type_in, number_kind, node_of}
 use Rattle.stk_meaning.specs.Places.{target_of}
 use Rattle.stk_operators.specs.Targets.{target_shown}
 use Rattle.stk_walk_values.proofs.Storing.{suits_as, read_as}
@@ -11,7 +12,7 @@ use Rattle.stk_walk_values.proofs.stores.old_number.Goals as goal
 
 pub read_place-requires-clause-suits : goal.read_place-requires-clause-suits
 read_place-requires-clause-suits g c =
-    let G = g.O.PathSetting.setting c.args.out.now in
+    let G = g.O.RunSetting.setting c.args.out.now in
     let e = view_expression c.args.left.now in
     let n = c.node_of-node.result in
     let is : n ≡ node_of (bare e) = c.node_of-node.ensures ∙ ap node_of c.bare.ensures in
@@ -20,7 +21,7 @@ read_place-requires-clause-suits g c =
 
 pub returns-clause-makes : goal.returns-clause-makes
 returns-clause-makes g c =
-    let G = g.O.PathSetting.setting c.args.out.now in
+    let G = g.O.RunSetting.setting c.args.out.now in
     let e = view_expression c.args.left.now in
     let n = c.node_of-node.result in
     let is : n ≡ node_of (bare e) = c.node_of-node.ensures ∙ ap node_of c.bare.ensures in
@@ -29,7 +30,7 @@ returns-clause-makes g c =
 pub returns-clause-follows : goal.returns-clause-follows
 returns-clause-follows g c =
     let V = g.V.Values in
-    let G = g.O.PathSetting.setting c.args.out.now in
+    let G = g.O.RunSetting.setting c.args.out.now in
     let e = view_expression c.args.left.now in
     let n = c.node_of-node.result in
     let is : n ≡ node_of (bare e) = c.node_of-node.ensures ∙ ap node_of c.bare.ensures in
@@ -40,7 +41,7 @@ returns-clause-follows g c =
 
 pub returns-clause-cost : goal.returns-clause-cost
 returns-clause-cost g c =
-    let G = g.O.PathSetting.setting c.args.out.now in
+    let G = g.O.RunSetting.setting c.args.out.now in
     let e = view_expression c.args.left.now in
     let n = c.node_of-node.result in
     let is : n ≡ node_of (bare e) = c.node_of-node.ensures ∙ ap node_of c.bare.ensures in

@@ -20,7 +20,7 @@ checked_store-requires-clause-left g c =
 
 pub checked_store-requires-clause-shifts : goal.checked_store-requires-clause-shifts
 checked_store-requires-clause-shifts g c =
-    let G = g.O.PathSetting.setting c.args.out.now in
+    let G = g.O.RunSetting.setting c.args.out.now in
     let t = type_in G.typing (view_expression c.args.e.now) in
     let o = operation_shown c.step_operation-operation.result in
     subst (λ (k : IntKind). IsShiftOf k o) (sym c.kind_in-kind.ensures) (subst (IsShiftOf (number_kind t)) (sym c.step_operation-operation.ensures) (step_shifts G.typing c.args.op t))
@@ -31,21 +31,21 @@ checked_store-requires-clause-made g c = still_made c.in_ok-one.ensures.keeps c.
 pub returns-clause-makes : goal.returns-clause-makes
 returns-clause-makes g c =
     let made = g.V.Values.made c.checked_store.new.values in
-    let G = g.O.PathSetting.setting c.args.out.now in
+    let G = g.O.RunSetting.setting c.args.out.now in
     let K = number_kind (type_in G.typing (view_expression c.args.e.now)) in
     let old = c.in_ok-new.ensures.keeps.made_still _ _ (c.in_ok-one.ensures.keeps.made_still _ _ c.in_ok-old.ensures.makes) in
     rw c.given.ensures (subst (λ (k : IntKind). made k (if gives_old c.args.op then c.in_ok-old.old else c.in_ok-new.new)) (sym c.requires.kinded) (given_made (made K) (gives_old c.args.op) c.in_ok-old.old c.in_ok-new.new old c.in_ok-new.ensures.makes))
 
 pub returns-clause-events : goal.returns-clause-events
 returns-clause-events g c =
-    let G = g.O.PathSetting.setting c.args.out.now in
+    let G = g.O.RunSetting.setting c.args.out.now in
     let e = view_expression c.args.e.now in
     c.in_ok-new.ensures.events (s.step c.args.op e) (ap operation_tests (sym c.step_operation-operation.ensures)) ∙ ap (λ es. es ++ condition_events G c.args.node true (s.step c.args.op e)) c.in_ok-old.ensures.events
 
 pub returns-clause-follows : goal.returns-clause-follows
 returns-clause-follows g c = λ place m s0 served at.
     let shows = g.V.Values.shows in
-    let G = g.O.PathSetting.setting c.args.out.now in
+    let G = g.O.RunSetting.setting c.args.out.now in
     let inputs = g.O.WalkSetting.under c.args.out.now m in
     let e = view_expression c.args.e.now in
     let t = type_in G.typing e in

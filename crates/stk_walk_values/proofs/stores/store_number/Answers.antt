@@ -11,7 +11,7 @@ use Rattle.stk_walk_values.proofs.stores.store_number.Goals as goal
 
 pub store_place-requires-clause-suits : goal.store_place-requires-clause-suits
 store_place-requires-clause-suits g c =
-    let G = g.O.PathSetting.setting c.args.out.now in
+    let G = g.O.RunSetting.setting c.args.out.now in
     let e = view_expression c.args.left.now in
     let n = c.node_of-node.result in
     suits_as G (target_shown c.target_of-target.result) (target_of G e) (number_kind (G.typing.type_at n)) (number_kind (type_in G.typing e)) c.target_of-target.ensures
@@ -19,13 +19,13 @@ store_place-requires-clause-suits g c =
 
 pub store_place-requires-clause-value : goal.store_place-requires-clause-value
 store_place-requires-clause-value g c =
-    let G = g.O.PathSetting.setting c.args.out.now in
+    let G = g.O.RunSetting.setting c.args.out.now in
     subst (λ (k : IntKind). g.V.Values.made c.args.values.now k c.args.number) (sym (ap (λ i. number_kind (G.typing.type_at i)) c.node_of-node.ensures)) c.requires.number
 
 pub returns-clause-stored : goal.returns-clause-stored
 returns-clause-stored g c =
     let V = g.V.Values in
-    let G = g.O.PathSetting.setting c.args.out.now in
+    let G = g.O.RunSetting.setting c.args.out.now in
     let e = view_expression c.args.left.now in
     let n = c.node_of-node.result in
     let before = c.args.values.now in
@@ -34,7 +34,7 @@ returns-clause-stored g c =
 
 pub returns-clause-cost : goal.returns-clause-cost
 returns-clause-cost g c =
-    let G = g.O.PathSetting.setting c.args.out.now in
+    let G = g.O.RunSetting.setting c.args.out.now in
     let e = view_expression c.args.left.now in
     let n = c.node_of-node.result in
     costs_within _ (store_within (length G.kept) (target_shown c.target_of-target.result) (target_of G e) (number_kind (G.typing.type_at n)) (number_kind (type_in G.typing e)) c.target_of-target.ensures (ap (λ i. number_kind (G.typing.type_at i)) c.node_of-node.ensures)) (c.in_ok-store_place.ensures.cost (length G.kept))

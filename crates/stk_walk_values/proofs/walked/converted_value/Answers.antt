@@ -12,7 +12,7 @@ value-requires-clause-ready g c = record { keys = c.requires.keys; values_made =
 
 pub converted-requires : goal.converted-requires
 converted-requires g c =
-    let G = g.O.PathSetting.setting c.args.out.now in
+    let G = g.O.RunSetting.setting c.args.out.now in
     let from = c.kind_at-from.ensures ∙ ap (λ i. number_kind (G.typing.type_at i)) c.node_of.ensures in
     subst (λ (k : IntKind). g.V.Values.made c.value.new.values k c.in_ok-number.number) (sym from) c.in_ok-number.ensures.walks.answered
 
@@ -20,12 +20,12 @@ pub returns-clause-makes : goal.returns-clause-makes
 returns-clause-makes g c = subst (λ (k : IntKind). g.V.Values.made c.converted.new.values k c.in_ok-found.found) c.kind_at.ensures c.in_ok-found.ensures.makes
 
 pub returns-clause-made : goal.returns-clause-made
-returns-clause-made g c = is_made_still (g.V.Values.made c.value.new.values) (g.V.Values.made c.converted.new.values) c.in_ok-found.ensures.keeps.made_still (g.O.PathSetting.setting c.args.out.now) c.value.new.state c.in_ok-number.ensures.walks.values_made
+returns-clause-made g c = is_made_still (g.V.Values.made c.value.new.values) (g.V.Values.made c.converted.new.values) c.in_ok-found.ensures.keeps.made_still (g.O.RunSetting.setting c.args.out.now) c.value.new.state c.in_ok-number.ensures.walks.values_made
 
 pub returns-clause-follows : goal.returns-clause-follows
 returns-clause-follows g c = λ m s served at.
     let V = g.V.Values in
-    let G = g.O.PathSetting.setting c.args.out.now in
+    let G = g.O.RunSetting.setting c.args.out.now in
     let e = view_expression c.args.e.now in
     let from : c.kind_at-from.result ≡ number_kind (type_in G.typing e) = c.kind_at-from.ensures ∙ ap (λ i. number_kind (G.typing.type_at i)) c.node_of.ensures in
     let k1 = c.in_ok-number.ensures.walks.keeps in
@@ -47,7 +47,7 @@ returns-clause-keeps g c =
 
 pub returns-clause-cost : goal.returns-clause-cost
 returns-clause-cost g c =
-    let G = g.O.PathSetting.setting c.args.out.now in
+    let G = g.O.RunSetting.setting c.args.out.now in
     let e = view_expression c.args.e.now in
     let from : c.kind_at-from.result ≡ number_kind (type_in G.typing e) = c.kind_at-from.ensures ∙ ap (λ i. number_kind (G.typing.type_at i)) c.node_of.ensures in
     costs_more _ c.in_ok-number.ensures.cost (rw (from, c.kind_at.ensures) at c.in_ok-found.ensures.charge)

@@ -6,7 +6,7 @@ use Rattle.stk_walking.proofs.inputs.input_value.Goals as goal
 
 pub keyed-requires : goal.keyed-requires
 keyed-requires g c =
-    place_there (g.V.Values.has_key c.args.values.now) (g.O.WalkSetting.kinds c.args.out.now) c.place_of-place.result (key_kind (g.O.PathSetting.setting c.args.out.now) (key_shown c.args.key)) c.args.kind c.requires.keys c.requires.kind c.place_of-place.ensures.kind
+    place_there (g.V.Values.has_key c.args.values.now) (g.O.WalkSetting.kinds c.args.out.now) c.place_of-place.result (key_kind (g.O.RunSetting.setting c.args.out.now) (key_shown c.args.key)) c.args.kind c.requires.keys c.requires.kind c.place_of-place.ensures.kind
 
 pub returns-clause-value : goal.returns-clause-value
 returns-clause-value g c = λ m served.

@@ -11,19 +11,19 @@ use Rattle.stk_walking.proofs.loop_registers.begin_register.Goals as goal
 pub set_register-requires-clause-row : goal.set_register-requires-clause-row
 set_register-requires-clause-row g c =
     let made = g.V.Values.made in
-    let row = register_kind (g.O.PathSetting.setting c.args.out.now) in
+    let row = register_kind (g.O.RunSetting.setting c.args.out.now) in
     (row, sym c.kind_at-kind.ensures, row_made (made c.args.values.now) (made c.input_value.new.values) c.input_value.ensures.keeps.made_still row 0 c.args.registers.now.items c.requires.row)
 
 pub returns-clause-made : goal.returns-clause-made
 returns-clause-made g c =
     let made = g.V.Values.made in
-    let row = register_kind (g.O.PathSetting.setting c.args.out.now) in
+    let row = register_kind (g.O.RunSetting.setting c.args.out.now) in
     c.in_ok-set_register.ensures.makes row (sym c.kind_at-kind.ensures) (row_made (made c.args.values.now) (made c.input_value.new.values) c.input_value.ensures.keeps.made_still row 0 c.args.registers.now.items c.requires.row)
 
 pub returns-clause-shown : goal.returns-clause-shown
 returns-clause-shown g c = λ m j b xs is served hg h.
     let shows = g.V.Values.shows in
-    let row = register_kind (g.O.PathSetting.setting c.args.out.now) in
+    let row = register_kind (g.O.RunSetting.setting c.args.out.now) in
     let I = g.O.WalkSetting.under c.args.out.now m in
     let k1 = c.input_value.ensures.keeps in
     let before = row_shown (shows c.args.values.now m) (shows c.input_value.new.values m) (k1.shown m) row 0 c.args.registers.now.items xs h in

@@ -12,7 +12,7 @@ use Rattle.stk_walking.proofs.loop_registers.begin_registers.Goals as goal
 pub loop-at-init : goal.loop-at-init
 loop-at-init g c =
     let V = g.V.Values in
-    let G = g.O.PathSetting.setting c.args.out.now in (
+    let G = g.O.RunSetting.setting c.args.out.now in (
       keeps_none V.serves V.has_key V.made V.shows c.args.values.now,
       c.requires.row,
       (λ m b xs served hg h.
@@ -23,7 +23,7 @@ loop-at-init g c =
 pub loop-at-preserved : goal.loop-at-preserved
 loop-at-preserved g c =
     let V = g.V.Values in
-    let G = g.O.PathSetting.setting c.args.out.now in
+    let G = g.O.RunSetting.setting c.args.out.now in
     let js = assigned_in G (view_statement_form c.args.form.now) in
     let so_far = c.loop-at.invariant in
     let within : c.loop-at.at < length js = omega (arith, c.count_slots-at-end.ensures) in
@@ -40,7 +40,7 @@ loop-at-preserved g c =
 pub returns-clause-shown : goal.returns-clause-shown
 returns-clause-shown g c = λ m b xs served hg h.
     let V = g.V.Values in
-    let G = g.O.PathSetting.setting c.args.out.now in
+    let G = g.O.RunSetting.setting c.args.out.now in
     let I = g.O.WalkSetting.under c.args.out.now m in
     let js = assigned_in G (view_statement_form c.args.form.now) in
     let n : c.loop-at.at ≡ length js = omega (arith, c.count_slots-at-end.ensures) in
@@ -49,7 +49,7 @@ returns-clause-shown g c = λ m b xs served hg h.
 
 pub returns-clause-charge : goal.returns-clause-charge
 returns-clause-charge g c =
-    let G = g.O.PathSetting.setting c.args.out.now in
+    let G = g.O.RunSetting.setting c.args.out.now in
     let js = assigned_in G (view_statement_form c.args.form.now) in
     let n : c.loop-at.at ≡ length js = omega (arith, c.count_slots-at-end.ensures) in
     omega (arith, n, c.loop-at.invariant.3)

@@ -35,8 +35,8 @@ loop-place-preserved g c =
       (λ m b served hg. k2.shown m _ _ _ (so_far.3 m b served hg)),
       (λ row h. c.in_ok-begin_cell.ensures.made row (so_far.4 row h)),
       (λ m row b kept served hg h.
-          subst (λ (z : KeptNumbers). CellsShow (shows c.begin_cell.new.values m) row 0 c.begin_cell.new.cells.items z) (next_removed c.loop-place.place b (forgotten_in (g.O.PathSetting.setting c.args.out.now) (view_statement_form c.args.form.now)) kept)
-          (c.in_ok-begin_cell.ensures.shown m row b (first_removed c.loop-place.place 0 b (forgotten_in (g.O.PathSetting.setting c.args.out.now) (view_statement_form c.args.form.now)) kept) (so_far.1.served m served) (so_far.3 m b served hg) (so_far.5 m row b kept served hg h))),
+          subst (λ (z : KeptNumbers). CellsShow (shows c.begin_cell.new.values m) row 0 c.begin_cell.new.cells.items z) (next_removed c.loop-place.place b (forgotten_in (g.O.RunSetting.setting c.args.out.now) (view_statement_form c.args.form.now)) kept)
+          (c.in_ok-begin_cell.ensures.shown m row b (first_removed c.loop-place.place 0 b (forgotten_in (g.O.RunSetting.setting c.args.out.now) (view_statement_form c.args.form.now)) kept) (so_far.1.served m served) (so_far.3 m b served hg) (so_far.5 m row b kept served hg h))),
       omega (arith, so_far.6, c.in_ok-begin_cell.ensures.charge),
     )
 
@@ -45,7 +45,7 @@ returns-clause-shown g c = λ m row b kept served hg h.
     let shows = g.V.Values.shows in
     let size = cells_length (shows c.args.values.now m) row 0 c.args.cells.now.items kept h in
     let n : c.loop-place.place ≡ length kept = omega (arith, c.loop-place.auto.place-end, size, c.args.cells.now.ok.0) in
-    subst (λ (z : KeptNumbers). CellsShow (shows c.loop-place.values m) row 0 c.loop-place.cells.items z) (ap (λ k. first_removed k 0 b (forgotten_in (g.O.PathSetting.setting c.args.out.now) (view_statement_form c.args.form.now)) kept) n ∙ each_removed b (forgotten_in (g.O.PathSetting.setting c.args.out.now) (view_statement_form c.args.form.now)) kept)
+    subst (λ (z : KeptNumbers). CellsShow (shows c.loop-place.values m) row 0 c.loop-place.cells.items z) (ap (λ k. first_removed k 0 b (forgotten_in (g.O.RunSetting.setting c.args.out.now) (view_statement_form c.args.form.now)) kept) n ∙ each_removed b (forgotten_in (g.O.RunSetting.setting c.args.out.now) (view_statement_form c.args.form.now)) kept)
     (c.loop-place.invariant.5 m row b kept served hg h)
 
 pub returns-clause-cost : goal.returns-clause-cost

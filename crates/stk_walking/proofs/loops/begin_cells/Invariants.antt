@@ -17,5 +17,5 @@ invariant-loop-place g l =
     × g.V.Values.made l.values Int l.stays
     × ((m : List ℤ) (b : Bool) → g.V.Values.serves l.fn.values m → g.V.Values.shows l.fn.values m Int l.fn.guard (bit b) → g.V.Values.shows l.values m Int l.stays (bit (not b)))
     × ((row : ℕ → IntKind) → CellsMade (g.V.Values.made l.fn.values) row 0 l.fn.cells.items → CellsMade (g.V.Values.made l.values) row 0 l.cells.items)
-    × ((m : List ℤ) (row : ℕ → IntKind) (b : Bool) (kept : KeptNumbers) → g.V.Values.serves l.fn.values m → g.V.Values.shows l.fn.values m Int l.fn.guard (bit b) → CellsShow (g.V.Values.shows l.fn.values m) row 0 l.fn.cells.items kept → CellsShow (g.V.Values.shows l.values m) row 0 l.cells.items (first_removed l.place 0 b (forgotten_in (g.O.PathSetting.setting l.fn.out) (view_statement_form l.fn.form)) kept))
+    × ((m : List ℤ) (row : ℕ → IntKind) (b : Bool) (kept : KeptNumbers) → g.V.Values.serves l.fn.values m → g.V.Values.shows l.fn.values m Int l.fn.guard (bit b) → CellsShow (g.V.Values.shows l.fn.values m) row 0 l.fn.cells.items kept → CellsShow (g.V.Values.shows l.values m) row 0 l.cells.items (first_removed l.place 0 b (forgotten_in (g.O.RunSetting.setting l.fn.out) (view_statement_form l.fn.form)) kept))
     × (g.V.Values.cost l.values ≤ g.V.Values.cost l.fn.values + 3 * l.place)

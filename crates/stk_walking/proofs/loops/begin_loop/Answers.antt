@@ -11,13 +11,13 @@ use Rattle.stk_walking.proofs.loops.begin_loop.Goals as goal
 pub begin_cells-requires-clause-row : goal.begin_cells-requires-clause-row
 begin_cells-requires-clause-row g c =
     let made = g.V.Values.made in
-    let G = g.O.PathSetting.setting c.args.out.now in
+    let G = g.O.RunSetting.setting c.args.out.now in
     (cell_kind G, (is_made_still (made c.args.values.now) (made c.begin_registers.new.values) c.in_ok-begin_registers.ensures.keeps.made_still G c.args.state.now c.requires.made).cells)
 
 pub returns-clause-made : goal.returns-clause-made
 returns-clause-made g c =
     let made = g.V.Values.made in
-    let G = g.O.PathSetting.setting c.args.out.now in
+    let G = g.O.RunSetting.setting c.args.out.now in
     let k1 = c.in_ok-begin_registers.ensures.keeps in
     let k2 = c.in_ok-begin_cells.ensures.keeps in
     let first = is_made_still (made c.args.values.now) (made c.begin_registers.new.values) k1.made_still G c.args.state.now c.requires.made in
@@ -34,7 +34,7 @@ returns-clause-made g c =
 pub returns-clause-stands : goal.returns-clause-stands
 returns-clause-stands g c = λ m s served at.
     let shows = g.V.Values.shows in
-    let G = g.O.PathSetting.setting c.args.out.now in
+    let G = g.O.RunSetting.setting c.args.out.now in
     let I = g.O.WalkSetting.under c.args.out.now m in
     let k1 = c.in_ok-begin_registers.ensures.keeps in
     let k2 = c.in_ok-begin_cells.ensures.keeps in
@@ -52,4 +52,4 @@ returns-clause-stands g c = λ m s served at.
     }
 
 pub returns-clause-cost : goal.returns-clause-cost
-returns-clause-cost g c = costs_then (costs_store c.in_ok-begin_registers.ensures.charge) (c.in_ok-begin_cells.ensures.cost (length (g.O.PathSetting.setting c.args.out.now).kept))
+returns-clause-cost g c = costs_then (costs_store c.in_ok-begin_registers.ensures.charge) (c.in_ok-begin_cells.ensures.cost (length (g.O.RunSetting.setting c.args.out.now).kept))

@@ -6,11 +6,11 @@ use Rattle.stk_walking.proofs.Costing.{costs_free}
 use Rattle.stk_walking.proofs.places.read_loaded.Goals as goal
 
 pub returns-clause-made : goal.returns-clause-made
-returns-clause-made g c = is_made_still (g.V.Values.made c.args.values.now) (g.V.Values.made c.input_value.new.values) c.in_ok-found.ensures.keeps.made_still (g.O.PathSetting.setting c.args.out.now) c.args.state.now c.requires.made
+returns-clause-made g c = is_made_still (g.V.Values.made c.args.values.now) (g.V.Values.made c.input_value.new.values) c.in_ok-found.ensures.keeps.made_still (g.O.RunSetting.setting c.args.out.now) c.args.state.now c.requires.made
 
 pub returns-clause-follows : goal.returns-clause-follows
 returns-clause-follows g c = λ m s served at.
-    let G = g.O.PathSetting.setting c.args.out.now in
+    let G = g.O.RunSetting.setting c.args.out.now in
     let shows = g.V.Values.shows in
     let x = g.O.WalkSetting.under c.args.out.now m (load_key c.args.node) in
     record {

@@ -14,13 +14,13 @@ read_cell-requires-clause-guard g c = c.in_ok-loaded.ensures.keeps.made_still _ 
 
 pub read_cell-requires-clause-row : goal.read_cell-requires-clause-row
 read_cell-requires-clause-row g c =
-    let G = g.O.PathSetting.setting c.args.out.now in
+    let G = g.O.RunSetting.setting c.args.out.now in
     let made = g.V.Values.made in
     (cell_kind G, c.requires.suits, cells_made (made c.args.values.now) (made c.input_value.new.values) c.in_ok-loaded.ensures.keeps.made_still (cell_kind G) 0 c.args.state.now.cells.items c.requires.made.cells)
 
 pub returns-clause-made : goal.returns-clause-made
 returns-clause-made g c =
-    let G = g.O.PathSetting.setting c.args.out.now in
+    let G = g.O.RunSetting.setting c.args.out.now in
     let made = g.V.Values.made in
     let k1 = c.in_ok-loaded.ensures.keeps in
     let k2 = c.in_ok-found.ensures.keeps in
@@ -30,7 +30,7 @@ returns-clause-made g c =
 
 pub returns-clause-follows : goal.returns-clause-follows
 returns-clause-follows g c = λ a m s served at.
-    let G = g.O.PathSetting.setting c.args.out.now in
+    let G = g.O.RunSetting.setting c.args.out.now in
     let shows = g.V.Values.shows in
     let k1 = c.in_ok-loaded.ensures.keeps in
     let k2 = c.in_ok-found.ensures.keeps in

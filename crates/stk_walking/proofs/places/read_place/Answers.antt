@@ -8,14 +8,14 @@ use Rattle.stk_walking.specs.Leads.{Evaluates}
 use Rattle.stk_walking.proofs.places.read_place.Goals as goal
 
 pub read_in_kind-requires-clause-suits : goal.read_in_kind-requires-clause-suits
-read_in_kind-requires-clause-suits g c = subst (Suits (g.O.PathSetting.setting c.args.out.now) (target_shown c.args.target)) (sym c.kind_at-kind.ensures) c.requires.suits
+read_in_kind-requires-clause-suits g c = subst (Suits (g.O.RunSetting.setting c.args.out.now) (target_shown c.args.target)) (sym c.kind_at-kind.ensures) c.requires.suits
 
 pub returns-clause-makes : goal.returns-clause-makes
 returns-clause-makes g c = subst (λ (k : IntKind). g.V.Values.made c.read_in_kind.new.values k c.in_ok-found.found) c.kind_at-kind.ensures c.in_ok-found.ensures.makes
 
 pub returns-clause-follows : goal.returns-clause-follows
 returns-clause-follows g c =
-    let G = g.O.PathSetting.setting c.args.out.now in
+    let G = g.O.RunSetting.setting c.args.out.now in
     let V = g.V.Values.serves in
     let shows = g.V.Values.shows in
     let before = c.args.values.now in

@@ -10,14 +10,14 @@ use Rattle.stk_walking.specs.Leads.{Leads}
 use Rattle.stk_walking.proofs.places.store_place.Goals as goal
 
 pub store_in_kind-requires-clause-suits : goal.store_in_kind-requires-clause-suits
-store_in_kind-requires-clause-suits g c = subst (Suits (g.O.PathSetting.setting c.args.out.now) (target_shown c.args.target)) (sym c.kind_at-kind.ensures) c.requires.suits
+store_in_kind-requires-clause-suits g c = subst (Suits (g.O.RunSetting.setting c.args.out.now) (target_shown c.args.target)) (sym c.kind_at-kind.ensures) c.requires.suits
 
 pub store_in_kind-requires-clause-value : goal.store_in_kind-requires-clause-value
 store_in_kind-requires-clause-value g c = subst (λ (k : IntKind). g.V.Values.made c.args.values.now k c.args.value) (sym c.kind_at-kind.ensures) c.requires.value
 
 pub returns-clause-stored : goal.returns-clause-stored
 returns-clause-stored g c =
-    let G = g.O.PathSetting.setting c.args.out.now in
+    let G = g.O.RunSetting.setting c.args.out.now in
     let shows = g.V.Values.shows in
     let before = c.args.values.now in
     let now = c.store_in_kind.new.values in

@@ -11,7 +11,7 @@ use Rattle.stk_walking.proofs.violations.violate.Goals as goal
 
 pub returns-clause-made : goal.returns-clause-made
 returns-clause-made g c =
-    let G = g.O.PathSetting.setting c.args.out.now in
+    let G = g.O.RunSetting.setting c.args.out.now in
     let old = g.V.Values.made c.args.values.now in
     let now = g.V.Values.made c.push_tests.new.values in
     let keep = c.push_tests.ensures.keeps.made_still in
@@ -27,7 +27,7 @@ returns-clause-made g c =
 
 pub returns-clause-events : goal.returns-clause-events
 returns-clause-events g c = λ accessed f same.
-    let G = g.O.PathSetting.setting c.args.out.now in
+    let G = g.O.RunSetting.setting c.args.out.now in
     let n = c.args.node in
     let before = events_in c.args.state.now.steps.items in
     c.in_ok-push_tests.ensures.events
@@ -36,7 +36,7 @@ returns-clause-events g c = λ accessed f same.
 
 pub returns-clause-stands : goal.returns-clause-stands
 returns-clause-stands g c = λ m s x y z accessed f served hx same a.
-    let G = g.O.PathSetting.setting c.args.out.now in
+    let G = g.O.RunSetting.setting c.args.out.now in
     let old = g.V.Values.shows c.args.values.now m in
     let now = g.V.Values.shows c.push_tests.new.values m in
     let keep = c.push_tests.ensures.keeps.shown m in

@@ -20,4 +20,4 @@ returns-in-Some-clause-number g c = λ m.
 pub returns-in-Some-clause-kind : goal.returns-in-Some-clause-kind
 returns-in-Some-clause-kind g c =
     let path = c.args.self.now.path.now in
-    kind_found (g.T.PathSetting.setting path) (key_shown c.args.key) (g.T.TableSetting.keys path) c.in-Some.place c.args.self.now.kinded (sym c.place.ensures ∙ c.in-Some.is)
+    kind_found (g.T.RunSetting.setting path) (key_shown c.args.key) (g.T.TableSetting.keys path) c.in-Some.place c.args.self.now.kinded (sym c.place.ensures ∙ c.in-Some.is)

@@ -1,8 +1,0 @@
-use Rattle.stk_bundle.proofs.BlockTexts.{cut_first, no_first}
-use Rattle.stk_bundle.proofs.block.first_line.Goals as goal
-
-pub returns-in-Some : goal.returns-in-Some
-returns-in-Some c = cut_first c.args.text.now c.cut_at.result.0.now c.cut_at.result.1.now c.in-Some.behind.now c.in-Some.field-0-0.now c.cut_at.ensures c.in-Some.ensures.cases.0
-
-pub returns-in-None : goal.returns-in-None
-returns-in-None c = no_first c.args.text.now c.cut_at.result.0.now c.cut_at.result.1.now c.cut_at.ensures c.in-None.ensures.cases

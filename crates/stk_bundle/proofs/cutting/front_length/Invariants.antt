@@ -1,7 +1,0 @@
-use Rattle.std.proofs.Common.{◌≡◌, true, take}
-use Rattle.std.specs.List.{list_all}
-use Rattle.stk_bundle.specs.Cuts.{is_other}
-use Rattle.stk_bundle.proofs.cutting.front_length.Given as goal
-
-abbrev pub invariant-loop-i : goal.invariant-loop-i
-invariant-loop-i l = list_all (is_other l.stop) (take l.i l.text) ≡ true

@@ -1,0 +1,15 @@
+use Rattle.std.proofs.Common.{◌≡◌, List, Some, ap, ◌∙◌}
+use Rattle.stk_tree.specs.View.{view_statement_form}
+use Rattle.stk_function_env.specs.Settings.{setting_in}
+use Rattle.stk_path_runs.specs.declared.loop_rows.LoopSlot.{LoopSlot}
+use Rattle.stk_path_runs.specs.Rows.{slots_set, row_at}
+use Rattle.stk_path_runs.proofs.Known.{reset_by}
+use Rattle.stk_path_runs.proofs.mapped.MappedFunctionWorld.reset.Goals as goal
+
+pub returns-in-Some : goal.returns-in-Some
+returns-in-Some c =
+    let tables = c.args.self.now.tables.now in
+    let found : Some c.in-Some.row.now ≡ row_at c.args.node c.args.self.now.tables.now.rows = c.in-Some.ensures in
+    c.set_slots.ensures
+    ∙ ap (λ (ss : List LoopSlot). slots_set ss c.args.self.now.numbers.now c.args.registers.now.items) c.as_slice.ensures.value
+    ∙ reset_by (setting_in tables.places) tables.places.keys tables.rows c.args.node (view_statement_form c.args.form.now) c.in-Some.row.now c.args.self.now.numbers.now c.args.registers.now.items c.requires found

@@ -1,0 +1,4 @@
+pub mod Scripts
+pub mod Fields
+pub mod Starts
+pub mod Laws
