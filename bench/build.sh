@@ -1,6 +1,7 @@
 #!/bin/bash
 # Tests ./stack-build and ./stack-show on builds of small trees, with a stand-in for the checker that reports each line
-# `if (NAME + 1 < NAME)`; what the checker says isn't tested here.
+# `if (NAME + 1 < NAME)`; what the checker says isn't tested here. The launchers ./stack and ./stack-audit are tested
+# with programs that stand in for what they build.
 #   bash bench/build.sh [PROGRAM [ZLIB]]
 # With PROGRAM, the checker, the files of examples/ are compiled under it too. ZLIB is a folder with the sources of zlib
 # (Debian's source package): its `./configure && make` is run with and without the wrappers, with PROGRAM or else the
@@ -648,6 +649,20 @@ test_showing_in_colour() {
     grep -q "$(printf '\033\[1;35mwarning:\033\[0m')" printed
     tr -d '\r' <printed | sed "s/$(printf '\033')\[[0-9;]*m//g" | holds wanted
     NO_COLOR=1 script -qec "'$top/stack-show' records" /dev/null | tr -d '\r' | holds wanted
+}
+
+# --- A test of the launchers ---
+
+# Each starts its own program where that is built of the sources that stand there, with its words and input.
+test_the_launchers() {
+    mkdir -p copy/.built copy/crates && cp "$top/stack" "$top/stack-audit" copy && echo stk_base: >copy/crates.txt
+    for name in stack stack-audit; do
+        printf '#!/bin/sh\necho %s "$@"\ncat\nexit 7\n' "$name" >"copy/.built/$name"
+        chmod +x "copy/.built/$name"
+        cksum <copy/crates.txt >"copy/.built/$name.sum"
+        echo input | ends_with 7 "copy/$name" a 'b c' >found
+        printf '%s a b c\ninput\n' "$name" | holds found
+    done
 }
 
 # --- The real checker, and a build that others wrote ---

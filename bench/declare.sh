@@ -26,3 +26,11 @@ for count in 250000 500000 1000000; do
     { echo 'struct s {'; seq -f 'int a%.0f;' "$count"; echo '};'; } >"$text"
     run "$count members"
 done
+for count in 5000 10000 20000; do
+    { printf 'typedef void F(int'; seq 2 "$count" | awk '{ printf ", int" }'; echo ');'
+        seq -f 'F f%.0f;' "$((count / 10))"; } >"$text"
+    run "$((count / 10)) functions of one type with $count parameters"
+    { echo 'struct s {'; seq -f 'int a%.0f;' "$((count * 10))"; echo '}; void f(struct s *p) {'
+        seq -f 'p->a%.0f;' "$((count * 7))" "$((count * 7 + count * 3 / 10 - 1))"; echo '}'; } >"$text"
+    run "$((count * 3 / 10)) uses of a struct's $((count * 10)) members"
+done
