@@ -1,6 +1,6 @@
 //! Sums and differences of rows, and which of two numbers without a sign is smaller.
 
-ghost use Rattle.std.specs.Prelude.{◌≡◌, ℕ, ◌+◌, ◌-◌, ◌*◌, ◌%◌, ◌^◌, ◌<◌, ◌≤◌, Bool, length, IfOk, nat_lt};
+ghost use Rattle.std.specs.Prelude.{◌≡◌, ℕ, ◌+◌, ◌-◌, ◌*◌, ◌%◌, ◌^◌, ◌<◌, ◌≤◌, Bool, ◌&&◌, not, if◌then◌else◌, length, IfOk, nat_lt};
 ghost use Rattle.stk_gates.specs.Edges.{edge_value};
 ghost use Rattle.stk_gates.specs.Tables.{Table, IsEdge, Obeys, Extends, AddsWithin, HasRoom};
 ghost use Rattle.stk_arith.specs.Rows.{bit, number, AreEdges};
@@ -23,7 +23,27 @@ pub struct Sum {
     pub carry: Edge,
 }
 
+/// Adds two bits of one place.
+#[tactic(auto, using(crate::proofs::Numbers::kept))]
+fn add_two(gates: &mut Gates, a: Edge, b: Edge) -> Result<PlaceSum, NoMemory>
+    requires a { IsEdge gates.old a }
+    requires b { IsEdge gates.old b }
+    requires room { HasRoom gates.old 3 }
+    ensures sum_edge { IfOk result (λ r. IsEdge gates.new r.sum) }
+    ensures carry_edge { IfOk result (λ r. IsEdge gates.new r.carry) }
+    ensures sum { IfOk result (λ r. (values : ℕ → Bool) → Obeys gates.new values → edge_value values r.sum ≡ (if edge_value values a then not (edge_value values b) else edge_value values b)) }
+    ensures carry { IfOk result (λ r. (values : ℕ → Bool) → Obeys gates.new values → edge_value values r.carry ≡ edge_value values a && edge_value values b) }
+    ensures extends { Extends gates.old gates.new }
+    ensures adds { AddsWithin gates.old gates.new 3 }
+{
+    let both = gates.and(a, b)?;
+    let some = gates.or(a, b)?;
+    let sum = gates.and(some, both.inverted())?;
+    Ok(PlaceSum { sum, carry: both })
+}
+
 /// Adds one place.
+#[tactic(auto, using(crate::proofs::Numbers::kept))]
 fn add_place(gates: &mut Gates, a: Edge, b: Edge, carry: Edge) -> Result<PlaceSum, NoMemory>
     requires a { IsEdge gates.old a }
     requires b { IsEdge gates.old b }
@@ -35,12 +55,13 @@ fn add_place(gates: &mut Gates, a: Edge, b: Edge, carry: Edge) -> Result<PlaceSu
     ensures extends { Extends gates.old gates.new }
     ensures adds { AddsWithin gates.old gates.new 9 }
 {
-    let odd = gates.xor(a, b)?;
-    let sum = gates.xor(odd, carry)?;
-    let both = gates.and(a, b)?;
-    let carried = gates.and(carry, odd)?;
-    let next = gates.or(both, carried)?;
-    Ok(PlaceSum { sum, carry: next })
+    let first = add_two(gates, a, b)?;
+    let second = add_two(gates, first.sum, carry)?;
+    let next = gates.or(first.carry, second.carry)?;
+    Ok(PlaceSum {
+        sum: second.sum,
+        carry: next,
+    })
 }
 
 /// The sum of two rows and a carry.

@@ -59,6 +59,32 @@ fn between(literals: &[Lit], from: usize, to: usize) -> &[Lit]
     &literals[from..to]
 }
 
+/// Appends literals. Two or three, as most clauses have, go one by one.
+fn append(literals: &mut Vec<Lit>, clause: &[Lit]) -> Result<(), NoMemory>
+    ensures appended { OnOk result (literals.new.items ≡ literals.old.items ++ clause.now) }
+    ensures kept { OnErr result (literals.new.items ≡ literals.old.items) }
+{
+    match clause {
+        [first, second] => {
+            literals.reserve(2)?;
+            literals.push_reserved(*first);
+            literals.push_reserved(*second);
+            Ok(())
+        }
+        [first, second, third] => {
+            literals.reserve(3)?;
+            literals.push_reserved(*first);
+            literals.push_reserved(*second);
+            literals.push_reserved(*third);
+            Ok(())
+        }
+        _ => {
+            literals.extend_from_slice(clause)?;
+            Ok(())
+        }
+    }
+}
+
 impl Store {
     /// A store without clauses. It takes no memory; later calls take theirs from `alloc`.
     pub fn new(alloc: Global) -> Store
@@ -79,12 +105,10 @@ impl Store {
         ensures kept { OnErr result (self.new ≡ self.old) }
     {
         self.ends.reserve(1)?;
-        self.literals.extend_from_slice(clause)?;
+        append(&mut self.literals, clause)?;
         let id = self.ends.len() as u32;
-        match self.ends.push(self.literals.len()) {
-            Ok(()) => Ok(id),
-            Err(_) => unreachable!(),
-        }
+        self.ends.push_reserved(self.literals.len());
+        Ok(id)
     }
 
     /// The same clauses once more, in memory from `alloc`.

@@ -1,12 +1,14 @@
 -- Names of the inputs and the marked AND gates, from the inputs up.
-use Rattle.std.proofs.Common.{◌≡◌, ℕ, ◌+◌, ◌-◌, ◌*◌, ◌/◌, ◌<◌, Bool, List, [], ◌∷◌, ◌++◌, Some, length, get_or, slice_get, refl, sym, ap, ◌∙◌, subst, arith, inl, inr, length-append}
+use Rattle.std.proofs.Common.{◌≡◌, ℕ, ◌+◌, ◌-◌, ◌*◌, ◌/◌, ◌<◌, Bool, List, [], ◌∷◌, ◌++◌, Option, Some, None, length, get_or, slice_get, refl, sym, ap, ◌∙◌, subst, arith, inl, inr, length-append}
 use Rattle.std.specs.List.{Contains, All}
 use Rattle.std.proofs.lemmas.Bool.{cases_eq, cases_lt}
 use Rattle.std.proofs.lemmas.List.{get_or_append_left, get_or_at, get_or_default}
 use Rattle.std.proofs.lemmas.List.Elements.{Contains-push_cases, Contains-push, Contains-append_left, Contains-get_or}
 use Rattle.std.proofs.lemmas.Option.{slice_get_within}
+use Rattle.std.proofs.lemmas.Bool.Decides.{nat_tests}
 use Rattle.stk_gates.specs.declared.edge.Edge.{Edge}
-use Rattle.stk_gates.specs.Tables.{Table, gate_count, IsOrdered, IsEdge}
+use Rattle.stk_gates.specs.Edges.{folded}
+use Rattle.stk_gates.specs.Tables.{Table, gate_count, IsOrdered, IsReduced, IsEdge}
 use Rattle.stk_cnf.specs.Clauses.{HasName}
 use Rattle.stk_cnf.specs.Marks.{IsMarked, AreMarked}
 use Rattle.stk_cnf.specs.Naming.{IsAmong, IsClosed, HasNames, IsNumberedTo, IsNumbering}
@@ -76,6 +78,34 @@ numbered_more t marks names ands vars gate is above r =
       few = omega (arith, r.few);
     }
 
+-- the edges of an AND that needs a gate are no constants, and come from two gates
+pub whole : (a b : Edge) → a.0 < b.0 → folded a b ≡ None → (1 < a.0) × (a.0 / 2 < b.0 / 2)
+whole a b lt h = grind (arith, nat_tests)
+
+-- a gate has a larger variable than its second edge, and that a larger one than its first
+abbrev pub Rises : Table → List ℕ → ℕ → Type 0
+Rises t names n = (p : Edge × Edge) → slice_get t.pairs (n - (1 + t.inputs)) ≡ Some p → (get_or names (p.0.0 / 2) 0 < get_or names (p.1.0 / 2) 0) × (get_or names (p.1.0 / 2) 0 < get_or names n 0)
+
+-- the two edges of an AND gate with names, and their variables
+pub record HasEdges (t : Table) (names : List ℕ) (vars gate : ℕ) (a b : Edge) : Type 0 where
+  pub at : slice_get t.pairs (gate - (1 + t.inputs)) ≡ Some (a, b)
+  pub first : HasName names vars a
+  pub second : HasName names vars b
+  pub some : 1 < a.0
+  pub other : a.0 / 2 < b.0 / 2
+  pub low : get_or names (a.0 / 2) 0 < get_or names (b.0 / 2) 0
+  pub high : get_or names (b.0 / 2) 0 < get_or names gate 0
+
+pub gate_edges : (t : Table) (names : List ℕ) (vars gate : ℕ) (a b : Edge) (r : Option (Edge × Edge)) → r ≡ Some (a, b) → ((k : ℕ) → gate ≡ 1 + t.inputs + k → r ≡ slice_get t.pairs k) → t.inputs < gate → IsReduced t → HasNames t names vars gate → Rises t names gate → HasEdges t names vars gate a b
+gate_edges t names vars gate a b r is within above reduced has rises =
+    let k : ℕ = gate - (1 + t.inputs) in
+    let at : slice_get t.pairs k ≡ Some (a, b) = sym (within k (omega (arith, above))) ∙ is in
+    let both = has.1 (a, b) at in
+    let red = reduced k (a, b) at in
+    let apart = whole a b red.0 red.1 in
+    let up = rises (a, b) at in
+    record { at = at; first = both.0; second = both.1; some = apart.0; other = apart.1; low = up.0; high = up.1 }
+
 module _ (t : Table) (goal : Edge) (marks : List Bool) (names ands : List ℕ) (vars : ℕ) (m : AreMarked t goal marks 0) (r : IsNumbering t marks names ands vars) where
   -- a marked gate of the table is an input or listed
   among : (n : ℕ) → n < gate_count t → IsMarked marks n → IsAmong t ands n
@@ -118,6 +148,53 @@ module _ (t : Table) (goal : Edge) (marks : List Bool) (names ands : List ℕ) (
         let twice : 2 * n / 2 ≡ n = omega arith in (
           has_name (record { 0 = 2 * n }) (omega (arith, e.1, twice)) (subst (λ x. IsMarked marks x) (sym twice) e.2),
           λ p at. let o = operands_of n p e.0 e.2 at in (has_name p.0 o.1.0 o.0.0, has_name p.1 o.1.1 o.0.1),
+        )
+
+    -- the variables rise with the gates
+    name_rises : (a b : ℕ) → 0 < a → a < b → b < gate_count t → IsMarked marks a → IsMarked marks b → get_or names a 0 < get_or names b 0
+    name_rises a b some lt within ma mb =
+        elim (among a (omega (arith, lt, within)) ma) [
+          | inl low ↦
+              let k : ℕ = a - 1 in
+              let shape : 1 + k ≡ a = omega (arith, some) in
+              let is : get_or names a 0 ≡ k = ap (λ n. get_or names n 0) (sym shape) ∙ r.naming.inputs k (omega (arith, low, some)) in
+              elim (among b within mb) [
+                | inl low' ↦
+                    let j : ℕ = b - 1 in
+                    let shape' : 1 + j ≡ b = omega (arith, some, lt) in
+                    let is' : get_or names b 0 ≡ j = ap (λ n. get_or names n 0) (sym shape') ∙ r.naming.inputs j (omega (arith, low', some, lt)) in
+                    omega (arith, is, is', lt, some)
+                | inr g ↦
+                    let is' : get_or names b 0 ≡ t.inputs + g.0 = ap (λ n. get_or names n 0) (sym g.2) ∙ r.naming.gate_names g.0 g.1 in
+                    omega (arith, is, is', low, some)
+              ]
+          | inr f ↦
+              let e = (r.exact (get_or ands f.0 0)).0 (in_ands ands f.0 f.1) in
+              let is : get_or names a 0 ≡ t.inputs + f.0 = ap (λ n. get_or names n 0) (sym f.2) ∙ r.naming.gate_names f.0 f.1 in
+              elim (among b within mb) [
+                | inl low' ↦ absurd (omega (arith, e.0, f.2, low', lt))
+                | inr g ↦
+                    let is' : get_or names b 0 ≡ t.inputs + g.0 = ap (λ n. get_or names n 0) (sym g.2) ∙ r.naming.gate_names g.0 g.1 in
+                    elim (cases_lt f.0 g.0) [
+                      | inl before ↦ omega (arith, is, is', before)
+                      | inr later ↦ elim (cases_eq f.0 g.0) [
+                        | inl same ↦ absurd (omega (arith, lt, f.2, g.2, ap (λ j. get_or ands j 0) same))
+                        | inr other ↦ absurd (omega (arith, lt, f.2, g.2, r.rising g.0 f.0 (omega (arith, later, other)) f.1))
+                      ]
+                    ]
+              ]
+        ]
+
+    pub listed_rising : IsReduced t → All (Rises t names) ands
+    listed_rising reduced j d lt p at =
+        let n : ℕ = get_or ands j d in
+        let e = (r.exact n).0 (Contains-get_or ands j d lt) in
+        let o = operands_of n p e.0 e.2 at in
+        let red = reduced (n - (1 + t.inputs)) p at in
+        let apart = whole p.0 p.1 red.0 red.1 in
+        let below = ordered (n - (1 + t.inputs)) p at in (
+          name_rises (p.0.0 / 2) (p.1.0 / 2) (omega (arith, apart.0)) apart.1 o.1.1 o.0.0 o.0.1,
+          name_rises (p.1.0 / 2) n (omega (arith, apart.0, apart.1)) (omega (arith, below.1, e.0)) e.1 o.0.1 e.2,
         )
 
     pub closed : IsEdge t goal → IsClosed t ands goal

@@ -1,53 +1,22 @@
 // The clauses of a goal and of the gates on which it depends.
-ghost use Rattle.std.specs.Prelude.{◌≡◌, ℕ, ◌+◌, ◌-◌, ◌*◌, ◌/◌, ◌^◌, ◌<◌, ◌≤◌, ◌∷◌, [], Bool, true, ◌&&◌, length, slice_get, slice_index, IfOk, OnOk};
+ghost use Rattle.std.specs.Prelude.{◌≡◌, ◌+◌, ◌-◌, ◌*◌, ◌/◌, ◌^◌, ◌<◌, ◌≤◌, ◌∷◌, [], ◌&&◌, length, slice_get, slice_index, IfOk, OnOk};
 ghost use Rattle.std.specs.List.{All};
 ghost use Rattle.stk_gates.specs.Edges.{edge_value};
 ghost use Rattle.stk_gates.specs.Tables.{gate_count, IsEdge};
-ghost use Rattle.stk_cnf.specs.Clauses.{some_edge, named, ties, tied_by, all_tied, HasName, IsGrown};
-ghost use Rattle.stk_cnf.specs.Naming.{IsNaming, IsClosed, HasNames};
+ghost use Rattle.stk_cnf.specs.Clauses.{named, tied_by, all_tied, HasName, IsGrown};
+ghost use Rattle.stk_cnf.specs.Naming.{HasNames};
 ghost use Rattle.stk_cnf.specs.Standing.{StandsFor};
 
 use crate::depending::depending;
-use crate::edges::put;
+use crate::edges::{literal, put_edge, put_gate};
 use crate::numbering::{Numbering, numbered};
 use std::alloc::Global;
 use stk_base::NoMemory;
-use stk_clauses::{Cnf, Lit, Store};
+use stk_clauses::{Cnf, Store};
 use stk_gates::{Edge, Gates};
-
-/// Appends the three clauses that tie an AND gate to its two edges.
-fn put_gate(
-    clause: &mut Vec<Lit>,
-    names: &[u32],
-    vars: u32,
-    store: &mut Store,
-    gate: Edge,
-    a: Edge,
-    b: Edge,
-) -> Result<(), NoMemory>
-    requires gate { HasName names.now vars gate }
-    requires a { HasName names.now vars a }
-    requires b { HasName names.now vars b }
-    requires few { vars ≤ 2 ^ 31 }
-    requires room { length store.old < 2 ^ 31 - 3 }
-    ensures { OnOk result (IsGrown vars 3 store.old store.new (λ v. ties (edge_value (named names.now v) gate) (edge_value (named names.now v) a) (edge_value (named names.now v) b))) }
-{
-    let not_gate = gate.inverted();
-    put(clause, names, vars, store, &[not_gate, a])?;
-    put(clause, names, vars, store, &[not_gate, b])?;
-    put(
-        clause,
-        names,
-        vars,
-        store,
-        &[gate, a.inverted(), b.inverted()],
-    )?;
-    Ok(())
-}
 
 /// Appends the three clauses of an AND gate of the table.
 fn put_and(
-    clause: &mut Vec<Lit>,
     gates: &Gates,
     names: &[u32],
     vars: u32,
@@ -56,6 +25,7 @@ fn put_and(
 ) -> Result<(), NoMemory>
     requires gate { (gates.now.inputs < gate) × (gate < gate_count gates.now) }
     requires names { HasNames gates.now names.now vars gate }
+    requires rising { (p : Edge × Edge) → slice_get gates.now.pairs (gate - (1 + gates.now.inputs)) ≡ Some p → (slice_index names.now (p.0.0 / 2) < slice_index names.now (p.1.0 / 2)) × (slice_index names.now (p.1.0 / 2) < slice_index names.now gate) }
     requires few { vars ≤ 2 ^ 31 }
     requires room { length store.old < 2 ^ 31 - 3 }
     ensures { OnOk result (IsGrown vars 3 store.old store.new (λ v. tied_by (named names.now v) gate (slice_get gates.now.pairs (gate - (1 + gates.now.inputs))))) }
@@ -65,7 +35,10 @@ fn put_and(
     match gates.operands(gate) {
         None => Ok(()),
         Some((a, b)) => {
-            put_gate(clause, names, vars, store, Edge::of_gate(gate), a, b)?;
+            let whole = literal(names, Edge::of_gate(gate));
+            let first = literal(names, a);
+            let second = literal(names, b);
+            put_gate(store, whole, first, second)?;
             Ok(())
         }
     }
@@ -82,6 +55,7 @@ fn encoded(
 ) -> Result<Store, NoMemory>
     requires ands { All (λ n. (gates.now.inputs < n) × (n < gate_count gates.now)) ands.now }
     requires names { All (HasNames gates.now names.now vars) ands.now }
+    requires rising { All (λ n. (p : Edge × Edge) → slice_get gates.now.pairs (n - (1 + gates.now.inputs)) ≡ Some p → (slice_index names.now (p.0.0 / 2) < slice_index names.now (p.1.0 / 2)) × (slice_index names.now (p.1.0 / 2) < slice_index names.now n)) ands.now }
     requires goal { HasName names.now vars goal }
     requires few { vars ≤ 2 ^ 31 }
     requires room { length ands.now < 2 ^ 29 }
@@ -90,11 +64,10 @@ fn encoded(
     ensures empty { IfOk result (λ r. ands.now ≡ [] → goal.0 ≡ 0 → r ≡ [] ∷ []) }
 {
     let mut store = Store::new(alloc);
-    let mut clause = Vec::new(alloc);
     for n in ands {
-        put_and(&mut clause, gates, names, vars, &mut store, *n)?;
+        put_and(gates, names, vars, &mut store, *n)?;
     }
-    put(&mut clause, names, vars, &mut store, &[goal])?;
+    put_edge(names, vars, &mut store, goal)?;
     Ok(store)
 }
 

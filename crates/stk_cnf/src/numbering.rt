@@ -22,19 +22,19 @@ pub(crate) fn numbered(alloc: Global, gates: &Gates, marks: &[bool]) -> Result<N
 {
     let count = gates.count();
     let inputs = gates.inputs();
-    let mut names = Vec::new(alloc);
-    names.push(0)?;
+    let mut names = Vec::with_capacity(alloc, count as usize)?;
+    names.push_reserved(0);
     for input in 0..inputs {
-        names.push(input)?;
+        names.push_reserved(input);
     }
-    let mut ands = Vec::new(alloc);
+    let mut ands = Vec::with_capacity(alloc, count as usize)?;
     let mut vars = inputs;
     for gate in inputs + 1..count {
-        names.push(vars)?;
+        names.push_reserved(vars);
         if !marks[gate as usize] {
             continue;
         }
-        ands.push(gate)?;
+        ands.push_reserved(gate);
         vars += 1;
     }
     Ok(Numbering { names, ands, vars })

@@ -1,8 +1,9 @@
 -- The literals that became false last.
-use Rattle.std.proofs.Common.{◌≡◌, ◌≢◌, ℕ, ◌+◌, ◌<◌, ◌≤◌, List, [], ◌∷◌, length, get_or, take, sym, ◌∙◌, ap, subst, inl, inr, arith, Option, Some}
+use Rattle.std.proofs.Common.{◌≡◌, ◌≢◌, ℕ, ◌+◌, ◌<◌, ◌≤◌, List, [], ◌∷◌, ◌++◌, length, get_or, take, sym, ◌∙◌, ap, subst, inl, inr, arith, Option, Some, None}
 use Rattle.std.specs.List.{Contains}
+use Rattle.std.specs.Option.{MatchOption}
 use Rattle.std.proofs.lemmas.List.{length-take, get_or-take, get_or_default, take_more}
-use Rattle.std.proofs.lemmas.List.Elements.{Contains-push_cases}
+use Rattle.std.proofs.lemmas.List.Elements.{Contains-push_cases, Contains-append_left, Contains-append_cases}
 use Rattle.stk_clauses.specs.declared.literal.Lit.{Lit}
 use Rattle.stk_clauses.specs.Literals.{negated, AreDistinct}
 use Rattle.stk_clauses.specs.Propagation.{HasNoPair}
@@ -92,3 +93,17 @@ calm_before t c a b k s ok le ca na later settled = ((λ h. absurd (na (in_take 
           | inl e ↦ absurd (oy.1 (pick y cy (λ f. ne (e ∙ sym f)) h))
           | inr n ↦ absurd (ox.1 (pick x cx n h))
         ]
+
+-- the literals of c but for a and b are false
+abbrev pub AreOthersFalse : List Lit → List Lit → Lit → Lit → Type 0
+AreOthersFalse t c a b = (m : Lit) → Contains c m → m ≢ a → m ≢ b → Contains t (negated m)
+
+-- a literal of c, other than a and b, that isn't false
+abbrev pub IsOther : List Lit → List Lit → Lit → Lit → Lit × ℕ → Type 0
+IsOther t c a b p = Contains c p.0 × (p.0 ≢ a) × (p.0 ≢ b) × (Contains t (negated p.0) → ⊥)
+
+-- where those behind the front are false, what is found in the front is found in the whole
+pub found_in_front : (r : Option (Lit × ℕ)) (t c front back : List Lit) (a b : Lit) → c ≡ front ++ back → AreOthersFalse t back a b → MatchOption r (AreOthersFalse t front a b) (IsOther t front a b) → MatchOption r (AreOthersFalse t c a b) (IsOther t c a b)
+found_in_front None t c front back a b e rest found = λ m h na nb.
+    elim (Contains-append_cases front back m (subst (λ ys. Contains ys m) e h)) [ inl x ↦ found m x na nb | inr y ↦ rest m y na nb ]
+found_in_front (Some p) t c front back a b e rest found = (subst (λ ys. Contains ys p.0) (sym e) (Contains-append_left front back p.0 found.0), found.1, found.2, found.3)

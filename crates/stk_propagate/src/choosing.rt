@@ -54,20 +54,39 @@ pub(crate) fn latest(assigned: &Assignment, clause: &[Lit], start: Lit, but: Opt
     best
 }
 
-/// A literal of the clause that isn't false, other than these two.
-pub(crate) fn replacement(assigned: &Assignment, clause: &[Lit], a: Lit, b: Lit) -> Option<Lit>
+/// A literal of the clause that isn't false, other than these two, and how many stand before it.
+fn live_among(assigned: &Assignment, clause: &[Lit], a: Lit, b: Lit) -> Option<(Lit, usize)>
     requires { AreBelow assigned.now.vars clause.now }
-    ensures { MatchOption result ((m : Lit) → Contains clause.now m → m ≢ a → m ≢ b → Contains assigned.now.literals (negated m)) (λ m. Contains clause.now m × (m ≢ a) × (m ≢ b) × (Contains assigned.now.literals (negated m) → ⊥)) }
+    ensures { MatchOption result ((m : Lit) → Contains clause.now m → m ≢ a → m ≢ b → Contains assigned.now.literals (negated m)) (λ p. Contains clause.now p.0 × (p.0 ≢ a) × (p.0 ≢ b) × (Contains assigned.now.literals (negated p.0) → ⊥)) }
 {
-    for lit in clause {
+    for (at, lit) in clause.iter().enumerate() {
         if lit.0 == a.0 || lit.0 == b.0 {
             continue;
         }
         if !assigned.is_true(lit.negated()) {
-            return Some(*lit);
+            return Some((*lit, at));
         }
     }
     None
+}
+
+/// A literal of the clause that isn't false, other than these two, and how many stand before it. The search begins
+/// behind the first `start` literals, and goes through these last.
+pub(crate) fn replacement(
+    assigned: &Assignment,
+    clause: &[Lit],
+    start: usize,
+    a: Lit,
+    b: Lit,
+) -> Option<(Lit, usize)>
+    requires { AreBelow assigned.now.vars clause.now }
+    ensures { MatchOption result ((m : Lit) → Contains clause.now m → m ≢ a → m ≢ b → Contains assigned.now.literals (negated m)) (λ p. Contains clause.now p.0 × (p.0 ≢ a) × (p.0 ≢ b) × (Contains assigned.now.literals (negated p.0) → ⊥)) }
+{
+    let (front, back) = clause.split_at(start.min(clause.len()));
+    if let Some((lit, at)) = live_among(assigned, back, a, b) {
+        return Some((lit, at.wrapping_add(front.len())));
+    }
+    live_among(assigned, front, a, b)
 }
 
 /// The first two literals of a clause, if it has two.

@@ -7,12 +7,13 @@ ghost use Rattle.stk_propagate.specs.Trailed.{IsGrown};
 ghost use Rattle.stk_propagate.specs.Fitting.{Fits, IsReason};
 ghost use Rattle.stk_propagate.specs.Linked.{trailed, watch_at, twin, pair_of, chain_of, InSpare, InSpareOr, IsFree, IsSized, AreLinked};
 
+use crate::starts::Starts;
 use crate::{Assignment, WatchLists};
 use stk_clauses::{Lit, Store};
 
 /// The true literals; of each clause that was taken in its watched literals; a chain for each literal of the places
-/// that watch it, and a spare chain; how many of the true literals propagation has gone through; and how many clauses
-/// it has looked at.
+/// that watch it, and a spare chain; where to begin the search for a new watch of each clause; how many of the true
+/// literals propagation has gone through; and how many clauses it has looked at.
 ///
 /// The clause `id` has the places 2 `id`, for its first watched literal, and 2 `id` + 1, for its second.
 #[derive(Drop)]
@@ -20,6 +21,7 @@ pub(crate) struct Inner {
     pub(crate) assigned: Assignment,
     pub(crate) chains: WatchLists,
     pub(crate) watches: Vec<Option<(Lit, Lit)>>,
+    pub(crate) starts: Starts,
     pub(crate) head: usize,
     pub(crate) looked: u32,
 }

@@ -6,6 +6,7 @@ mod choosing;
 mod inner;
 mod looking;
 mod propagation;
+mod starts;
 mod taking;
 mod trail;
 mod walking;

@@ -7,24 +7,29 @@ ghost use Rattle.stk_propagate.specs.Linked.{trailed, IsLinked};
 
 use crate::choosing::first_two;
 use crate::inner::Inner;
+use crate::starts::Starts;
 use crate::{Assignment, WatchLists};
 use std::alloc::Global;
 use stk_base::NoMemory;
 use stk_clauses::Store;
 
 impl Inner {
-    /// No true literals, and no clauses.
-    fn blank(alloc: Global, vars: u32) -> Result<Inner, NoMemory>
+    /// No true literals, and no clauses, with room for so many.
+    fn blank(alloc: Global, vars: u32, count: usize) -> Result<Inner, NoMemory>
         ensures linked { IfOk result IsLinked }
         ensures fits { IfOk result (λ f. Fits (trailed f) []) }
         ensures blank { IfOk result (λ f. f.assigned ≡ record { vars = vars; literals = []; reasons = [] }) }
     {
         let assigned = Assignment::reserve(alloc, vars)?;
-        let chains = WatchLists::reserve(alloc, vars as usize * 2 + 1)?;
+        let mut chains = WatchLists::reserve(alloc, vars as usize * 2 + 1)?;
+        chains.make_room(count.saturating_mul(2))?;
+        let watches = Vec::with_capacity(alloc, count)?;
+        let starts = Starts::reserve(alloc, count)?;
         Ok(Inner {
             assigned,
             chains,
-            watches: Vec::new(alloc),
+            watches,
+            starts,
             head: 0,
             looked: 0,
         })
@@ -46,6 +51,7 @@ impl Inner {
         // For the prover: the store keeps its facts.
         let _ = store.count();
         let watch = first_two(store.clause(id));
+        self.starts.add()?;
         self.watches.reserve(1)?;
         self.chains.grow()?;
         if let Err(_) = self.watches.push(watch) {
@@ -61,7 +67,7 @@ impl Inner {
         ensures fits { IfOk result (λ f. Fits (trailed f) store.now) }
         ensures blank { IfOk result (λ f. f.assigned ≡ record { vars = vars; literals = []; reasons = [] }) }
     {
-        let mut inner = Inner::blank(alloc, vars)?;
+        let mut inner = Inner::blank(alloc, vars, store.count() as usize)?;
         for id in 0..store.count() {
             inner.take_in(id, store)?;
         }

@@ -40,8 +40,10 @@ impl Inner {
             self.keep(place, lit);
             return false;
         }
-        match replacement(&self.assigned, store.clause(id), lit, other) {
-            Some(to) => {
+        let start = self.starts.place(id);
+        match replacement(&self.assigned, store.clause(id), start, lit, other) {
+            Some((to, at)) => {
+                self.starts.put(id, at);
                 self.move_to(place, lit, to, other);
                 false
             }

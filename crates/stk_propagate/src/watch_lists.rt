@@ -42,6 +42,14 @@ impl WatchLists {
         })
     }
 
+    /// Room for so many numbers more. After `NoMemory` all is as before.
+    pub(crate) fn make_room(&mut self, count: usize) -> Result<(), NoMemory>
+        ensures { self.new ≡ self.old }
+    {
+        self.nexts.reserve(count)?;
+        Ok(())
+    }
+
     /// Two numbers more, the next ones, in no chain. After `NoMemory` all is as before.
     pub fn grow(&mut self) -> Result<(), NoMemory>
         requires { self.old.numbers + 2 < 2 ^ 32 }

@@ -18,8 +18,9 @@ const SMALLER: f64 = 1e-100;
 /// The variables that a search may try, by their scores, and the sign that each had last.
 ///
 /// `heap` is a binary heap of variables, the highest score first, and `places` tells of each variable where it stands
-/// there. `step` is what a variable's score grows by when a conflict meets it; it grows itself, so that older conflicts
-/// count for less.
+/// there. `step` is what a variable's score grows by when a conflict raises it; it grows itself, so that older
+/// conflicts count for less. `raised` has for each variable the number of the last conflict that raised it, of
+/// `conflicts`.
 #[derive(Drop)]
 pub struct Order {
     heap: Vec<u32>,
@@ -27,6 +28,8 @@ pub struct Order {
     scores: Vec<f64>,
     positive: Vec<bool>,
     step: f64,
+    raised: Vec<u64>,
+    conflicts: u64,
 }
 
 impl Order {
@@ -40,12 +43,15 @@ impl Order {
         }
         let scores = vec![in alloc; 0.0; vars as usize]?;
         let positive = vec![in alloc; false; vars as usize]?;
+        let raised = vec![in alloc; 0u64; vars as usize]?;
         Ok(Order {
             heap,
             places,
             scores,
             positive,
             step: 1.0,
+            raised,
+            conflicts: 0,
         })
     }
 
@@ -182,6 +188,16 @@ impl Order {
         self.step *= SMALLER;
     }
 
+    /// Whether this conflict hasn't raised the variable yet. From now on it has.
+    fn is_first(&mut self, variable: u32) -> bool {
+        let at = variable as usize;
+        if at >= self.raised.len() || self.raised[at] == self.conflicts {
+            return false;
+        }
+        self.raised[at] = self.conflicts;
+        true
+    }
+
     /// Raises the score of a variable.
     fn raise_one(&mut self, variable: u32) {
         if (variable as usize) < self.scores.len() {
@@ -196,11 +212,19 @@ impl Order {
         }
     }
 
-    /// Raises the scores of the variables that a conflict met, over those of earlier conflicts.
-    pub(crate) fn raise(&mut self, met: &[Lit]) {
-        for lit in met {
-            self.raise_one(lit.variable());
-        }
+    /// Begins with the next conflict, whose variables are raised over those of earlier conflicts.
+    pub(crate) fn begin(&mut self) {
+        self.conflicts = self.conflicts.wrapping_add(1);
         self.step *= GROWTH;
+    }
+
+    /// Raises the scores of these variables, of each once in a conflict.
+    pub(crate) fn raise(&mut self, literals: &[Lit]) {
+        for lit in literals {
+            let variable = lit.variable();
+            if self.is_first(variable) {
+                self.raise_one(variable);
+            }
+        }
     }
 }

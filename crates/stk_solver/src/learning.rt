@@ -9,6 +9,7 @@ ghost use Rattle.stk_solver.specs.Searching.{IsSearch};
 ghost use Rattle.stk_solver.specs.Jumping.{IsDeep};
 
 use crate::back::levels_to_keep;
+use crate::raising::raise_behind;
 use crate::restarts::Restarts;
 use crate::search::Search;
 use std::alloc::Global;
@@ -72,7 +73,15 @@ impl Search {
         let learnt = self
             .analysis
             .learn(alloc, &self.trail, &self.store, &self.levels, conflict)?;
+        self.order.begin();
         self.order.raise(self.analysis.met());
+        raise_behind(
+            &mut self.order,
+            &self.trail,
+            &self.store,
+            learnt.clause.as_slice(),
+            self.vars,
+        );
         Ok(learnt)
     }
 

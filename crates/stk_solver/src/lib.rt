@@ -9,6 +9,7 @@ mod ending;
 mod finishing;
 mod learning;
 mod marks;
+mod raising;
 mod redundancy;
 mod resolving;
 mod restarts;

@@ -30,7 +30,12 @@ pub(crate) struct Redundancy {
 }
 
 /// The clause that made a literal true, if it has one.
-fn reason_of<'a>(trail: &Trail, store: &'a Store, lit: Lit, vars: u32) -> Option<&'a [Lit]>
+pub(crate) fn reason_of<'a>(
+    trail: &Trail,
+    store: &'a Store,
+    lit: Lit,
+    vars: u32,
+) -> Option<&'a [Lit]>
     requires { trail.now.assigned.vars ≡ vars }
 {
     if lit.variable() >= vars {

@@ -5,7 +5,7 @@ use Rattle.stk_gates.specs.Tables.{gate_count}
 use Rattle.stk_cnf.specs.Clauses.{named, all_tied, HasName, IsGrown}
 use Rattle.stk_cnf.specs.Marks.{AreMarked}
 use Rattle.stk_cnf.specs.Naming.{HasNames}
-use Rattle.stk_cnf.proofs.Up.{listed_names}
+use Rattle.stk_cnf.proofs.Up.{listed_names, listed_rising, Rises}
 use Rattle.stk_cnf.proofs.Stands.{listed_within, goal_name, stands, none_listed}
 use Rattle.stk_cnf.proofs.clauses.clauses_of.Goals as goal
 
@@ -24,6 +24,14 @@ encoded-requires-clause-names c =
     let m = subst (λ xs. AreMarked t c.args.goal xs 0) (sym c.deref.ensures.value) c.in_ok-marks.ensures in
     let here = listed_names t c.args.goal c.deref.result.now n.names.items n.ands.items n.vars m c.in_ok-names.ensures c.count.ensures.ordered in
     subst (λ xs. All (HasNames t c.deref-2.result.now n.vars) xs) (sym c.deref-3.ensures.value) (subst (λ ns. All (HasNames t ns n.vars) n.ands.items) (sym c.deref-2.ensures.value) here)
+
+pub encoded-requires-clause-rising : goal.encoded-requires-clause-rising
+encoded-requires-clause-rising c =
+    let t = c.args.gates.now in
+    let n = c.in_ok-names.field-0 in
+    let m = subst (λ xs. AreMarked t c.args.goal xs 0) (sym c.deref.ensures.value) c.in_ok-marks.ensures in
+    let here = listed_rising t c.args.goal c.deref.result.now n.names.items n.ands.items n.vars m c.in_ok-names.ensures c.count.ensures.ordered c.count.ensures.reduced in
+    subst (λ xs. All (Rises t c.deref-2.result.now) xs) (sym c.deref-3.ensures.value) (subst (λ ns. All (Rises t ns) n.ands.items) (sym c.deref-2.ensures.value) here)
 
 pub encoded-requires-clause-goal : goal.encoded-requires-clause-goal
 encoded-requires-clause-goal c =

@@ -1,4 +1,4 @@
-use Rattle.std.proofs.Common.{◌≡◌, ◌≤◌, ◌*◌, length, arith}
+use Rattle.std.proofs.Common.{arith}
 use Rattle.std.proofs.lemmas.List.Sums.{count_by-le-length}
 use Rattle.stk_propagate.proofs.Pushing.{itself}
 use Rattle.stk_propagate.proofs.assignment.Assignment.literals.Goals as goal
