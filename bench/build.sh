@@ -1,7 +1,7 @@
 #!/bin/bash
 # Tests ./stack-build and ./stack-show on builds of small trees, with a stand-in for the checker that reports each line
-# `if (NAME + 1 < NAME)`; what the checker says isn't tested here. The launchers ./stack and ./stack-audit are tested
-# with programs that stand in for what they build.
+# `if (NAME + 1 < NAME)`; what the checker says isn't tested here. The launchers ./stack, ./stack-audit and
+# ./stack-replay are tested with programs that stand in for what they build.
 #   bash bench/build.sh [PROGRAM [ZLIB]]
 # With PROGRAM, the checker, the files of examples/ are compiled under it too. ZLIB is a folder with the sources of zlib
 # (Debian's source package): its `./configure && make` is run with and without the wrappers, with PROGRAM or else the
@@ -655,8 +655,9 @@ test_showing_in_colour() {
 
 # Each starts its own program where that is built of the sources that stand there, with its words and input.
 test_the_launchers() {
-    mkdir -p copy/.built copy/crates && cp "$top/stack" "$top/stack-audit" copy && echo stk_base: >copy/crates.txt
-    for name in stack stack-audit; do
+    mkdir -p copy/.built copy/crates && echo stk_base: >copy/crates.txt
+    cp "$top/stack" "$top/stack-audit" "$top/stack-replay" copy
+    for name in stack stack-audit stack-replay; do
         printf '#!/bin/sh\necho %s "$@"\ncat\nexit 7\n' "$name" >"copy/.built/$name"
         chmod +x "copy/.built/$name"
         cksum <copy/crates.txt >"copy/.built/$name.sum"

@@ -1,7 +1,7 @@
 use crate::Span;
 
-/// The class of a token (C11 6.4): words are identifiers and keywords, numbers are preprocessing numbers, and a stray is
-/// what belongs to no other class.
+/// The class of a token (C11 6.4): words are identifiers and keywords, numbers are preprocessing numbers, and a stray
+/// is what belongs to no other class.
 #[derive(Clone, Copy, Debug, PartialEq, Eq)]
 pub enum Class {
     Word,

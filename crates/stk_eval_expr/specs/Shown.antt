@@ -1,5 +1,4 @@
 -- What the code's places, sides and flows are among those of runs.
-use Rattle.stk_meaning.specs.Places as places
 use Rattle.stk_meaning.specs.Typings.{Typing, type_in, number_kind}
 use Rattle.stk_meaning.specs.Expressions as runs
 use Rattle.stk_meaning.specs.Replacements.{Replaced}

@@ -1,4 +1,5 @@
 //! Expressions.
+#![tactic(auto, using(crate::proofs::LeavingLaws::value_leaves, crate::proofs::LeavingLaws::stops_leave))]
 
 ghost use Rattle.std.specs.Prelude.{◌≡◌, IfOk, true, false, pos, map};
 ghost use Rattle.stk_ctype.specs.Types.{type_of, row_of};
@@ -99,7 +100,6 @@ fn place_value<W: World>(out: &W, e: &Expr, state: &mut State<W::Kept>) -> Resul
 }
 
 /// The address of a place, which is accessed or not. What is no place has none.
-#[tactic(auto, using(crate::proofs::LeavingLaws::stops_leave))]
 #[cycle(expression)]
 pub(crate) fn place<W: World>(
     out: &W,
@@ -173,7 +173,6 @@ fn indexed<W: World>(
 }
 
 // The address of a unary operator as a place: of `*`.
-#[tactic(auto, using(crate::proofs::LeavingLaws::stops_leave))]
 #[cycle(expression)]
 fn unary_place<W: World>(
     out: &W,

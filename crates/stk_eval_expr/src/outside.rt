@@ -1,4 +1,5 @@
 //! What a run does with the answers of the outside.
+#![tactic(auto, using(crate::proofs::LeavingLaws::value_leaves, crate::proofs::LeavingLaws::stops_leave))]
 
 ghost use Rattle.std.specs.Prelude.{◌≡◌, IfOk, ℤ};
 ghost use Rattle.stk_tree.specs.View.{view_expression};
@@ -68,7 +69,6 @@ pub fn store<W: World>(
 }
 
 /// The writes of the outside; where it has no answer left, the run ends.
-#[tactic(auto, using(crate::proofs::LeavingLaws::stops_leave))]
 pub fn write<W: World>(out: &W, state: &mut State<W::Kept>) -> Result<(), NoMemory>
     ensures { IfOk result (λ _. (z : ℤ) → Leaves W.shown (written z ((W.world out.now).write (W.shown state.old.kept)) state.old.registers.items) z state.old state.new) }
 {
@@ -79,7 +79,6 @@ pub fn write<W: World>(out: &W, state: &mut State<W::Kept>) -> Result<(), NoMemo
 }
 
 /// The number of a call; where no answer is left, the run ends.
-#[tactic(auto, using(crate::proofs::LeavingLaws::stops_leave))]
 pub(crate) fn answer<W: World>(
     out: &W,
     node: u32,

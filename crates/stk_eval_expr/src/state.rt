@@ -3,7 +3,7 @@
 ghost use Rattle.std.specs.Prelude.{◌≡◌, ◌∷◌, [], pos, IfOk, set, get_or};
 ghost use Rattle.stk_meaning.specs.Conditions.{violated};
 ghost use Rattle.stk_operators.specs.Checked.{kept_tests};
-ghost use Rattle.stk_eval_expr.specs.Leaving.{Adds, Stops};
+ghost use Rattle.stk_eval_expr.specs.Leaving.{Adds, Bounds, Stops};
 
 use std::alloc::Global;
 use stk_base::NoMemory;
@@ -28,13 +28,15 @@ pub struct Sides {
     pub right: Word,
 }
 
-/// The registers by the numbers of their declarators, what the world keeps, the entries so far, and whether the run is
-/// cut. A run that is cut adds no entry, and what it gives from then on doesn't matter.
+/// The registers by the numbers of their declarators, what the world keeps, the entries so far, how many of them there
+/// may be, and whether the run is cut. A run that has more entries is cut as well. One that is cut adds no entry, and
+/// what it gives from then on doesn't matter.
 #[derive(Drop)]
 pub struct State<K> {
     pub registers: Vec<Word>,
     pub kept: K,
     pub entries: Vec<Entry>,
+    pub most: usize,
     pub cut: bool,
     pub alloc: Global,
 }
@@ -56,13 +58,24 @@ impl<K> State<K> {
         self.cut = true;
     }
 
+    // Ends a run that has more entries than there may be.
+    fn bound(&mut self)
+        ensures { Bounds self.old self.new }
+    {
+        if self.entries.len() > self.most {
+            self.cut = true;
+        }
+    }
+
     /// Adds an entry, unless the run is cut.
     pub fn push(&mut self, entry: Entry) -> Result<(), NoMemory>
         ensures { IfOk result (λ _. Adds (entry ∷ []) self.old self.new) }
     {
-        if !self.cut {
-            self.entries.push(entry)?;
+        if self.cut {
+            return Ok(());
         }
+        self.entries.push(entry)?;
+        self.bound();
         Ok(())
     }
 
@@ -76,9 +89,11 @@ impl<K> State<K> {
     ) -> Result<(), NoMemory>
         ensures { IfOk result (λ _. Adds (violated node (kept_tests without node_tests) numbers.0 numbers.1 numbers.2) self.old self.new) }
     {
-        if !self.cut {
-            push_violated(node_tests, without, node, numbers, &mut self.entries)?;
+        if self.cut {
+            return Ok(());
         }
+        push_violated(node_tests, without, node, numbers, &mut self.entries)?;
+        self.bound();
         Ok(())
     }
 

@@ -1,4 +1,5 @@
 //! What an expression does once its operands are evaluated.
+#![tactic(auto, using(crate::proofs::LeavingLaws::value_leaves, crate::proofs::LeavingLaws::nothing_adds))]
 
 ghost use Rattle.std.specs.Prelude.{if◌then◌else◌, Option, option_map, get_or, ◌≡◌, ◌+◌, ℤ, Bool, true, false, pos, IfOk, List};
 ghost use Rattle.stk_tree.specs.Syntax.{ExprTree, ExprTrees, ExprFormTree};

@@ -1,11 +1,11 @@
 -- Positions of sections: where a `switch` goes, and the sections from there on.
-use Rattle.std.proofs.Common.{◌≡◌, ℕ, zero, suc, ◌+◌, ◌<◌, ◌≤◌, Bool, true, false, if◌then◌else◌, List, [], ◌∷◌, length, get_or, map, Option, Some, None, ℤ, refl, sym, ap, ◌∙◌, option_map, arith}
+use Rattle.std.proofs.Common.{◌≡◌, ℕ, zero, suc, ◌+◌, ◌<◌, ◌≤◌, Bool, true, false, List, [], ◌∷◌, length, get_or, map, Option, Some, None, ℤ, refl, sym, ap, ◌∙◌, option_map, arith}
 use Rattle.stk_tree.specs.declared.statement.Section.{Section}
 use Rattle.stk_tree.specs.Syntax.{LabelTrees, SectionTree, SectionTrees}
 use Rattle.stk_tree.specs.Syntax as s
 use Rattle.stk_tree.specs.View.{view_section, sections}
 use Rattle.stk_meaning.specs.Places.{Setting}
-use Rattle.stk_meaning.specs.Worlds.{Ran, World, gives, next, Flow, Normal}
+use Rattle.stk_meaning.specs.Worlds.{World, gives, next, Normal}
 use Rattle.stk_meaning.specs.Statements.{labels_of, sections_before, sections_run, section_run}
 
 -- what is left from the first place on is all

@@ -1,5 +1,5 @@
 -- Registers that are saved before a scope, and given back behind it.
-use Rattle.std.proofs.Common.{◌≡◌, ℕ, List, [], ◌∷◌, ◌++◌, ℤ, set, refl, sym, ap, ◌∙◌}
+use Rattle.std.proofs.Common.{◌≡◌, ℕ, List, [], ◌∷◌, ◌++◌, ℤ, set, refl, ap}
 use Rattle.stk_meaning.specs.Worlds.{restored, register}
 use Rattle.stk_exec_stmt.specs.declared.scopes.Saved.{Saved}
 use Rattle.stk_exec_stmt.specs.Saved.{saved_of, given_back}

@@ -6,7 +6,7 @@ use Rattle.stk_tree.specs.declared.statement.Part.{Part, Part-F, fold-roll-Part}
 use Rattle.stk_tree.specs.declared.statement.Part.TheVariants as part
 use Rattle.stk_tree.specs.declared.statement.Section.{Section, out-Section, fold_out-Section}
 use Rattle.stk_tree.specs.declared.statement.Stmt.{Stmt, out-Stmt, fold_out-Stmt}
-use Rattle.stk_tree.specs.declared.statement.StmtForm.{StmtForm, StmtForm-F, fold-roll-StmtForm}
+use Rattle.stk_tree.specs.declared.statement.StmtForm.{StmtForm-F, fold-roll-StmtForm}
 use Rattle.stk_tree.specs.declared.statement.StmtForm.TheVariants as form
 use Rattle.stk_tree.specs.Syntax.{PartTree, StmtFormTree, SectionTree, StmtTree}
 use Rattle.stk_tree.specs.Syntax as s

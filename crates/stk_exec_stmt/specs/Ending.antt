@@ -1,14 +1,14 @@
 -- How turns and scopes of the code end among those of runs, and the end of an automatic object's declarator.
-use Rattle.std.specs.Prelude.{ℕ, Bool, true, false, if◌then◌else◌, Option, Some, None, List, ℤ}
+use Rattle.std.specs.Prelude.{◌≡◌, ◌<◌, ◌⊎◌, ◌++◌, length, ℕ, Bool, true, false, if◌then◌else◌, Option, Some, None, List, ℤ}
 use Rattle.stk_tree.specs.Syntax.{StmtTree, StmtFormTree}
 use Rattle.stk_tree.specs.Syntax as s
 use Rattle.stk_type_rules.specs.Types.{is_scalar}
+use Rattle.stk_meaning.specs.declared.entry.Entry.{Entry}
 use Rattle.stk_meaning.specs.Places.{Setting}
 use Rattle.stk_meaning.specs.Worlds as worlds
 use Rattle.stk_meaning.specs.Worlds.{Ran, World, written}
 use Rattle.stk_meaning.specs.Declarations.{begun_with}
 use Rattle.stk_eval_expr.specs.declared.state.Flow.{Flow}
-use Rattle.stk_eval_expr.specs.declared.state.Flow.TheVariants as flow
 use Rattle.stk_eval_expr.specs.Shown.{flow_shown}
 
 -- a turn that asks for another one has no flow
@@ -44,3 +44,13 @@ loop_end worlds.Return = Some worlds.Return
 -- the initialiser of an automatic object is stored in a scalar; the outside writes an array or a struct
 abbrev pub automatic_end : {S : Type 0} → Setting → World S → ℕ → ℤ → List ℤ → S → Ran worlds.Flow S
 automatic_end g w k x r m = if is_scalar (g.typing.type_at k) then begun_with g w k x r m else written worlds.Normal (w.write m) r
+
+-- how a run ends; one that is cut has no flow
+abbrev pub flow_of : {S : Type 0} → Ran worlds.Flow S → Option worlds.Flow
+flow_of (worlds.Went flow r m t) = Some flow
+flow_of (worlds.Cut t) = None
+
+-- entries are those of a whole run, with how it ends; or they are more than there may be, and the run begins with them
+abbrev pub RunsTo : {S : Type 0} → Ran worlds.Flow S → ℕ → List Entry → Option worlds.Flow → Type 0
+RunsTo run most entries flow =
+    ((entries ≡ worlds.trace_of run) × (flow ≡ flow_of run)) ⊎ ((most < length entries) × ((rest : List Entry) × (entries ++ rest ≡ worlds.trace_of run)))

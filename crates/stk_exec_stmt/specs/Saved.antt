@@ -1,5 +1,5 @@
 -- Registers with their numbers before a scope.
-use Rattle.std.specs.Prelude.{ℕ, List, [], ◌∷◌, map, ℤ, set}
+use Rattle.std.specs.Prelude.{ℕ, List, [], ◌∷◌, ℤ, set}
 use Rattle.stk_meaning.specs.Worlds.{register}
 use Rattle.stk_exec_stmt.specs.declared.scopes.Saved.{Saved}
 

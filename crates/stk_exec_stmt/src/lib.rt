@@ -9,5 +9,5 @@ mod scopes;
 mod statements;
 
 pub use choosing::default_at;
-pub use running::run_body;
+pub use running::{BodyRun, bounded_run, run_body};
 pub use statements::statement;

@@ -92,6 +92,7 @@ pub(crate) fn begin_loop<W: World>(out: &W, whole: &Stmt, state: &mut State<W::K
     ensures kept { W.shown state.new.kept ≡ (W.world out.now).forget (forgotten_in (W.setting out.now) (form_of (view_statement whole.now))) (W.shown state.old.kept) }
     ensures cut { state.new.cut ≡ state.old.cut }
     ensures entries { state.new.entries.items ≡ state.old.entries.items }
+    ensures most { state.new.most ≡ state.old.most }
 {
     let node = whole.node.number;
     out.reset(node, &whole.form, &mut state.registers);

@@ -1,4 +1,4 @@
-//! Tests of the way from a text to accepted units: tokens, units, trees and declarations.
+//! Tests of the way from a text to accepted units: tokens, units, the trees that are read, and declarations.
 //!
 //! They stand in a crate of their own, so that the crates with those calls are proved once and not a second time with
 //! tests.
@@ -16,19 +16,5 @@ mod reading_expressions;
 mod reading_statements;
 #[cfg(test)]
 mod reading_texts;
-#[cfg(test)]
-mod tree_declarations;
-#[cfg(test)]
-mod tree_expressions;
-#[cfg(test)]
-mod tree_layout;
-#[cfg(test)]
-mod tree_maker;
-#[cfg(test)]
-mod tree_printed;
-#[cfg(test)]
-mod tree_statements;
-#[cfg(test)]
-mod tree_units;
 #[cfg(test)]
 mod units;

@@ -1,5 +1,5 @@
 -- Numbers of the kinds as bytes.
-use Rattle.std.proofs.Common.{◌≡◌, ℕ, zero, suc, ◌<◌, ◌+◌, ◌-◌, ◌^◌, ◌%◌, Bool, true, false, ℤ, pos, refl, sym, ap, ◌∙◌, subst, arith}
+use Rattle.std.proofs.Common.{◌≡◌, ℕ, zero, suc, ◌<◌, ◌^◌, ◌%◌, Bool, true, false, pos, refl, sym, ap, ◌∙◌, arith}
 use Rattle.std.proofs.Math.Nat.{mod-eq_of_lt}
 use Rattle.std.specs.Prelude.{nat_eq, if◌then◌else◌}
 use Rattle.std.specs.Ordering.{int_eq}
@@ -7,8 +7,7 @@ use Rattle.std.proofs.lemmas.Bool.Decides.{nat_tests}
 use Rattle.stk_ctype.specs.declared.kind.IntKind.{IntKind}
 use Rattle.stk_ctype.specs.declared.kind.IntKind.TheVariants as kind
 use Rattle.stk_ctype.specs.Kinds.{bytes_of}
-use Rattle.stk_numbers.specs.Kinds.{wrap, width_of, residue, is_signed, is_bool, decoded}
-use Rattle.stk_numbers.proofs.Wrapping.{wrap_congruent}
+use Rattle.stk_numbers.specs.Kinds.{wrap, decoded}
 use Rattle.stk_meaning.specs.Memory.{shown}
 
 low : (s : Bool) (w n : ℕ) → n < 2 ^ w → decoded s w (n % 2 ^ w) ≡ decoded s w n

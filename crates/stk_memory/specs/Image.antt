@@ -1,5 +1,5 @@
 -- What a memory of the code is: its cells, and one byte everywhere else.
-use Rattle.std.specs.Prelude.{◌≡◌, ℕ, ◌^◌, ◌%◌, List, [], ◌∷◌, Option, Some, None, unwrap_or, nat_eq, if◌then◌else◌}
+use Rattle.std.specs.Prelude.{◌≡◌, ℕ, ◌^◌, ◌%◌, List, [], ◌∷◌, unwrap_or, nat_eq, if◌then◌else◌}
 use Rattle.indexmap.specs.IndexMap.{get}
 use Rattle.stk_memory.specs.declared.image.Cell.{Cell}
 use Rattle.stk_memory.specs.declared.image.MemoryImage.{MemoryImage}

@@ -1,6 +1,6 @@
-//! Numbers that are stored and read back.
+//! Numbers that are stored and read back; cells at addresses that differ.
 
-use crate::{Bytes, Cell, MemoryImage};
+use crate::{Bytes, Cell, MemoryImage, are_apart};
 use std::test::Fail;
 use stk_base::List;
 use stk_ctype::IntKind;
@@ -90,5 +90,42 @@ fn cells_are_the_memory(rt: HostRuntime) -> Result<(), Fail> {
     assert!(rt; memory.number_at(IntKind::Int, u64::MAX) == 513);
     memory.put_all(&[Cell { at: 1, byte: 3 }, Cell { at: 1, byte: 4 }])?;
     assert!(rt; memory.number_at(IntKind::Int, u64::MAX) == 262_657);
+    Ok(())
+}
+
+/// Addresses of cells, and whether they all differ.
+struct Addresses {
+    all: &'static [u64],
+    are_apart: bool,
+}
+
+static ADDRESSES: [Addresses; 4] = [
+    Addresses {
+        all: &[],
+        are_apart: true,
+    },
+    Addresses {
+        all: &[0, u64::MAX, 7],
+        are_apart: true,
+    },
+    Addresses {
+        all: &[7, 8, 7],
+        are_apart: false,
+    },
+    Addresses {
+        all: &[u64::MAX, 3, 4, 4],
+        are_apart: false,
+    },
+];
+
+#[test]
+fn addresses_that_differ_are_apart(rt: HostRuntime) -> Result<(), Fail> {
+    for addresses in &ADDRESSES {
+        let mut cells = Vec::new(rt.alloc());
+        for at in addresses.all {
+            cells.push(Cell { at: *at, byte: 5 })?;
+        }
+        assert!(rt; are_apart(rt.alloc(), cells.as_slice())? == addresses.are_apart);
+    }
     Ok(())
 }

@@ -18,4 +18,5 @@ pub use loop_rows::{LoopRow, LoopRows, LoopSlot};
 pub use mapped::MappedFunction;
 pub use running::path_run;
 pub use slots::Slots;
+pub use starting::start_registers;
 pub use tables::FunctionTables;

@@ -50,7 +50,7 @@ fn set_parameters(out: &MappedFunction, list: &[Param], registers: &mut Vec<Word
 
 /// The registers at the start of a path run, by the numbers of their declarators, all of which are below the number of
 /// the body: those of parameters have their numbers of the input map, the others 0.
-pub(crate) fn start_registers(
+pub fn start_registers(
     alloc: Global,
     out: &MappedFunction,
     f: &Function,

@@ -17,9 +17,9 @@ use stk_lex::Places;
 use stk_nodes::unit_nodes;
 use stk_numbers::{CandKind, Candidate, Condition, Kinds};
 use stk_path_runs::input_bits;
+use stk_spelling::{key_texts, names_of};
 use stk_tree::{Function, Unit};
 use stk_typed::{Untyped, typed_of};
-use stk_unit_lines::{key_texts, names_of};
 use stk_weights::weight_of;
 
 /// No kind is taken out.

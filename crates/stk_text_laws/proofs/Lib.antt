@@ -6,7 +6,6 @@ pub mod Flat
 pub mod Levels
 pub mod Alike
 pub mod Exists
-pub mod Accepted
 pub mod Unique
 pub mod Listed
 pub mod Items

@@ -18,7 +18,7 @@ use Rattle.stk_units.specs.Pieces.{body_of_piece, tokens_of_piece}
 use Rattle.stk_lint.specs.Candidates.{AreCandidates, of_no_unit, of_unit, AreInputCandidates, IsInputScript, HasFewCandidates}
 use Rattle.stk_lint.proofs.Found.{candidates_exist}
 use Rattle.stk_text_laws.proofs.Cutting.{cut_of}
-use Rattle.stk_text_laws.proofs.Accepted.{one_tree, one_left, not_both, one_accepted}
+use Rattle.stk_accept_laws.proofs.Accepted.{one_tree, one_left, not_both, one_accepted}
 use Rattle.stk_text_laws.proofs.Unique.{not_none, one_definition, one_function, same_cause}
 
 -- the same candidates and names

@@ -36,7 +36,7 @@ use Rattle.stk_units.specs.Counted.{status_of}
 use Rattle.stk_units.specs.Pieces.{body_of_piece, tokens_of_piece}
 use Rattle.stk_units.specs.Said.{no_unit, then_unit}
 use Rattle.stk_lint.specs.LawfulText.{AreUnitsLines, IsLawfulText}
-use Rattle.stk_text_laws.proofs.Accepted.{one_tree, one_left, not_both, one_accepted, one_cause}
+use Rattle.stk_accept_laws.proofs.Accepted.{one_tree, one_left, not_both, one_accepted, one_cause}
 
 -- ---- functions and their causes
 

@@ -18,7 +18,7 @@ use Rattle.stk_wide_judge.specs.Wide.{AskedFunction, IsPlaced}
 use Rattle.stk_findings.specs.Searched.{searched_subject}
 use Rattle.stk_records.specs.declared.counts.Counts.{Counts}
 use Rattle.stk_records.specs.declared.line.Line.{Line}
-use Rattle.stk_unit_lines.specs.Placed.{placed_in}
+use Rattle.stk_spelling.specs.Placed.{placed_in}
 use Rattle.stk_unit_lines.specs.Lines.{findings_lines}
 use Rattle.stk_unit_lines.specs.Functions.{function_keys}
 use Rattle.stk_unit_lines.specs.Parts.{IsJudged, AreFindingLines}

@@ -1,5 +1,3 @@
-pub mod Naming
-pub mod Telling
 pub mod Made
 pub mod Typed
 pub mod Exists

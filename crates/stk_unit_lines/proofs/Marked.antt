@@ -16,7 +16,7 @@ use Rattle.stk_records.specs.declared.line.Cause.{Cause}
 use Rattle.stk_spent_queries.specs.Marks.{open_mark, open_count, marks, all_marks, AreCounted}
 use Rattle.stk_spent_queries.proofs.Counting.{counted_none}
 use Rattle.stk_unit_lines.specs.Parts.{IsSkipLine}
-use Rattle.stk_unit_lines.specs.Placed.{Placed}
+use Rattle.stk_spelling.specs.Placed.{Placed}
 use Rattle.stk_unit_lines.specs.Lines.{start_of, needed_of, finding_lines, findings_lines}
 use Rattle.stk_unit_lines.specs.Marks.{shown_mark, needed_marks, line_marks, lines_marks}
 

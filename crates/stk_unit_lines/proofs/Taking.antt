@@ -19,7 +19,7 @@ use Rattle.stk_records.specs.declared.line.Line.{Line}
 use Rattle.stk_records.specs.Counts.{AreBelow}
 use Rattle.stk_records.specs.Form.{written_records}
 use Rattle.stk_records.proofs.Written.{nothing_appended, prefix_more, prefix_of, written_append, written_none, lines_more}
-use Rattle.stk_unit_lines.specs.Placed.{Placed}
+use Rattle.stk_spelling.specs.Placed.{Placed}
 use Rattle.stk_unit_lines.specs.Lines.{finding_lines, findings_lines}
 use Rattle.stk_unit_lines.specs.Marks.{lines_marks}
 use Rattle.stk_units.specs.Counted.{one_judged, one_skipped}

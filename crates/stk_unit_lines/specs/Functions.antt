@@ -5,9 +5,9 @@ use Rattle.stk_nodes.specs.Rows.{unit_row}
 use Rattle.stk_numbers.specs.declared.conditions.Kinds.{Kinds}
 use Rattle.stk_meaning.specs.Typings.{Typing}
 use Rattle.stk_meaning.specs.Keys.{keys_of}
-use Rattle.stk_unit_lines.specs.Placed.{Placed}
-use Rattle.stk_unit_lines.specs.Named.{names_of}
-use Rattle.stk_unit_lines.specs.Texts.{key_text}
+use Rattle.stk_spelling.specs.Placed.{Placed}
+use Rattle.stk_spelling.specs.Named.{names_of}
+use Rattle.stk_spelling.specs.Texts.{key_text}
 
 -- where the nodes of a unit stand
 abbrev pub unit_placed : List ℕ → UnitTree → Placed

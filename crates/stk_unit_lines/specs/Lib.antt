@@ -1,8 +1,3 @@
-pub mod Placed
-pub mod Named
-pub mod Texts
-pub mod Replaced
-pub mod Given
 pub mod Lines
 pub mod Functions
 pub mod UnitLines

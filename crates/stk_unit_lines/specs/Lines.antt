@@ -1,46 +1,22 @@
 -- The lines of findings: what is claimed of a candidate, where it stands, and the starts that show it.
-use Rattle.std.specs.Prelude.{ℕ, List, [], ◌∷◌, ◌++◌, map, Some, None, ℤ}
+use Rattle.std.specs.Prelude.{ℕ, List, [], ◌∷◌, ◌++◌, map}
 use Rattle.std.specs.Option.{option_map}
-use Rattle.stk_base.specs.Text.{text_of}
-use Rattle.stk_tree.specs.Syntax.{DeclrTree, FunctionTree}
-use Rattle.stk_tree.specs.Syntax as s
-use Rattle.stk_numbers.specs.declared.conditions.CandKind.{CandKind}
-use Rattle.stk_numbers.specs.declared.conditions.CandKind.TheVariants.{Arm, AlwaysTrue, AlwaysFalse, Algebra}
+use Rattle.stk_tree.specs.Syntax.{FunctionTree}
 use Rattle.stk_numbers.specs.declared.conditions.Candidate.{Candidate}
 use Rattle.stk_numbers.specs.declared.conditions.Inputs.{Inputs}
 use Rattle.stk_meaning.specs.Typings.{Typing}
 use Rattle.stk_meaning.specs.Keys.{head_of}
-use Rattle.stk_unit_lines.specs.Placed.{Placed, span_at}
+use Rattle.stk_spelling.specs.Placed.{Placed}
+use Rattle.stk_spelling.specs.Claims.{node_spot, claim_by, declarator_name}
 use Rattle.stk_meaning.specs.declared.finding.Finding.{Finding}
 use Rattle.stk_meaning.specs.declared.finding.Finding.TheVariants as finding
 use Rattle.stk_meaning.specs.declared.finding.Need.{Need}
-use Rattle.stk_records.specs.declared.line.Spot.{Spot}
-use Rattle.stk_records.specs.declared.line.Claim.{Claim}
-use Rattle.stk_records.specs.declared.line.Claim.TheVariants.{NeverEntered, AlwaysTrue as IsAlwaysTrue, AlwaysFalse as IsAlwaysFalse, SameAs}
 use Rattle.stk_records.specs.declared.line.Fragment.{Fragment}
 use Rattle.stk_records.specs.declared.line.StartInputs.{StartInputs}
 use Rattle.stk_records.specs.declared.line.Needed.{Needed}
 use Rattle.stk_records.specs.declared.line.Line.{Line}
 use Rattle.stk_records.specs.declared.line.Line.TheVariants.{Unstable, Undecided}
 use Rattle.stk_records.specs.Text.{inputs_of}
-use Rattle.stk_units.specs.Spots.{spot_at}
-use Rattle.stk_unit_lines.specs.Replaced.{replaced_at}
-
--- where a node begins
-abbrev pub node_spot : Placed → ℕ → Spot
-node_spot q k = spot_at q.bytes (span_at q k).from
-
--- what is claimed of a candidate
-abbrev pub claim_by : Typing → FunctionTree → ℕ → CandKind → Claim
-claim_by ty f k Arm = NeverEntered
-claim_by ty f k AlwaysTrue = IsAlwaysTrue
-claim_by ty f k AlwaysFalse = IsAlwaysFalse
-claim_by ty f k Algebra = SameAs (replaced_at ty f k)
-
--- the name of a function
-abbrev pub declarator_name : List ℕ → DeclrTree → List ℕ
-declarator_name bytes (s.declarator n count (Some at) tail init) = text_of bytes at
-declarator_name bytes (s.declarator n count None tail init) = []
 
 -- a candidate of a function
 abbrev pub fragment_of : Placed → Typing → FunctionTree → Candidate → Fragment

@@ -9,7 +9,7 @@ use Rattle.stk_meaning.specs.Typings.{Typing}
 use Rattle.stk_meaning.specs.declared.finding.Finding.{Finding}
 use Rattle.stk_meaning.specs.Findings.{Subject, AreLawful}
 use Rattle.stk_unit_lines.specs.Lines.{findings_lines}
-use Rattle.stk_unit_lines.specs.Placed.{Placed}
+use Rattle.stk_spelling.specs.Placed.{Placed}
 use Rattle.stk_records.specs.declared.counts.Counts.{Counts}
 use Rattle.stk_records.specs.declared.line.Cause.{Cause}
 use Rattle.stk_records.specs.declared.line.Line.{Line}

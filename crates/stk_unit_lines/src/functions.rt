@@ -12,13 +12,13 @@ ghost use Rattle.stk_function_types.specs.Nodes.{typing_in};
 ghost use Rattle.stk_function_types.specs.Visits.{marked_visit, marked_visits};
 ghost use Rattle.stk_findings.specs.Searched.{subject_searched, IsSearchable};
 ghost use Rattle.stk_weights.specs.Units.{IsSettingOfFunction};
-ghost use Rattle.stk_unit_lines.specs.Placed.{placed_in};
+ghost use Rattle.stk_spelling.specs.Placed.{placed_in};
 ghost use Rattle.stk_units.specs.Known.{IsTypedFunction};
 ghost use Rattle.stk_unit_lines.specs.Parts.{IsJudged, AreFindingLines};
 ghost use Rattle.stk_unit_lines.specs.Wrote.{Wrote, HasStopped};
 
+use crate::LintedFile;
 use crate::lines::{Told, write_finding};
-use crate::{LintedFile, key_texts, names_of};
 use stk_base::Sink;
 use stk_cands::{candidates, conditions};
 use stk_findings::{Judge, Queries, SearchedFunction, all_maps};
@@ -27,6 +27,7 @@ use stk_function_types::function_visits;
 use stk_path_runs::FunctionTables;
 use stk_query::{Decider, MOST_BUDGET};
 use stk_records::{Counts, Stop};
+use stk_spelling::{key_texts, names_of};
 use stk_tree::Function;
 use stk_units::{one_function, with_finding};
 

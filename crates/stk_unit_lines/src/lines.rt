@@ -4,7 +4,6 @@ ghost use Rattle.std.specs.Prelude.{◌≡◌, ◌≤◌, Err, IfOk, OnOk, OnErr
 ghost use Rattle.std.specs.Option.{option_map};
 ghost use Rattle.stk_base.specs.Causes.{Rose};
 ghost use Rattle.stk_base.specs.Streams.{Appended, AppendedPrefix};
-ghost use Rattle.stk_base.specs.Text.{text_of};
 ghost use Rattle.stk_records.specs.Form.{written_records};
 ghost use Rattle.stk_records.specs.Text.{inputs_of};
 ghost use Rattle.stk_records.specs.declared.line.Line.TheVariants as lines;
@@ -12,20 +11,20 @@ ghost use Rattle.stk_tree.specs.View.{view_declarator, view_function};
 ghost use Rattle.stk_meaning.specs.Keys.{function_visits};
 ghost use Rattle.stk_function_types.specs.Nodes.{typing_in};
 ghost use Rattle.stk_function_types.specs.Visits.{marked_visit, marked_visits};
-ghost use Rattle.stk_unit_lines.specs.Placed.{placed_in};
-ghost use Rattle.stk_unit_lines.specs.Lines.{node_spot, claim_by, declarator_name, fragment_of, start_of, needed_of, finding_lines};
+ghost use Rattle.stk_spelling.specs.Placed.{placed_in};
+ghost use Rattle.stk_spelling.specs.Claims.{declarator_name};
+ghost use Rattle.stk_unit_lines.specs.Lines.{fragment_of, start_of, needed_of, finding_lines};
 
 use crate::LintedFile;
-use crate::replaced::replaced_at;
 use std::alloc::Global;
 use stk_base::{List, NoMemory, Sink};
 use stk_function_types::{FunctionTypes, Visit};
 use stk_lex::Places;
 use stk_meaning::{Finding, Need};
-use stk_numbers::{CandKind, Candidate, Inputs};
-use stk_records::{Claim, Fragment, Input, Line, Needed, Spot, StartInputs, Stop, write_record};
+use stk_numbers::{Candidate, Inputs};
+use stk_records::{Fragment, Input, Line, Needed, StartInputs, Stop, write_record};
+use stk_spelling::{claim_by, node_spot};
 use stk_tree::{Declr, Function};
-use stk_units::spot_at;
 
 /// What the lines of a function's findings tell of it: its input, its types, itself, its visits, and how its keys are
 /// spelled.
@@ -44,41 +43,6 @@ fn text_list(alloc: Global, text: &[u8]) -> Result<List<u8>, NoMemory>
 {
     let list = Vec::from_slice(alloc, text)?;
     Ok(List::from_vec(list))
-}
-
-// Where a node begins.
-fn node_spot(
-    alloc: Global,
-    input: &Places,
-    types: &FunctionTypes,
-    node: u32,
-) -> Result<Spot, NoMemory>
-    requires { input.now ≡ types.now.bytes }
-    ensures { IfOk result (λ spot. spot ≡ node_spot (placed_in types.now) node) }
-{
-    spot_at(alloc, input, types.node_span(node).from)
-}
-
-// What is claimed of a candidate.
-fn claim_by(
-    alloc: Global,
-    types: &FunctionTypes,
-    function: &Function,
-    visits: &[Visit],
-    candidate: Candidate,
-) -> Result<Claim, NoMemory>
-    requires { map marked_visit visits.now ≡ marked_visits true (function_visits (typing_in types.now) (view_function function.now)) }
-    ensures { IfOk result (λ claim. claim ≡ claim_by (typing_in types.now) (view_function function.now) candidate.node candidate.kind) }
-{
-    match candidate.kind {
-        CandKind::Arm => Ok(Claim::NeverEntered),
-        CandKind::AlwaysTrue => Ok(Claim::AlwaysTrue),
-        CandKind::AlwaysFalse => Ok(Claim::AlwaysFalse),
-        CandKind::Algebra => {
-            let text = replaced_at(alloc, types, visits, candidate.node)?;
-            Ok(Claim::SameAs(List::from_vec(text)))
-        }
-    }
 }
 
 // The name of a declarator.

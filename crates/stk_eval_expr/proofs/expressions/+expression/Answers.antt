@@ -1,28 +1,31 @@
-use Rattle.std.proofs.Common.{◌≡◌, ◌+◌, ◌++◌, ◌∷◌, [], List, ℤ, true, false, not, pos, Some, None, map, drop, sym, ap, subst, ◌∙◌, refl, append_assoc, arith, option_map}
+use Rattle.std.proofs.Common.{◌≡◌, ℕ, negsuc, ◌-ℤ◌, ◌+◌, ◌++◌, ◌∷◌, [], List, ℤ, true, false, not, pos, Some, None, map, drop, sym, ap, subst, ◌∙◌, refl, append_assoc, arith, option_map}
 use Rattle.std.proofs.lemmas.List.{append-nil, drop_all}
 use Rattle.stk_ctype.specs.Types.{TypeTrees, type_of, row_of}
 use Rattle.stk_tree.specs.View.{view_expression, expressions}
 use Rattle.stk_tree.specs.declared.expression.UnaryOp.TheVariants as unary
 use Rattle.stk_tree.specs.Syntax as s
 use Rattle.stk_tree.specs.Syntax.{ExprTree, ExprFormTree}
+use Rattle.stk_tree.specs.Parts.{bare}
 use Rattle.std.proofs.lemmas.Result.{IfOk-weaker}
-use Rattle.stk_numbers.specs.Kinds.{wrap}
-use Rattle.stk_meaning.specs.Typings.{type_in, node_of, converted}
-use Rattle.stk_meaning.specs.Operations.{Operation, BinarySort, operates, comparing, sort_of, operation_of, operation_tests, assigned_operator, to_address}
+use Rattle.stk_numbers.specs.Kinds.{wrap, promote}
+use Rattle.stk_meaning.specs.declared.entry.Entry.TheVariants.{Enter}
+use Rattle.stk_meaning.specs.Typings.{type_in, node_of, converted, number_kind, is_array}
+use Rattle.stk_meaning.specs.Operations.{Operation, BinarySort, operates, and_also, comparing, sort_of, operation_of, operation_tests, assigned_operator, to_address, truth, bit}
 use Rattle.stk_meaning.specs.Libraries.{called_signature, parameters_in}
 use Rattle.stk_meaning.specs.Conditions.{form_tests, binary_tests, assigned_tests}
 use Rattle.stk_meaning.specs.Replacements.{replacement}
-use Rattle.stk_meaning.specs.Places.{unnamed}
-use Rattle.stk_meaning.specs.Worlds.{Ran, and_then, Went}
-use Rattle.stk_meaning.specs.Expressions.{Sides, meaning, breaks, binary_meaning, arguments_values, branch_value, indexed_from, assigned_value}
+use Rattle.stk_meaning.specs.Places.{Target, target_of, unnamed}
+use Rattle.stk_meaning.specs.Worlds.{Ran, and_then, gives, Went}
+use Rattle.stk_meaning.specs.Expressions.{Sides, meaning, seen, breaks, binary_meaning, arguments_values, right_operand, branch_value, indexed_from, assigned_value}
 use Rattle.stk_operators.specs.Shown.{operator_shown, sort_shown, operation_shown}
+use Rattle.stk_operators.specs.Targets.{target_shown}
 use Rattle.stk_eval_expr.specs.Shown.{sides_shown}
-use Rattle.stk_eval_expr.specs.Leaving.{Leaves, from, value_run, place_run, test_run}
-use Rattle.stk_eval_expr.specs.Parts.{step_end, call_end, plain_end, compound_end}
-use Rattle.stk_eval_expr.proofs.LeavingLaws.{then_leaves, value_leaves, same_leaves}
+use Rattle.stk_eval_expr.specs.Leaving.{Leaves, Adds, from, value_run, place_run, test_run}
+use Rattle.stk_eval_expr.specs.Parts.{place_end, step_end, call_end, plain_end, compound_end}
+use Rattle.stk_eval_expr.proofs.LeavingLaws.{then_leaves, after_leaves, adds_leaves, value_leaves, same_leaves}
 use Rattle.stk_eval_expr.proofs.Arms.{operated_sides, compared_leaves, plain_leaves, compound_leaves, placed_leaves, chosen_leaves, argument_leaves, next_of, one_value}
 use Rattle.stk_eval_expr.proofs.Alone.{sides_alone}
-use Rattle.stk_eval_expr.proofs.Views.{at_cast, at_step, at_choice, at_call, at_arrow, at_index}
+use Rattle.stk_eval_expr.proofs.Views.{at_dot, at_cast, at_step, at_choice, at_call, at_arrow, at_index}
 use Rattle.stk_eval_expr.proofs.expressions.+expression.Goals as goal
 
 pub assigned_value-returns-in-None : goal.assigned_value-returns-in-None
@@ -262,3 +265,149 @@ arguments-returns g t c =
     let none : drop c.loop-e.e-index c.args.list.now ≡ [] = drop_all c.loop-e.e-index c.args.list.now (omega arith) in
     same_leaves R (c.loop-e.numbers.items ++ []) c.loop-e.numbers.items c.args.state.now c.loop-e.state (append-nil c.loop-e.numbers.items)
     (c.loop-e.invariant [] c.loop-e.state (rw none (value_leaves [] [] c.loop-e.state refl)))
+
+pub tested-returns : goal.tested-returns
+tested-returns g t c =
+    let G = g.W.RunSetting.setting c.args.out.now in
+    let W = g.W.World.world c.args.out.now in
+    let shown = g.W.World.shown in
+    let e = view_expression c.args.e.now in
+    let n = c.in_ok-n.n in
+    let s0 = c.args.state.now in
+    let s1 = c.value.new.state in
+    let s2 = c.see.new.state in
+    then_leaves (value_run shown G W e s0) (λ x r m. Went x r m (seen (bare e) x)) n n s0 s1 s2 c.in_ok-n.ensures (adds_leaves (seen (bare e) n) n n s1 s2 c.in_ok-see.ensures refl)
+
+pub right_operand-returns : goal.right_operand-returns
+right_operand-returns g t c =
+    let G = g.W.RunSetting.setting c.args.out.now in
+    let W = g.W.World.world c.args.out.now in
+    let shown = g.W.World.shown in
+    let e = view_expression c.args.e.now in
+    let n = c.in_ok-n.n in
+    let v = c.bit.result in
+    let s0 = c.args.state.now in
+    let s1 = c.push.new.self in
+    let s2 = c.value.new.state in
+    let adds = subst (λ (k : ℕ). Adds (Enter k ∷ []) s0 s1) c.node_of.ensures c.in_ok-push.ensures in
+    after_leaves (Enter (node_of e) ∷ []) (λ r m. and_then ((meaning G W e).value r m) (λ y. gives (bit (truth y)))) v s0 s1 s2 adds
+    (one_value (value_run shown G W e s1) (λ y. bit (truth y)) n v s1 s2 (c.bit.ensures ∙ ap bit c.is_true.ensures) c.in_ok-n.ensures)
+
+pub branch-returns : goal.branch-returns
+branch-returns g t c =
+    let G = g.W.RunSetting.setting c.args.out.now in
+    let W = g.W.World.world c.args.out.now in
+    let shown = g.W.World.shown in
+    let e = view_expression c.args.e.now in
+    let n = c.in_ok-n.n in
+    let v = c.to_kind.result in
+    let s0 = c.args.state.now in
+    let s1 = c.push.new.self in
+    let s2 = c.value.new.state in
+    let adds = subst (λ (k : ℕ). Adds (Enter k ∷ []) s0 s1) c.node_of.ensures c.in_ok-push.ensures in
+    after_leaves (Enter (node_of e) ∷ []) (λ r m. and_then ((meaning G W e).value r m) (λ y. gives (converted (G.typing.type_at c.args.k) y))) v s0 s1 s2 adds
+    (one_value (value_run shown G W e s1) (λ y. converted (G.typing.type_at c.args.k) y) n v s1 s2 (c.to_kind.ensures ∙ ap (λ u. wrap u n) c.kind_at.ensures) c.in_ok-n.ensures)
+
+pub place-returns-in_ok-address-in-Dot : goal.place-returns-in_ok-address-in-Dot
+place-returns-in_ok-address-in-Dot g t c =
+    let G = g.W.RunSetting.setting c.args.out.now in
+    let W = g.W.World.world c.args.out.now in
+    let shown = g.W.World.shown in
+    let x = view_expression c.get-x.result.now in
+    let name = c.in-Dot.name in
+    let a = c.in_ok-address-in-Dot.address in
+    rw (at_dot c.args.e.now c.in-Dot.x name c.in-Dot.is, ← c.get-x.ensures)
+    (one_value (place_run shown G W x c.args.accessed c.args.state.now) (λ a. to_address (pos (a + G.typing.offset_of (type_in G.typing x) name))) a c.member_place.result c.args.state.now c.place-in-Dot.new.state
+    (c.member_place.ensures ∙ ap (λ n. to_address (pos (a + G.typing.offset_of (G.typing.type_at n) name))) c.node_of.ensures) c.in_ok-address-in-Dot.ensures)
+
+pub place_value-returns : goal.place_value-returns
+place_value-returns g t c =
+    let G = g.W.RunSetting.setting c.args.out.now in
+    let W = g.W.World.world c.args.out.now in
+    let shown = g.W.World.shown in
+    let e = view_expression c.args.e.now in
+    let k = node_of e in
+    let a = c.in_ok-address.address in
+    let v = c.place_number.result in
+    let s1 = c.place.new.state in
+    let s2 = c.place_number.new.state in
+    let q = subst (λ (n : ℕ). Leaves shown (place_end G W n (target_shown c.target_of.result) a s1.registers.items (shown s1.kept)) v s1 s2) c.node_of-k.ensures c.place_number.ensures in
+    let read = subst (λ (u : Target). Leaves shown (place_end G W k u a s1.registers.items (shown s1.kept)) v s1 s2) c.target_of.ensures q in
+    placed_leaves G W k (target_of G e) (meaning G W e).place (not c.is_array_at.result) a v c.args.state.now s1 s2
+    (ap not (c.is_array_at.ensures ∙ ap (λ n. is_array (G.typing.type_at n)) c.node_of-k.ensures)) c.in_ok-address.ensures read
+
+pub unary_value-returns-in_ok-n-in-Plus : goal.unary_value-returns-in_ok-n-in-Plus
+unary_value-returns-in_ok-n-in-Plus g t c =
+    let G = g.W.RunSetting.setting c.args.out.now in
+    let W = g.W.World.world c.args.out.now in
+    let shown = g.W.World.shown in
+    let e = view_expression c.args.e.now in
+    let n = c.in_ok-n-in-Plus.n in
+    let s0 = c.args.state.now in
+    rw c.in-Plus.is
+    (one_value (value_run shown G W e s0) (λ x. converted (G.typing.type_at c.args.k) x) n c.to_kind.result s0 c.value-in-Plus.new.state (c.to_kind.ensures ∙ ap (λ u. wrap u n) c.kind_at.ensures) c.in_ok-n-in-Plus.ensures)
+
+pub unary_value-returns-in_ok-n-in-Minus-2 : goal.unary_value-returns-in_ok-n-in-Minus-2
+unary_value-returns-in_ok-n-in-Minus-2 g t c =
+    let G = g.W.RunSetting.setting c.args.out.now in
+    let W = g.W.World.world c.args.out.now in
+    let shown = g.W.World.shown in
+    let e = view_expression c.args.e.now in
+    let s0 = c.args.state.now in
+    rw c.in-Minus.is
+    (then_leaves (value_run shown G W e s0) _ c.in_ok-n-in-Minus.n c.in_ok-n-in-Minus-2.n s0 c.value-in-Minus.new.state c.negated_number.new.state c.in_ok-n-in-Minus.ensures c.in_ok-n-in-Minus-2.ensures)
+
+pub unary_value-returns-in_ok-n-in-Flip : goal.unary_value-returns-in_ok-n-in-Flip
+unary_value-returns-in_ok-n-in-Flip g t c =
+    let G = g.W.RunSetting.setting c.args.out.now in
+    let W = g.W.World.world c.args.out.now in
+    let shown = g.W.World.shown in
+    let e = view_expression c.args.e.now in
+    let n = c.in_ok-n-in-Flip.n in
+    let s0 = c.args.state.now in
+    let kind_is = c.promote.ensures ∙ ap promote (c.kind_at-in-Flip.ensures ∙ ap (λ k. number_kind (G.typing.type_at k)) c.node_of.ensures) in
+    rw c.in-Flip.is
+    (one_value (value_run shown G W e s0) (λ x. wrap (promote (number_kind (type_in G.typing e))) (negsuc 0 -ℤ x)) n c.flipped.result s0 c.value-in-Flip.new.state (c.flipped.ensures ∙ ap (λ u. wrap u (negsuc 0 -ℤ n)) kind_is) c.in_ok-n-in-Flip.ensures)
+
+pub unary_value-returns-in_ok-n-in-Not : goal.unary_value-returns-in_ok-n-in-Not
+unary_value-returns-in_ok-n-in-Not g t c =
+    let G = g.W.RunSetting.setting c.args.out.now in
+    let W = g.W.World.world c.args.out.now in
+    let shown = g.W.World.shown in
+    let e = view_expression c.args.e.now in
+    let n = c.in_ok-n-in-Not.n in
+    let s0 = c.args.state.now in
+    rw c.in-Not.is
+    (one_value (value_run shown G W e s0) (λ x. bit (not (truth x))) n c.bit.result s0 c.value-in-Not.new.state (c.bit.ensures ∙ ap (λ b. bit (not b)) c.is_true.ensures) c.in_ok-n-in-Not.ensures)
+
+pub binary_value-returns-then-is_true-2 : goal.binary_value-returns-then-is_true-2
+binary_value-returns-then-is_true-2 g t c =
+    let G = g.W.RunSetting.setting c.args.out.now in
+    let W = g.W.World.world c.args.out.now in
+    let shown = g.W.World.shown in
+    let a = view_expression c.args.a.now in
+    let b = view_expression c.args.b.now in
+    let n = c.in_ok-n-in-AndAlso.n in
+    let s0 = c.args.state.now in
+    let s1 = c.tested-in-AndAlso.new.state in
+    let s2 = c.right_operand-then-is_true-2.new.state in
+    let sort : sort_of c.args.op ≡ and_also = sym c.sort_of.ensures ∙ ap sort_shown c.in-AndAlso.is in
+    IfOk-weaker c.right_operand-then-is_true-2.result (λ v. Leaves shown (from shown (right_operand (node_of b) (meaning G W b)) s1) v s1 s2) _
+    (λ v h. subst (λ (u : BinarySort). Leaves shown (from shown (binary_meaning G c.args.k c.args.op a b u (meaning G W a) (meaning G W b)).value s0) v s0 s2) (sym sort)
+    (chosen_leaves (test_run shown G W a s0) (right_operand (node_of b) (meaning G W b)) (gives (pos 0)) n true v s0 s1 s2 c.if-is_true-2.ensures c.in_ok-n-in-AndAlso.ensures h))
+    c.right_operand-then-is_true-2.ensures
+
+pub binary_value-returns-else-is_true-2 : goal.binary_value-returns-else-is_true-2
+binary_value-returns-else-is_true-2 g t c =
+    let G = g.W.RunSetting.setting c.args.out.now in
+    let W = g.W.World.world c.args.out.now in
+    let shown = g.W.World.shown in
+    let a = view_expression c.args.a.now in
+    let b = view_expression c.args.b.now in
+    let n = c.in_ok-n-in-AndAlso.n in
+    let v = c.bit-else-is_true-2.result in
+    let s0 = c.args.state.now in
+    let s1 = c.tested-in-AndAlso.new.state in
+    let sort : sort_of c.args.op ≡ and_also = sym c.sort_of.ensures ∙ ap sort_shown c.in-AndAlso.is in
+    subst (λ (u : BinarySort). Leaves shown (from shown (binary_meaning G c.args.k c.args.op a b u (meaning G W a) (meaning G W b)).value s0) v s0 s1) (sym sort)
+    (chosen_leaves (test_run shown G W a s0) (right_operand (node_of b) (meaning G W b)) (gives (pos 0)) n false v s0 s1 s1 c.if-is_true-2.ensures c.in_ok-n-in-AndAlso.ensures (value_leaves (pos 0) v s1 c.bit-else-is_true-2.ensures))

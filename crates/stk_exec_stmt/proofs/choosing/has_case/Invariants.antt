@@ -1,4 +1,4 @@
-use Rattle.std.proofs.Common.{◌≡◌, drop, length, map}
+use Rattle.std.proofs.Common.{◌≡◌, drop, map}
 use Rattle.stk_tree.specs.View.{view_label, labels}
 use Rattle.stk_meaning.specs.Statements.{has_case}
 use Rattle.stk_exec_stmt.proofs.choosing.has_case.Given as goal

@@ -1,4 +1,4 @@
-use Rattle.std.proofs.Common.{◌≡◌, sym, ap, ◌∙◌}
+use Rattle.std.proofs.Common.{sym, ap, ◌∙◌}
 use Rattle.stk_exec_stmt.specs.Saved.{given_back}
 use Rattle.stk_exec_stmt.proofs.Saving.{last_first}
 use Rattle.stk_exec_stmt.proofs.scopes.give_back.Goals as goal

@@ -1,4 +1,4 @@
-use Rattle.std.proofs.Common.{◌≡◌, ◌+◌, ◌++◌, drop, map, sym, ap, ◌∙◌, append_assoc}
+use Rattle.std.proofs.Common.{◌+◌, ◌++◌, drop, map, sym, ap, ◌∙◌, append_assoc}
 use Rattle.stk_tree.specs.View.{view_part, parts}
 use Rattle.stk_meaning.specs.Visits.{part_declares, parts_declare}
 use Rattle.stk_exec_stmt.specs.Saved.{saved_of}

@@ -4,6 +4,7 @@ use Rattle.std.proofs.lemmas.List.{drop_all}
 use Rattle.std.proofs.lemmas.Result.{IfOk-weaker}
 use Rattle.std.specs.Option.{option_copied}
 use Rattle.stk_ctype.specs.declared.kind.IntKind.{IntKind}
+use Rattle.stk_tree.specs.declared.statement.Section.{out-Section}
 use Rattle.stk_tree.specs.declared.statement.Stmt.{out-Stmt}
 use Rattle.stk_tree.proofs.statement.Part.TheLaws.{the_size as part_size}
 use Rattle.stk_tree.proofs.statement.Section.TheLaws.{the_size as section_size}
@@ -21,8 +22,8 @@ use Rattle.stk_meaning.specs.Expressions.{test_of}
 use Rattle.stk_meaning.specs.Statements.{statement_run, otherwise_run, statements_run, parts_run, part_run, section_run, sections_run, start_run, turned_body, while_turn, do_turn, loop_run, discarded_run, chosen, from_chosen}
 use Rattle.stk_eval_expr.specs.Shown.{flow_shown}
 use Rattle.stk_eval_expr.specs.Loops.{EachLoop, EachLoopOfOther, EachLoopOfStatements, EachLoopOfParts, EachLoopOfPart, EachLoopOfSections, EachLoopOfSection}
-use Rattle.stk_eval_expr.specs.Leaving.{Leaves, from, value_run, test_run}
-use Rattle.stk_eval_expr.proofs.LeavingLaws.{then_leaves, value_leaves, same_leaves}
+use Rattle.stk_eval_expr.specs.Leaving.{Leaves, Adds, from, value_run, test_run}
+use Rattle.stk_eval_expr.proofs.LeavingLaws.{then_leaves, after_leaves, value_leaves, same_leaves}
 use Rattle.stk_exec_stmt.specs.Ending.{turned_shown, form_of, past_switch, loop_end}
 use Rattle.stk_exec_stmt.specs.Saved.{given_back}
 use Rattle.stk_exec_stmt.proofs.Choices.{section_at, sections_end}
@@ -30,7 +31,7 @@ use Rattle.stk_exec_stmt.proofs.Depths.{element_below, in_section, in_part, in_b
 use Rattle.stk_exec_stmt.proofs.EachLoops.{of_part, of_section, of_statement}
 use Rattle.stk_exec_stmt.proofs.Flowing.{next_of, next_leaves, stop_leaves, tested_leaves, scope_leaves, entered_goes_on, entered_ends, left_leaves, begun_leaves, another_leaves, ended_leaves, spent_leaves}
 use Rattle.stk_exec_stmt.proofs.Saving.{restores}
-use Rattle.stk_exec_stmt.proofs.StatementViews.{at_block, at_expression_statement, at_if_statement, at_switch_statement, at_while_statement, at_do_statement, at_for_statement, at_break_statement, at_continue_statement, at_return_statement, at_run, at_section}
+use Rattle.stk_exec_stmt.proofs.StatementViews.{view_node, at_block, at_expression_statement, at_if_statement, at_switch_statement, at_while_statement, at_do_statement, at_for_statement, at_break_statement, at_continue_statement, at_return_statement, at_run, at_section}
 use Rattle.stk_exec_stmt.proofs.statements.+statement.Goals as goal
 
 pub statement-returns-in-Block : goal.statement-returns-in-Block
@@ -112,7 +113,7 @@ block-returns g t c =
     let s1 = c.parts.new.state in
     let old = s0.registers.items in
     scope_leaves ks old (from shown (parts_run G W ps) s0) (flow_shown c.in_ok-flow.flow) s0 s1 (record s1 { registers = c.give_back.new.registers }) c.in_ok-flow.ensures refl
-    (c.give_back.ensures ∙ ap (λ z. given_back z s1.registers.items) c.in_ok-saved.ensures ∙ restores ks old s1.registers.items) refl refl
+    (c.give_back.ensures ∙ ap (λ z. given_back z s1.registers.items) c.in_ok-saved.ensures ∙ restores ks old s1.registers.items) refl refl refl
 
 pub parts-loop-p-preserved : goal.parts-loop-p-preserved
 parts-loop-p-preserved g t c =
@@ -159,7 +160,7 @@ for_loop-returns g t c =
     let v = flow_shown c.in_ok-flow.flow in
     let inner = then_leaves (from shown (start_run G W first) s0) (λ flow. runs) Normal v s0 s1 s2 c.in_ok-start.ensures c.in_ok-flow.ensures in
     scope_leaves ks old (and_then (from shown (start_run G W first) s0) (λ flow. runs)) v s0 s2 (record s2 { registers = c.give_back.new.registers }) inner refl
-    (c.give_back.ensures ∙ ap (λ z. given_back z s2.registers.items) c.in_ok-saved.ensures ∙ restores ks old s2.registers.items) refl refl
+    (c.give_back.ensures ∙ ap (λ z. given_back z s2.registers.items) c.in_ok-saved.ensures ∙ restores ks old s2.registers.items) refl refl refl
 
 pub while_loop-loop-turn-init : goal.while_loop-loop-turn-init
 while_loop-loop-turn-init g t c =
@@ -206,7 +207,7 @@ while_loop-returns-in-Some g t c =
     let s1 = c.while_turn.new.state in
     let below : i < W.turns = omega (arith, c.loop-turn-test.true, c.turns-turn-end.ensures) in
     let one : suc (W.turns - (i + 1)) ≡ W.turns - i = omega arith in
-    begun_leaves (repeated W.turns turn) r m v s0 begun s1 c.begin_loop.ensures.registers c.begin_loop.ensures.kept c.begin_loop.ensures.cut c.begin_loop.ensures.entries
+    begun_leaves (repeated W.turns turn) r m v s0 begun s1 c.begin_loop.ensures.registers c.begin_loop.ensures.kept c.begin_loop.ensures.cut c.begin_loop.ensures.entries c.begin_loop.ensures.most
     (c.loop-turn.invariant v s1 (subst (λ (k : ℕ). Leaves shown (from shown (repeated k turn) s) v s s1) one
     (ended_leaves turn (W.turns - (i + 1)) (turned_shown c.in_ok-flow.field-0) v s s1 (ap turned_shown c.in-Some.is) c.in_ok-flow.ensures)))
 
@@ -226,7 +227,7 @@ while_loop-returns g t c =
     let m = W.forget (forgotten_in G (form_of whole)) (shown s0.kept) in
     let s1 = c.end.new.self in
     let none : W.turns - i ≡ 0 = omega (arith, c.loop-turn-test.false, c.turns-turn-end.ensures) in
-    begun_leaves (repeated W.turns turn) r m Return s0 begun s1 c.begin_loop.ensures.registers c.begin_loop.ensures.kept c.begin_loop.ensures.cut c.begin_loop.ensures.entries
+    begun_leaves (repeated W.turns turn) r m Return s0 begun s1 c.begin_loop.ensures.registers c.begin_loop.ensures.kept c.begin_loop.ensures.cut c.begin_loop.ensures.entries c.begin_loop.ensures.most
     (c.loop-turn.invariant Return s1 (spent_leaves turn (W.turns - i) Return s s1 none c.end.ensures))
 
 pub while_turn-returns-in-None : goal.while_turn-returns-in-None
@@ -334,7 +335,7 @@ do_loop-returns-in-Some g t c =
     let s1 = c.do_turn.new.state in
     let below : i < W.turns = omega (arith, c.loop-turn-test.true, c.turns-turn-end.ensures) in
     let one : suc (W.turns - (i + 1)) ≡ W.turns - i = omega arith in
-    begun_leaves (repeated W.turns turn) r m v s0 begun s1 c.begin_loop.ensures.registers c.begin_loop.ensures.kept c.begin_loop.ensures.cut c.begin_loop.ensures.entries
+    begun_leaves (repeated W.turns turn) r m v s0 begun s1 c.begin_loop.ensures.registers c.begin_loop.ensures.kept c.begin_loop.ensures.cut c.begin_loop.ensures.entries c.begin_loop.ensures.most
     (c.loop-turn.invariant v s1 (subst (λ (k : ℕ). Leaves shown (from shown (repeated k turn) s) v s s1) one
     (ended_leaves turn (W.turns - (i + 1)) (turned_shown c.in_ok-flow.field-0) v s s1 (ap turned_shown c.in-Some.is) c.in_ok-flow.ensures)))
 
@@ -354,7 +355,7 @@ do_loop-returns g t c =
     let m = W.forget (forgotten_in G (form_of whole)) (shown s0.kept) in
     let s1 = c.end.new.self in
     let none : W.turns - i ≡ 0 = omega (arith, c.loop-turn-test.false, c.turns-turn-end.ensures) in
-    begun_leaves (repeated W.turns turn) r m Return s0 begun s1 c.begin_loop.ensures.registers c.begin_loop.ensures.kept c.begin_loop.ensures.cut c.begin_loop.ensures.entries
+    begun_leaves (repeated W.turns turn) r m Return s0 begun s1 c.begin_loop.ensures.registers c.begin_loop.ensures.kept c.begin_loop.ensures.cut c.begin_loop.ensures.entries c.begin_loop.ensures.most
     (c.loop-turn.invariant Return s1 (spent_leaves turn (W.turns - i) Return s s1 none c.end.ensures))
 
 pub do_turn-returns-in-Some : goal.do_turn-returns-in-Some
@@ -599,3 +600,25 @@ statements-statement-requires g t c κs within =
     let each : EachLoop P (view_statement c.s-item.result) = of_statement P c.args.list.now c.loop-s.s-index c.s-item.result c.loop-s-test.true c.s-item.is c.requires in
     let deep = element_below the_size c.args.list.now c.loop-s.s-index c.s-item.result c.loop-s-test.true c.s-item.is in
     (omega (arith, deep, c.decreases), (search rules, (search rules, each)))
+
+pub entered-returns : goal.entered-returns
+entered-returns g t c =
+    let G = g.W.RunSetting.setting c.args.out.now in
+    let W = g.W.World.world c.args.out.now in
+    let x = view_statement c.args.s.now in
+    let s0 = c.args.state.now in
+    let s1 = c.push.new.self in
+    let s2 = c.statement.new.state in
+    let adds = subst (λ (k : ℕ). Adds (Enter k ∷ []) s0 s1) (sym (ap statement_node (view_node c.args.s.now))) c.in_ok-push.ensures in
+    after_leaves (Enter (statement_node x) ∷ []) (statement_run G W x) (flow_shown c.in_ok-flow.flow) s0 s1 s2 adds c.in_ok-flow.ensures
+
+pub section-returns : goal.section-returns
+section-returns g t c =
+    let G = g.W.RunSetting.setting c.args.out.now in
+    let W = g.W.World.world c.args.out.now in
+    let body = statements (map view_statement c.as_slice.result.now) in
+    let s0 = c.args.state.now in
+    let s1 = c.push.new.self in
+    let s2 = c.statements.new.state in
+    rw (at_section c.args.x.now, ← c.as_slice.ensures)
+    (after_leaves (Enter (out-Section c.args.x.now).node.number ∷ []) (statements_run G W body) (flow_shown c.in_ok-flow.flow) s0 s1 s2 c.in_ok-push.ensures c.in_ok-flow.ensures)

@@ -2,7 +2,7 @@ use Rattle.std.proofs.Common.{◌+◌, arith}
 use Rattle.stk_tree.specs.View.{view_function}
 use Rattle.stk_function_types.specs.Nodes.{typing_in}
 use Rattle.stk_findings.specs.Searched.{about_searched, subject_searched}
-use Rattle.stk_unit_lines.specs.Placed.{placed_in}
+use Rattle.stk_spelling.specs.Placed.{placed_in}
 use Rattle.stk_unit_lines.specs.Parts.{AreFindingLines}
 use Rattle.stk_unit_lines.specs.Wrote.{HasStopped}
 use Rattle.stk_unit_lines.proofs.Taking.{none_written, one_more_written, stops_before, stops_within, all_written, written_few, on_err}

@@ -2,7 +2,7 @@ use Rattle.std.proofs.Common.{◌≤◌}
 use Rattle.stk_tree.specs.View.{view_function}
 use Rattle.stk_function_types.specs.Nodes.{typing_in}
 use Rattle.stk_findings.specs.Searched.{subject_searched}
-use Rattle.stk_unit_lines.specs.Placed.{placed_in}
+use Rattle.stk_spelling.specs.Placed.{placed_in}
 use Rattle.stk_unit_lines.proofs.Taking.{AreWritten}
 use Rattle.stk_unit_lines.proofs.functions.write_findings.Given as goal
 

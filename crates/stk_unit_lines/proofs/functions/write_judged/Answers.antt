@@ -11,8 +11,8 @@ use Rattle.stk_function_types.specs.Units.{TypedUnit}
 use Rattle.stk_function_types.specs.Nodes.{typing_in}
 use Rattle.stk_function_env.specs.Settings.{FunctionPlaces}
 use Rattle.stk_findings.specs.Searched.{searched_subject}
-use Rattle.stk_unit_lines.specs.Placed.{placed_in}
-use Rattle.stk_unit_lines.specs.Texts.{key_text}
+use Rattle.stk_spelling.specs.Placed.{placed_in}
+use Rattle.stk_spelling.specs.Texts.{key_text}
 use Rattle.stk_unit_lines.specs.Parts.{IsJudged, AreFindingLines}
 use Rattle.stk_units.proofs.Measures.{tables_of}
 use Rattle.stk_unit_lines.proofs.Judging.{findings_there, judged_by}

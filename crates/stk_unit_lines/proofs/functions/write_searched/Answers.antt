@@ -4,7 +4,7 @@ use Rattle.stk_numbers.specs.declared.conditions.Candidate.{Candidate}
 use Rattle.stk_function_types.specs.Nodes.{typing_in}
 use Rattle.stk_goals.proofs.Searched.{typed_functions_are_searched}
 use Rattle.stk_findings.specs.Searched.{subject_searched}
-use Rattle.stk_unit_lines.specs.Placed.{placed_in}
+use Rattle.stk_spelling.specs.Placed.{placed_in}
 use Rattle.stk_unit_lines.proofs.Taking.{no_findings_wrote}
 use Rattle.stk_unit_lines.proofs.Judging.{no_candidate}
 use Rattle.stk_unit_lines.proofs.functions.write_searched.Goals as goal

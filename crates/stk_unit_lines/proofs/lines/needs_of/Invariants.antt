@@ -1,5 +1,5 @@
 use Rattle.std.proofs.Common.{◌≡◌, ◌++◌, map, drop}
-use Rattle.stk_unit_lines.specs.Placed.{placed_in}
+use Rattle.stk_spelling.specs.Placed.{placed_in}
 use Rattle.stk_unit_lines.specs.Lines.{needed_of}
 use Rattle.stk_unit_lines.proofs.lines.needs_of.Given as goal
 

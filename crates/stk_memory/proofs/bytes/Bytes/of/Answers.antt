@@ -1,10 +1,10 @@
-use Rattle.std.proofs.Common.{◌≡◌, ℕ, ◌∙◌, refl, ap, rules, arith, List}
+use Rattle.std.proofs.Common.{◌≡◌, ℕ, ◌∙◌, ap, rules, arith, List}
 use Rattle.std.specs.Prelude.{unwrap_or, nat_eq}
 use Rattle.indexmap.specs.IndexMap.{get}
 use Rattle.std.proofs.lemmas.Grind.{common_steps}
 use Rattle.stk_memory.specs.declared.image.Cell.{Cell}
 use Rattle.stk_meaning.specs.Memory.{put_all}
-use Rattle.stk_memory.specs.Image.{memory_of, image_memory, writes_of, AreApart}
+use Rattle.stk_memory.specs.Image.{writes_of}
 use Rattle.stk_memory.proofs.Cells.{image_is}
 use Rattle.stk_memory.proofs.bytes.Bytes.of.Goals as goal
 

@@ -1,5 +1,0 @@
-use Rattle.stk_front_tests.proofs.Views.{view_if}
-use Rattle.stk_front_tests.proofs.tree_units.if_form.Goals as goal
-
-pub returns : goal.returns
-returns c = view_if c.args.test c.args.body

@@ -1,0 +1,9 @@
+pub mod Answered
+pub mod HitPlaces
+pub mod KeyRanges
+pub mod LineTexts
+pub mod ScriptRuns
+pub mod OneDefinition
+pub mod OneNaming
+pub mod OneOutcome
+pub mod Searching

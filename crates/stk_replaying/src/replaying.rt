@@ -1,0 +1,82 @@
+//! The replay of an execution.
+
+ghost use Rattle.std.specs.Prelude.{◌≡◌, ◌<◌, ◌≤◌, ◌^◌, Err, IfOk, length, option_map};
+ghost use Rattle.stk_tree.specs.View.{view_function};
+ghost use Rattle.stk_numbers.specs.declared.conditions.Kinds as kinds;
+ghost use Rattle.stk_meaning.specs.Typings as typings;
+ghost use Rattle.stk_meaning.specs.Keys.{body_of, keys_of, setting_of};
+ghost use Rattle.stk_eval_expr.specs.Loops.{EachLoop};
+ghost use Rattle.stk_eval_expr.specs.Shown.{flow_shown};
+ghost use Rattle.stk_function_env.specs.Settings.{setting_in};
+ghost use Rattle.stk_memory.specs.Image.{AreApart};
+ghost use Rattle.stk_path_runs.specs.Rows.{Knows};
+ghost use Rattle.stk_replaying.specs.Replaying.{trace_in, ran_in, flow_end_of, end_of, hit_places};
+ghost use Rattle.stk_replaying.specs.declared.execution.Replay.TheVariants.{TooLong};
+
+use crate::executed::ExecutedFunction;
+use crate::execution::{End, Execution, Replay, Replayed};
+use crate::hitting::hit_places;
+use crate::outside::OutsideLeft;
+use std::alloc::Global;
+use stk_base::List;
+use stk_eval_expr::Flow;
+use stk_exec_stmt::bounded_run;
+use stk_memory::Bytes;
+use stk_numbers::Candidate;
+use stk_path_runs::{FunctionTables, MappedFunction, start_registers};
+use stk_tree::Function;
+
+// How an execution ends whose body ends so; nothing, where it is cut.
+fn end_of_flow(flow: Option<Flow>) -> End
+    ensures { result ≡ flow_end_of (option_map flow_shown flow) }
+{
+    match flow {
+        None => End::Cut,
+        Some(Flow::Return) => End::Returned,
+        Some(Flow::Normal) | Some(Flow::Break) | Some(Flow::Continue) => End::Fell,
+    }
+}
+
+/// The replay of an execution of a function: its trace, which of these candidates it hits, and how it ends. The tables
+/// are those of the function, and know its loops. `TooLong` comes exactly where the trace has more than `most` entries.
+pub fn replay_of(
+    alloc: Global,
+    tables: &FunctionTables,
+    f: &Function,
+    list: &[Candidate],
+    execution: &Execution,
+    most: u32,
+) -> Result<Replayed, Replay>
+    requires loops { EachLoop (Knows (setting_in tables.now.places) tables.now.places.keys tables.now.rows) (body_of (view_function f.now)) }
+    requires apart { AreApart execution.now.memory.now.cells }
+    requires few { length list.now < 2 ^ 32 }
+    ensures trace { (ty : typings.Typing) → (without : kinds.Kinds) → setting_in tables.now.places ≡ setting_of ty without (view_function f.now) → tables.now.places.keys ≡ keys_of ty without (view_function f.now) → IfOk result (λ r. r.trace ≡ trace_in ty without (view_function f.now) execution.now) }
+    ensures end { (ty : typings.Typing) → (without : kinds.Kinds) → setting_in tables.now.places ≡ setting_of ty without (view_function f.now) → tables.now.places.keys ≡ keys_of ty without (view_function f.now) → IfOk result (λ r. r.end ≡ end_of (ran_in ty without (view_function f.now) execution.now)) }
+    ensures hits { IfOk result (λ r. r.hits ≡ hit_places list.now r.trace) }
+    ensures fits { IfOk result (λ r. length r.trace ≤ most) }
+    ensures long { (ty : typings.Typing) → (without : kinds.Kinds) → setting_in tables.now.places ≡ setting_of ty without (view_function f.now) → tables.now.places.keys ≡ keys_of ty without (view_function f.now) → result ≡ Err TooLong → most < length (trace_in ty without (view_function f.now) execution.now) }
+{
+    let out = ExecutedFunction {
+        mapped: MappedFunction {
+            tables,
+            numbers: execution.numbers,
+            alloc,
+        },
+        turns: execution.turns,
+    };
+    let registers = start_registers(alloc, &out.mapped, f)?;
+    let kept = OutsideLeft {
+        memory: Bytes::of(alloc, execution.memory)?,
+        replies: execution.replies,
+    };
+    let run = bounded_run(alloc, &out, &f.body, registers, kept, most as usize)?;
+    if run.entries.len() > most as usize {
+        return Err(Replay::TooLong);
+    }
+    let hits = hit_places(alloc, list, run.entries.as_slice())?;
+    Ok(Replayed {
+        trace: List::from_vec(run.entries),
+        hits: List::from_vec(hits),
+        end: end_of_flow(run.flow),
+    })
+}

@@ -1,6 +1,0 @@
-use Rattle.std.proofs.Common.{◌≡◌, drop}
-use Rattle.stk_unit_lines.specs.Named.{name_among}
-use Rattle.stk_unit_lines.proofs.names.name_among.Given as goal
-
-abbrev pub invariant-loop-x : goal.invariant-loop-x
-invariant-loop-x l = name_among l.node (drop l.x-index l.names) ≡ name_among l.node l.names
