@@ -9,6 +9,3 @@ fn main(rt: HostRuntime) -> ExitCode {
     let status = run_auditor(&rt, rt.stdin(), rt.stdout(), rt.stderr());
     ExitCode::from(status.code())
 }
-
-#[cfg(test)]
-mod rows;

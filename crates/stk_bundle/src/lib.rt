@@ -23,6 +23,3 @@ pub use parts::{NextPart, Part, PartFault, Reading, next_part, read_bundle};
 pub(crate) use reading::read_line;
 pub use stage::Stage;
 pub use writing::add_line;
-
-#[cfg(test)]
-mod tests;

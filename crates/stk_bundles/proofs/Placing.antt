@@ -11,7 +11,7 @@ use Rattle.stk_meaning.specs.Lists.{candidates}
 use Rattle.stk_meaning.specs.declared.finding.Finding.{Finding}
 use Rattle.stk_meaning.specs.declared.finding.Finding.TheVariants.{Clear, Unstable, Undecided}
 use Rattle.stk_meaning.specs.Findings.{IsLawful}
-use Rattle.stk_wide_judge.specs.Wide.{AskedFunction, IsPlaced}
+use Rattle.stk_findings.specs.Wide.{AskedFunction, IsPlaced}
 use Rattle.stk_findings.specs.Searched.{searched_subject}
 use Rattle.stk_claims.specs.Closing.{IsSure}
 

@@ -14,21 +14,20 @@ use Rattle.stk_meaning.specs.Weights.{weight, most_weight}
 use Rattle.stk_run_laws.specs.Visits.{EachVisit}
 use Rattle.stk_run_laws.specs.TypedTree.{IsTypedTree}
 use Rattle.stk_kinded.specs.KindedStatements.{KindedFunction}
-use Rattle.stk_cost_laws.specs.Bits.{VisitHasBits}
+use Rattle.stk_type_laws.specs.Bits.{VisitHasBits}
 use Rattle.stk_eval_expr.specs.Loops.{EachLoop}
-use Rattle.stk_path_runs.specs.Rows.{Tables, Knows}
-use Rattle.stk_weights.specs.Units.{IsSettingOfFunction}
-use Rattle.stk_goals.specs.Searched.{IsTypedFunction as IsTypedByTables}
+use Rattle.stk_findings.specs.Rows.{Tables, Knows}
+use Rattle.stk_units.specs.Units.{IsSettingOfFunction}
 use Rattle.stk_units.specs.Known.{IsTypedFunction}
 use Rattle.stk_units.proofs.Measures.{tables_of}
 use Rattle.stk_run_laws.proofs.GatheredLaws.{what_suffices_in_paths_suffices}
-use Rattle.stk_judge.proofs.Agreeing.{Agrees, lawful}
+use Rattle.stk_findings.proofs.Agreeing.{Agrees, lawful}
 use Rattle.stk_function_types.specs.Nodes.{typing_in}
 use Rattle.stk_function_env.specs.Settings.{FunctionPlaces, setting_in}
 use Rattle.stk_records.specs.declared.counts.Counts.{Counts}
 use Rattle.stk_records.specs.declared.writing.Stop.{Stop}
 use Rattle.stk_spent_queries.specs.Spent.{spent_at}
-use Rattle.stk_findings.specs.Searched.{searched_subject}
+use Rattle.stk_findings.specs.Searched.{searched_subject, IsTypedFunction as IsTypedByTables}
 use Rattle.stk_bundles.specs.Wrote.{WroteClaims, WroteClaimsPrefix, HasStopped, WroteFunction, HasStoppedIn}
 
 module _ (ty : Typing) (without : Kinds) (f : FunctionTree) (budget : ℕ) (typed : IsTypedTree ty without f) where

@@ -5,6 +5,3 @@ mod checking;
 mod marks;
 
 pub use checking::check;
-
-#[cfg(test)]
-mod tests;

@@ -4,9 +4,9 @@ ghost use Rattle.stk_meaning.specs.Keys.{input_bits};
 ghost use Rattle.stk_meaning.specs.PathFindings.{most_bits};
 
 use std::alloc::Global;
+use stk_goals::{FunctionTables, input_bits};
 use stk_meaning::{Finding, Need};
 use stk_numbers::{Candidate, Inputs, IntKind};
-use stk_path_runs::{FunctionTables, input_bits};
 use stk_tree::Function;
 
 // The most input bits of a function whose input maps are all tried.

@@ -8,4 +8,5 @@ mod writing;
 
 pub use closing::{Closing, closing_of};
 pub use function::{ClaimedFunction, Report, ToldFinding};
+pub use stk_goals::kinds_of;
 pub use writing::{write_finding_parts, write_lines};

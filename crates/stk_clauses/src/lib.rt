@@ -11,6 +11,3 @@ pub use derivation::{Derivation, Derived};
 pub use laws::{new_is_no_superset, quiet_makes_new, refutation_is_sound};
 pub use literal::{Lit, are_distinct, is_among};
 pub use store::{Cnf, Store};
-
-#[cfg(test)]
-mod tests;

@@ -17,11 +17,6 @@ abbrev pub cnf_value : (ℕ → Bool) → List (List Lit) → Bool
 cnf_value v [] = true
 cnf_value v (c ∷ cs) = cnf_value v cs && clause_value v c
 
--- whether one of the edges is true
-abbrev pub some_edge : (ℕ → Bool) → List Edge → Bool
-some_edge gates [] = false
-some_edge gates (e ∷ es) = some_edge gates es || edge_value gates e
-
 -- the gates' values, where each gate has the variable that the list names, and gate 0 none
 abbrev pub named : List ℕ → (ℕ → Bool) → ℕ → Bool
 named names v n = if n == 0 then false else v (slice_index names n)

@@ -7,6 +7,3 @@ mod edges;
 mod numbering;
 
 pub use clauses::clauses_of;
-
-#[cfg(test)]
-mod tests;

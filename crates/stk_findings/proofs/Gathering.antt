@@ -14,7 +14,7 @@ use Rattle.stk_meaning.specs.PathFindings.{most_bits}
 use Rattle.stk_meaning.specs.declared.finding.Finding.{Finding}
 use Rattle.stk_meaning.specs.Findings.{IsLawful}
 use Rattle.stk_function_types.specs.Nodes.{typing_in}
-use Rattle.stk_path_runs.specs.Rows.{Tables}
+use Rattle.stk_goals.specs.Rows.{Tables}
 use Rattle.stk_findings.specs.Asked as goals
 use Rattle.stk_judge.proofs.Agreeing.{Agrees, lawful}
 use Rattle.stk_spent_queries.specs.Spent.{spent_at}

@@ -4,3 +4,5 @@ pub mod Answered
 pub mod Wrapped
 pub mod Nevers
 pub mod Said
+pub use Rattle.stk_judge.proofs.Agreeing
+pub use Rattle.stk_goals.proofs.Searched

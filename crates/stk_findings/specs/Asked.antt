@@ -8,7 +8,7 @@ use Rattle.stk_tree.specs.View.{view_function}
 use Rattle.stk_numbers.specs.declared.conditions.Kinds.{Kinds}
 use Rattle.stk_meaning.specs.Typings.{Typing}
 use Rattle.stk_function_types.specs.Nodes.{typing_in}
-use Rattle.stk_path_runs.specs.Rows.{Tables}
+use Rattle.stk_goals.specs.Rows.{Tables}
 use Rattle.stk_terms.specs.declared.term.TermId.{TermId}
 use Rattle.stk_terms.specs.Terms.{Stored}
 use Rattle.stk_values.specs.declared.walked.Walked.{Walked}

@@ -14,7 +14,7 @@ use Rattle.stk_meaning.specs.Paths.{path}
 use Rattle.stk_meaning.specs.Findings.{Subject}
 use Rattle.stk_meaning.specs.PathFindings.{most_bits}
 use Rattle.stk_function_types.specs.Nodes.{typing_in}
-use Rattle.stk_goals.specs.Searched.{IsTypedFunction}
+pub use Rattle.stk_goals.specs.Searched.{IsTypedFunction}
 use Rattle.stk_spent_queries.specs.Spent.{spent_at}
 use Rattle.stk_wide_judge.specs.Wide.{AskedFunction, asked_in}
 use Rattle.stk_findings.specs.declared.judge.SearchedFunction.{SearchedFunction}

@@ -10,9 +10,9 @@ ghost use Rattle.stk_findings.specs.declared.judge.SearchedFunction.{SearchedFun
 ghost use Rattle.stk_findings.specs.Searched.{about_searched, subject_searched};
 
 use stk_base::NoMemory;
+use stk_goals::{FunctionTables, input_bits};
 use stk_meaning::Finding;
 use stk_numbers::{Candidate, Condition};
-use stk_path_runs::{FunctionTables, input_bits};
 use stk_query::Decider;
 use stk_tree::Function;
 

@@ -14,3 +14,5 @@ pub use by_maps::all_maps;
 pub use goals::FunctionGoals;
 pub use judge::{Judge, SearchedFunction};
 pub use queries::Queries;
+pub use stk_goals::FunctionTables;
+pub use stk_wide_judge::QueryAnswer;

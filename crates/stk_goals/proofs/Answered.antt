@@ -17,7 +17,7 @@ use Rattle.stk_meaning.specs.Lists.{candidates}
 use Rattle.stk_meaning.specs.Hits.{is_hit_free}
 use Rattle.stk_meaning.specs.Weights as weights
 use Rattle.stk_meaning.proofs.HitLemmas.{found, finds}
-use Rattle.stk_key_laws.proofs.Weights.{keys_are_within_weight}
+use Rattle.stk_type_laws.proofs.KeyWeights.{keys_are_within_weight}
 use Rattle.stk_terms.specs.Terms.{Stored}
 use Rattle.stk_terms.specs.Fitting.{AreResidues}
 use Rattle.stk_terms.specs.Values.{bit, number_at}

@@ -23,7 +23,7 @@ use Rattle.stk_meaning.specs.Visits.{accesses, Visit, at_expression, at_declarat
 use Rattle.stk_meaning.specs.Keys.{function_visits}
 use Rattle.stk_meaning.specs.Lists.{visit_conditions, conditions, candidates}
 use Rattle.stk_run_laws.specs.Visits.{IsIn}
-use Rattle.stk_key_laws.proofs.Evaluated.{evaluated_count, function_fine}
+use Rattle.stk_type_laws.proofs.Evaluated.{evaluated_count, function_fine}
 use Rattle.stk_terms.specs.declared.term.TermId.{TermId}
 use Rattle.stk_values.specs.declared.walked.Step.{Step}
 use Rattle.stk_values.specs.declared.walked.Step.TheVariants as steps

@@ -10,7 +10,7 @@ use Rattle.stk_meaning.specs.Weights.{weight}
 use Rattle.stk_function_types.specs.Nodes.{typing_in}
 use Rattle.stk_function_env.specs.declared.infos.KeyInfo.{KeyInfo}
 use Rattle.stk_function_env.specs.Infos.{info_in}
-use Rattle.stk_path_runs.specs.Rows.{Tables}
+use Rattle.stk_walk.specs.Rows.{Tables}
 use Rattle.stk_terms.specs.declared.term.TermId.{TermId}
 use Rattle.stk_terms.specs.Terms.{Stored, no_terms}
 use Rattle.stk_terms.specs.Cost.{total_cost}

@@ -12,12 +12,12 @@ use Rattle.stk_meaning.specs.Weights.{visits_weight, pairs_among, weight, most_w
 use Rattle.stk_terms.specs.Terms.{Stored}
 use Rattle.stk_function_types.specs.Nodes.{typing_in}
 use Rattle.stk_type_laws.proofs.Whole.{accepted_units_are_typed}
-use Rattle.stk_kind_laws.proofs.Whole.{accepted_units_are_kinded}
-use Rattle.stk_cost_laws.proofs.Whole.{walks_are_within}
-use Rattle.stk_cost_laws.proofs.Accepted.{accepted_units_have_bits}
-use Rattle.stk_key_laws.proofs.KeyKinds.{keys_have_their_kinds}
-use Rattle.stk_key_laws.proofs.Weights.{keys_are_within_weight}
-use Rattle.stk_key_laws.proofs.FewCandidates.{few_candidates}
+use Rattle.stk_type_laws.proofs.KindedTrees.{accepted_units_are_kinded}
+use Rattle.stk_type_laws.proofs.WholeCosts.{walks_are_within}
+use Rattle.stk_type_laws.proofs.TreesHaveBits.{accepted_units_have_bits}
+use Rattle.stk_type_laws.proofs.KeyKinds.{keys_have_their_kinds}
+use Rattle.stk_type_laws.proofs.KeyWeights.{keys_are_within_weight}
+use Rattle.stk_type_laws.proofs.FewCandidates.{few_candidates}
 use Rattle.stk_goals.specs.Searched.{TypedFunctionsAreSearched, AcceptedFunctionsAreSearched, KeysAreThere}
 
 few_places : (n m a b c : ℕ) → n ≤ 4 * m → 128 * m + a + b + c ≤ 8000000 → n < 2 ^ 32

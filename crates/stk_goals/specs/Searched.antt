@@ -14,9 +14,9 @@ use Rattle.stk_run_laws.specs.Visits.{EachVisit}
 use Rattle.stk_run_laws.specs.TypedTree.{IsTypedTree}
 use Rattle.stk_kinded.specs.KindedStatements.{KindedFunction}
 use Rattle.stk_spending.specs.Functions.{function_spent}
-use Rattle.stk_cost_laws.specs.Bits.{VisitHasBits}
-use Rattle.stk_path_runs.specs.Rows.{Tables}
-use Rattle.stk_path_runs.specs.FunctionTables.{AreTablesOf}
+use Rattle.stk_type_laws.specs.Bits.{VisitHasBits}
+use Rattle.stk_walk.specs.Rows.{Tables}
+use Rattle.stk_walk.specs.FunctionTables.{AreTablesOf}
 use Rattle.stk_walking.specs.Keyed.{AreThere}
 use Rattle.stk_terms.specs.Terms.{no_terms}
 use Rattle.stk_symbols.specs.Symbolic.{Symbolic, HasKey}

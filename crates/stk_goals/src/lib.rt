@@ -14,4 +14,5 @@ pub use query_goal::{QueryGoal, goal_of};
 pub use search_laws::{
     accepted_functions_are_searched, keys_are_there, typed_functions_are_searched,
 };
+pub use stk_walk::{FunctionTables, input_bits};
 pub use walked::{WalkedStore, add_goal, kinds_of, walked_store};

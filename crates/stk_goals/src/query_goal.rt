@@ -16,10 +16,10 @@ use crate::{Query, add_goal, walked_store};
 use std::alloc::Global;
 use stk_base::NoMemory;
 use stk_numbers::Candidate;
-use stk_path_runs::FunctionTables;
 use stk_symbols::Symbols;
 use stk_terms::TermId;
 use stk_tree::Function;
+use stk_walk::FunctionTables;
 
 /// The goal of a query: a term, and the store in which it is, whose inputs are the keys of the function.
 #[derive(Drop)]

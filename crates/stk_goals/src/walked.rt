@@ -17,11 +17,10 @@ use std::alloc::Global;
 use stk_base::NoMemory;
 use stk_function_env::KeyInfo;
 use stk_numbers::{Candidate, IntKind};
-use stk_path_runs::FunctionTables;
 use stk_symbols::{IndexedWalk, Symbols};
 use stk_terms::TermId;
 use stk_tree::Function;
-use stk_walk::walk_function;
+use stk_walk::{FunctionTables, walk_function};
 
 /// The kinds of keys, in order.
 pub fn kinds_of(alloc: Global, keys: &[KeyInfo]) -> Result<Vec<IntKind>, NoMemory>

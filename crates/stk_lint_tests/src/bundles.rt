@@ -1,5 +1,5 @@
 //! Bundles of functions of more than 16 input bits: how many of their claims have a derivation, and how long the first
-//! lines are. That clauses and derivations are checked is tested in stk_bundle_tests.
+//! lines are. That clauses and derivations are checked is tested in `wide`.
 
 use crate::running::{ran, ran_with};
 use std::test::Fail;

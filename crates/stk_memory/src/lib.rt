@@ -9,6 +9,3 @@ mod numbers;
 pub use apart::are_apart;
 pub use bytes::Bytes;
 pub use image::{Cell, MemoryImage, Reply};
-
-#[cfg(test)]
-mod tests;

@@ -9,10 +9,3 @@ fn main(rt: HostRuntime) -> ExitCode {
     let status = run_checker(&rt, rt.stdin(), rt.stdout(), rt.stderr());
     ExitCode::from(status.code())
 }
-
-#[cfg(test)]
-mod files;
-#[cfg(test)]
-mod rows;
-#[cfg(test)]
-mod tests;

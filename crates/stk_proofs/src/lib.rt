@@ -17,6 +17,3 @@ pub use clause_lists::{dimacs, fits_dimacs, read_dimacs};
 pub use derivations::{fits_lrat, lrat, read_lrat};
 pub use laws::texts_are_read_back;
 pub use text::Text;
-
-#[cfg(test)]
-mod tests;

@@ -12,12 +12,12 @@ use Rattle.stk_meaning.specs.Weights.{weight, most_weight}
 use Rattle.stk_run_laws.specs.Visits.{EachVisit, IsNumbered}
 use Rattle.stk_run_laws.specs.TypedTree.{IsTypedTree}
 use Rattle.stk_kinded.specs.KindedStatements.{KindedFunction}
-use Rattle.stk_cost_laws.specs.Bits.{VisitHasBits}
+use Rattle.stk_type_laws.specs.Bits.{VisitHasBits}
 use Rattle.stk_function_types.specs.Nodes.{typing_in}
 use Rattle.stk_function_env.specs.Settings.{FunctionPlaces, setting_in}
 use Rattle.stk_eval_expr.specs.Loops.{EachLoop}
-use Rattle.stk_path_runs.specs.Rows.{Tables, Knows}
-use Rattle.stk_weights.specs.Units.{IsSettingOfFunction}
+use Rattle.stk_goals.specs.Rows.{Tables, Knows}
+use Rattle.stk_units.specs.Units.{IsSettingOfFunction}
 use Rattle.stk_goals.specs.Searched.{IsSearched}
 use Rattle.stk_goals.proofs.Searched.{typed_functions_are_searched}
 use Rattle.stk_terms.specs.Terms.{Stored}

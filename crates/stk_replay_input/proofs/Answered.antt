@@ -18,7 +18,7 @@ use Rattle.stk_meaning.specs.Weights.{visits_weight, pairs_among, weight, most_w
 use Rattle.stk_function_types.specs.Units.{TypedUnit}
 use Rattle.stk_function_types.specs.Nodes.{typing_in}
 use Rattle.stk_function_env.specs.Settings.{FunctionPlaces}
-use Rattle.stk_key_laws.proofs.FewCandidates.{few_candidates}
+use Rattle.stk_type_laws.proofs.FewCandidates.{few_candidates}
 use Rattle.stk_spelling.specs.Placed.{placed_in}
 use Rattle.stk_replaying.specs.Replaying.{end_of}
 use Rattle.stk_replaying.specs.declared.execution.End.{End}

@@ -14,6 +14,3 @@ pub use laws::texts_have_one_reading;
 pub use reading::read_script;
 pub use script::Script;
 pub use starts::start_numbers;
-
-#[cfg(test)]
-mod tests;

@@ -2,10 +2,16 @@
 #![tactic(auto)]
 
 #[cfg(test)]
+mod cells;
+#[cfg(test)]
 mod examples;
 #[cfg(test)]
 mod executions;
 #[cfg(test)]
+mod lines;
+#[cfg(test)]
 mod refusals;
 #[cfg(test)]
 mod running;
+#[cfg(test)]
+mod scripts;

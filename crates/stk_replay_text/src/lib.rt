@@ -6,6 +6,3 @@ mod text;
 
 pub use line::ReplayLine;
 pub use text::add_lines;
-
-#[cfg(test)]
-mod tests;

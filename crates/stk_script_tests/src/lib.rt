@@ -2,4 +2,8 @@
 #![tactic(auto)]
 
 #[cfg(test)]
+mod goal_scripts;
+#[cfg(test)]
 mod read_scripts;
+#[cfg(test)]
+mod tokens;

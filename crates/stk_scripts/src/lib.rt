@@ -13,6 +13,3 @@ pub use lexing::{Token, lex};
 pub use operators::{
     BinaryOp, ExtendOp, TestOp, UnaryOp, binary_name, extend_name, test_name, unary_name,
 };
-
-#[cfg(test)]
-mod tests;

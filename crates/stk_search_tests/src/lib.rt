@@ -3,6 +3,10 @@
 
 mod answers;
 #[cfg(test)]
+mod checked;
+#[cfg(test)]
+mod circuits;
+#[cfg(test)]
 mod deciding;
 #[cfg(test)]
 mod plain;
@@ -13,3 +17,7 @@ mod search;
 #[cfg(test)]
 mod solver;
 mod steps;
+#[cfg(test)]
+mod stored;
+#[cfg(test)]
+mod texts;

@@ -7,6 +7,3 @@ mod pieces;
 mod writing;
 
 pub use writing::script;
-
-#[cfg(test)]
-mod tests;

@@ -11,11 +11,11 @@ use Rattle.stk_meaning.specs.Typings.{Typing}
 use Rattle.stk_meaning.specs.Keys.{body_of, keys_of, setting_of, function_visits}
 use Rattle.stk_meaning.specs.Weights.{weight, most_weight}
 use Rattle.stk_meaning.specs.Lists.{candidates}
-use Rattle.stk_key_laws.proofs.FewCandidates.{few_candidates}
+use Rattle.stk_type_laws.proofs.FewCandidates.{few_candidates}
 use Rattle.stk_run_laws.specs.Visits.{IsNumbered, EachVisit}
 use Rattle.stk_run_laws.specs.TypedTree.{IsTypedTree}
 use Rattle.stk_kinded.specs.KindedStatements.{KindedFunction}
-use Rattle.stk_cost_laws.specs.Bits.{VisitHasBits}
+use Rattle.stk_type_laws.specs.Bits.{VisitHasBits}
 use Rattle.stk_function_types.specs.Units.{TypedUnit}
 use Rattle.stk_function_types.specs.Nodes.{typing_in}
 use Rattle.stk_function_env.specs.Settings.{FunctionPlaces, setting_in}

@@ -7,7 +7,7 @@ use Rattle.stk_lex.proofs.UnitCuts.{cut_joined}
 use Rattle.stk_text_laws.proofs.Cutting.{cut_of}
 use Rattle.stk_type_laws.proofs.Kept.{units_keep_order}
 use Rattle.stk_records.specs.declared.options.Options.{Options}
-use Rattle.stk_unit_lines.specs.Marks.{lines_marks}
+use Rattle.stk_lint.specs.Marks.{lines_marks}
 use Rattle.stk_records.specs.Form.{written_records, written_summary}
 use Rattle.stk_units.specs.Counted.{status_of}
 use Rattle.stk_lint.specs.LawfulText.{IsLawfulText}

@@ -13,7 +13,7 @@ use Rattle.stk_numbers.specs.declared.conditions.Kinds.{Kinds}
 use Rattle.stk_records.specs.declared.options.AskedScript.{AskedScript}
 use Rattle.stk_units.specs.Functions.{unit_typing}
 use Rattle.stk_units.specs.Outcomes.{UnitOutcome, IsOutcome, declaring, refusing, leaving, judging}
-use Rattle.stk_query_scripts.specs.Queries.{FunctionCandidate, function_candidates, outcome_candidates}
+use Rattle.stk_lint.specs.Queries.{FunctionCandidate, function_candidates, outcome_candidates}
 use Rattle.stk_units.specs.Pieces.{body_of_piece, tokens_of_piece}
 use Rattle.stk_lint.specs.Candidates.{AreCandidates, of_no_unit, of_unit, AreInputCandidates, IsInputScript, HasFewCandidates}
 use Rattle.stk_lint.proofs.Found.{candidates_exist}

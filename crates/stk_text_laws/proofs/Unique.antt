@@ -28,8 +28,8 @@ use Rattle.stk_units.specs.Functions.{unit_typing, is_definition}
 use Rattle.stk_units.specs.Causes.{cause_of, body_cause}
 use Rattle.stk_spent_queries.specs.Spent.{spent_at}
 use Rattle.stk_units.specs.Counted.{one_judged}
-use Rattle.stk_unit_lines.specs.UnitLines.{skip_line, function_lines, AreFindingsOf, IsUnitLines, accepted, refused, unjudged, judged}
-use Rattle.stk_unit_lines.specs.Marks.{lines_marks}
+use Rattle.stk_lint.specs.UnitLines.{skip_line, function_lines, AreFindingsOf, IsUnitLines, accepted, refused, unjudged, judged}
+use Rattle.stk_lint.specs.Marks.{lines_marks}
 use Rattle.stk_text_laws.specs.Texts.{AreNarrow, HasNarrowFunctions}
 use Rattle.stk_records.specs.Form.{written_records, written_summary}
 use Rattle.stk_units.specs.Counted.{status_of}

@@ -2,7 +2,7 @@
 use Rattle.std.specs.Prelude.{◌≡◌, ℕ, List}
 use Rattle.stk_numbers.specs.declared.conditions.Kinds.{Kinds}
 use Rattle.stk_records.specs.declared.options.AskedScript.{AskedScript}
-use Rattle.stk_query_scripts.specs.Queries.{FunctionCandidate}
+use Rattle.stk_lint.specs.Queries.{FunctionCandidate}
 use Rattle.stk_lint.specs.Candidates.{AreInputCandidates, IsInputScript, HasFewCandidates}
 
 -- each text has candidates, which may be none

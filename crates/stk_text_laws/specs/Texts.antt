@@ -17,7 +17,7 @@ use Rattle.stk_records.specs.declared.options.Options.{Options}
 use Rattle.stk_records.specs.declared.counts.Counts.{Counts}
 use Rattle.stk_records.specs.declared.line.Line.{Line}
 use Rattle.stk_units.specs.Functions.{unit_typing}
-use Rattle.stk_unit_lines.specs.UnitLines.{IsUnitLines}
+use Rattle.stk_lint.specs.UnitLines.{IsUnitLines}
 use Rattle.stk_units.specs.Pieces.{body_of_piece, tokens_of_piece}
 use Rattle.stk_lint.specs.LawfulText.{IsLawfulText}
 

@@ -24,3 +24,25 @@ pub mod Meanings
 pub mod Whole
 pub mod Examples
 mod RunExamples
+pub mod Ruled
+pub mod RuledExpressions
+pub mod RuledInitialisers
+pub mod RuledLocals
+pub mod RuledStatements
+pub mod RuledFunctions
+pub mod NodeKinds
+pub mod Trees
+pub mod KindedTrees
+pub mod Widths
+pub mod KeyKinds
+pub mod Evaluated
+pub mod Assigned
+pub mod KeyWeights
+pub mod FewCandidates
+pub mod CostNumbers
+pub mod CostForms
+pub mod CostExpressions
+pub mod CostStatements
+pub mod WholeCosts
+pub mod FormsHaveBits
+pub mod TreesHaveBits

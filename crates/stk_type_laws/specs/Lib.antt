@@ -1,3 +1,10 @@
 pub mod Entries
 pub mod Orderly
 pub mod Accepted
+pub mod Kinded
+pub mod Widths
+pub mod KeyKinds
+pub mod KeyWeights
+pub mod Bits
+pub mod Within
+pub mod TreesHaveBits

@@ -5,7 +5,7 @@ use Rattle.stk_ctype.specs.declared.symbol.NameEntry.{NameEntry}
 use Rattle.stk_tree.specs.Syntax as s
 use Rattle.stk_numbers.specs.declared.conditions.Kinds.{Kinds}
 use Rattle.stk_meaning.specs.Lists.{candidates}
-use Rattle.stk_key_laws.proofs.FewCandidates.{few_candidates}
+use Rattle.stk_type_laws.proofs.FewCandidates.{few_candidates}
 use Rattle.stk_records.specs.declared.counts.Counts.{Counts}
 use Rattle.stk_units.specs.Functions.{unit_typing}
 use Rattle.stk_units.proofs.Counts.{AreAtMost, nothing_most, skipped_most, judged_most, length_same}

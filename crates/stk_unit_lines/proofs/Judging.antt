@@ -14,7 +14,7 @@ use Rattle.stk_run_laws.specs.TypedTree.{IsTypedTree}
 use Rattle.stk_function_types.specs.Units.{TypedUnit}
 use Rattle.stk_function_types.specs.Nodes.{typing_in}
 use Rattle.stk_function_env.specs.Settings.{FunctionPlaces}
-use Rattle.stk_wide_judge.specs.Wide.{AskedFunction, IsPlaced}
+use Rattle.stk_findings.specs.Wide.{AskedFunction, IsPlaced}
 use Rattle.stk_findings.specs.Searched.{searched_subject}
 use Rattle.stk_records.specs.declared.counts.Counts.{Counts}
 use Rattle.stk_records.specs.declared.line.Line.{Line}

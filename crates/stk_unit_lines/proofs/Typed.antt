@@ -16,7 +16,7 @@ use Rattle.stk_meaning.specs.Findings.{IsLawful, AreLawful}
 use Rattle.stk_meaning.specs.PathFindings.{function_subject}
 use Rattle.stk_spent_queries.specs.Spent.{spent_at}
 use Rattle.stk_findings.specs.Searched.{searched_subject}
-use Rattle.stk_judge.proofs.Agreeing.{Agrees, lawful}
+use Rattle.stk_findings.proofs.Agreeing.{Agrees, lawful}
 use Rattle.stk_records.specs.declared.counts.Counts.{Counts}
 use Rattle.stk_records.specs.declared.line.Line.{Line}
 use Rattle.stk_units.proofs.Typed.{orderly_behind}

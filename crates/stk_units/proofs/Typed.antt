@@ -21,9 +21,9 @@ use Rattle.stk_type_rules.specs.Facts.{Fact}
 use Rattle.stk_type_rules.specs.Outcome.{Good}
 use Rattle.stk_function_types.specs.Units.{facts_in, unit_typed}
 use Rattle.stk_kinded.specs.KindedStatements.{KindedFunction}
-use Rattle.stk_kind_laws.proofs.Whole.{accepted_trees_are_kinded}
-use Rattle.stk_cost_laws.specs.Bits.{VisitHasBits}
-use Rattle.stk_cost_laws.proofs.Accepted.{accepted_trees_have_bits}
+use Rattle.stk_type_laws.proofs.KindedTrees.{accepted_trees_are_kinded}
+use Rattle.stk_type_laws.specs.Bits.{VisitHasBits}
+use Rattle.stk_type_laws.proofs.TreesHaveBits.{accepted_trees_have_bits}
 use Rattle.stk_type_laws.specs.Accepted.{IsAccepted}
 use Rattle.stk_accept.specs.declared.accepting.Accepted.{Accepted}
 use Rattle.stk_accept.specs.declared.accepting.Accepted.TheVariants as answers

@@ -11,7 +11,7 @@ use Rattle.stk_type_rules.specs.Outcome.{Good}
 use Rattle.stk_run_laws.specs.Visits.{EachVisit}
 use Rattle.stk_run_laws.specs.TypedTree.{IsTypedTree}
 use Rattle.stk_kinded.specs.KindedStatements.{KindedFunction}
-use Rattle.stk_cost_laws.specs.Bits.{VisitHasBits}
+use Rattle.stk_type_laws.specs.Bits.{VisitHasBits}
 use Rattle.stk_meaning.specs.Typings.{Typing}
 use Rattle.stk_meaning.specs.Keys.{setting_of, function_visits}
 use Rattle.stk_type_laws.specs.Orderly.{AreOrderly}

@@ -7,3 +7,4 @@ pub mod Visiting
 pub mod Counted
 pub mod Pieces
 pub mod Said
+pub use Rattle.stk_weights.specs.Units

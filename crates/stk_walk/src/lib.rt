@@ -15,3 +15,4 @@ mod walked;
 mod walking;
 
 pub use function::walk_function;
+pub use stk_path_runs::{FunctionTables, input_bits};

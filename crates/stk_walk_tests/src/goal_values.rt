@@ -18,11 +18,10 @@ use crate::events::is_hit_free;
 use crate::runs::{Run, run_under};
 use std::alloc::Global;
 use stk_base::NoMemory;
-use stk_findings::{FunctionGoals, SearchedFunction};
+use stk_findings::{FunctionGoals, QueryAnswer, SearchedFunction};
 use stk_goals::Query;
 use stk_query::{Cdcl, Decider, MOST_BUDGET, Verdict};
 use stk_terms::{TermId, Terms, input_bits};
-use stk_wide_judge::QueryAnswer;
 
 /// Looks at the goal that it is asked, whether it is 1 exactly under the maps of the runs that hit the candidate free
 /// of the set, and decides it where there are few input bits. Else it has no answer. A goal that was refuted before

@@ -1,7 +1,7 @@
 use Rattle.std.proofs.Common.{inr, arith}
 use Rattle.std.proofs.lemmas.Option.{slice_get-get_or}
 use Rattle.stk_tree.specs.View.{view_function}
-use Rattle.stk_goals.proofs.Searched.{typed_functions_are_searched}
+use Rattle.stk_findings.proofs.Searched.{typed_functions_are_searched}
 use Rattle.stk_findings.specs.Searched.{about_searched, subject_searched}
 use Rattle.stk_bundles.proofs.Growing.{none_written, one_more_written, written_few, stops_before, stops_within, all_written}
 use Rattle.stk_bundles.proofs.Placing.{is_placed, is_sure, on_err}

@@ -4,8 +4,8 @@ use Rattle.stk_meaning.specs.Lists.{candidates, conditions}
 use Rattle.stk_function_types.specs.Units.{TypedUnit}
 use Rattle.stk_function_types.specs.Nodes.{typing_in}
 use Rattle.stk_function_env.specs.Settings.{FunctionPlaces}
-use Rattle.stk_goals.proofs.Made.{kinds_made}
-use Rattle.stk_goals.proofs.Searched.{typed_functions_are_searched}
+use Rattle.stk_claims.proofs.Made.{kinds_made}
+use Rattle.stk_findings.proofs.Searched.{typed_functions_are_searched}
 use Rattle.stk_bundles.proofs.Whole.{typed_function, function_written, function_stopped}
 use Rattle.stk_bundles.proofs.functions.write_function.Goals as goal
 

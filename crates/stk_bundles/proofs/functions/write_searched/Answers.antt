@@ -1,7 +1,7 @@
 use Rattle.std.proofs.Common.{◌<◌, ◌^◌, List, length, sym, subst}
 use Rattle.stk_tree.specs.View.{view_function}
 use Rattle.stk_numbers.specs.declared.conditions.Candidate.{Candidate}
-use Rattle.stk_goals.proofs.Searched.{typed_functions_are_searched}
+use Rattle.stk_findings.proofs.Searched.{typed_functions_are_searched}
 use Rattle.stk_findings.specs.Searched.{about_searched, subject_searched}
 use Rattle.stk_bundles.proofs.Growing.{no_claims_wrote}
 use Rattle.stk_bundles.proofs.Placing.{no_candidate}

@@ -6,7 +6,7 @@ use Rattle.stk_meaning.specs.Weights.{weight, most_weight}
 use Rattle.stk_run_laws.specs.Visits.{EachVisit}
 use Rattle.stk_run_laws.specs.TypedTree.{IsTypedTree}
 use Rattle.stk_kinded.specs.KindedStatements.{KindedFunction}
-use Rattle.stk_cost_laws.specs.Bits.{VisitHasBits}
+use Rattle.stk_type_laws.specs.Bits.{VisitHasBits}
 use Rattle.stk_function_types.specs.Units.{TypedUnit}
 use Rattle.stk_function_types.specs.Nodes.{typing_in}
 use Rattle.stk_function_env.specs.Settings.{FunctionPlaces}

@@ -2,7 +2,7 @@ use Rattle.std.proofs.Common.{◌<◌, ◌^◌, List, length, sym, subst, ◌∙
 use Rattle.stk_tree.specs.View.{view_function}
 use Rattle.stk_numbers.specs.declared.conditions.Candidate.{Candidate}
 use Rattle.stk_function_types.specs.Nodes.{typing_in}
-use Rattle.stk_goals.proofs.Searched.{typed_functions_are_searched}
+use Rattle.stk_findings.proofs.Searched.{typed_functions_are_searched}
 use Rattle.stk_findings.specs.Searched.{subject_searched}
 use Rattle.stk_spelling.specs.Placed.{placed_in}
 use Rattle.stk_unit_lines.proofs.Taking.{no_findings_wrote}

@@ -1,8 +1,8 @@
 use Rattle.std.proofs.Common.{sym, subst}
 use Rattle.stk_tree.specs.Syntax.{FunctionTree}
 use Rattle.stk_tree.specs.View.{view_function}
-use Rattle.stk_path_runs.specs.Rows.{Tables}
-use Rattle.stk_path_runs.specs.FunctionTables.{AreTablesOf}
+use Rattle.stk_goals.specs.Rows.{Tables}
+use Rattle.stk_goals.specs.FunctionTables.{AreTablesOf}
 use Rattle.stk_findings.proofs.queries.Queries.new.Goals as goal
 
 pub begin-requires : goal.begin-requires

@@ -3,8 +3,8 @@ use Rattle.stk_tree.specs.Syntax.{FunctionTree}
 use Rattle.stk_tree.specs.View.{view_function}
 use Rattle.stk_meaning.specs.Keys.{input_bits}
 use Rattle.stk_meaning.specs.Findings.{IsLawful}
-use Rattle.stk_path_runs.specs.Rows.{Tables}
-use Rattle.stk_path_runs.specs.FunctionTables.{AreTablesOf}
+use Rattle.stk_goals.specs.Rows.{Tables}
+use Rattle.stk_goals.specs.FunctionTables.{AreTablesOf}
 use Rattle.stk_wide_judge.specs.Wide.{AskedFunction, asked_in, asked_subject}
 use Rattle.stk_wide_judge.specs.Starts.{AreKnown}
 use Rattle.stk_wide_judge.proofs.Later.{lawful_earlier}

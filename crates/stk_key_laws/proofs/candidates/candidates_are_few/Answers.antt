@@ -1,5 +1,0 @@
-use Rattle.stk_key_laws.proofs.FewCandidates.{few_candidates}
-use Rattle.stk_key_laws.proofs.candidates.candidates_are_few.Goals as goal
-
-pub returns : goal.returns
-returns c = λ ty f n. few_candidates ty f n

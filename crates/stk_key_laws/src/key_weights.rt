@@ -1,8 +1,0 @@
-//! A law of how many keys there are.
-ghost use Rattle.stk_key_laws.specs.Weights.{KeysAreWithinWeight};
-
-/// The bits of an input map are at most the weight of its function, whatever typing answers, and no less than there are
-/// keys; so a function that isn't too heavy to be searched has fewer than 2^32 keys.
-pub fn keys_are_within_weight()
-    ensures { KeysAreWithinWeight }
-{}

@@ -1,5 +1,0 @@
-use Rattle.stk_kind_laws.proofs.Whole.{accepted_units_are_kinded}
-use Rattle.stk_kind_laws.proofs.kinded_trees.accepted_units_are_kinded.Goals as goal
-
-pub returns : goal.returns
-returns c = accepted_units_are_kinded

@@ -1,0 +1,5 @@
+use Rattle.stk_type_laws.proofs.KindedTrees.{accepted_units_are_kinded}
+use Rattle.stk_type_laws.proofs.kinded_trees.accepted_units_are_kinded.Goals as goal
+
+pub returns : goal.returns
+returns c = accepted_units_are_kinded
