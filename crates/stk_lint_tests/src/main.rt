@@ -1,9 +1,9 @@
 //! The checker as a program, as in stk_prog: the gate runs it with a word on its command line, which it refuses with
 //! status 3 before it reads or writes anything.
 //!
-//! Beside it, tests of the top call: the records of functions of more than 16 input bits, and what the decider is asked;
-//! texts that are generated; the scripts that it writes; and bundles, whose clauses and derivations are read back and
-//! checked, and which are audited.
+//! Beside it, tests of the top call: the records of functions of more than 16 input bits, and what the decider is
+//! asked; texts that are generated; the scripts that it writes; and bundles, whose clauses and derivations are read
+//! back and checked, and which are audited.
 #![tactic(auto)]
 
 #[cfg(test)]
