@@ -62,7 +62,7 @@ awk '
         return lines
     }
     function row(name, depth, what, over) {
-        printf "| %-18s | %-4s | %-50s | %-34s |\n", name, depth, what, over
+        printf "| %-19s | %-4s | %-50s | %-34s |\n", name, depth, what, over
     }
     /^# [A-Z]/ && !/^# One line a crate/ { layer = substr($0, 3); next }
     /^# / { said = substr($0, 3); next }
