@@ -2,10 +2,10 @@
 # input, builds it over these crates of the repository, which it takes in a folder of its own, and leaves the shell
 # there, with the path in `program`. A CRATE may be one of the kit too. `below CRATE..` prints the crates on which
 # these stand, the kit's too, each behind those on which it stands. Where `ending` is set, its text is added at the
-# program's end: `said` is a `main` that prints what `answer(alloc, bytes)` says of the input, `making` has `made`, which
-# makes a term if it can be made, and `counting` has `count_of`, the number that the input is. `many TEXT SIZE` writes a text, given with Python's escapes, again and again,
-# up to so many bytes. `timed NAME WORD..` runs the program with these words, and prints the name, its processor seconds
-# and what it wrote.
+# program's end: `said` is a `main` that prints what `answer(alloc, bytes)` says of the input, `making` has `made`,
+# which makes a term if it can be made, and `counting` has `count_of`, the number that the input is. `many TEXT SIZE`
+# writes a text, given with Python's escapes, again and again, up to so many bytes. `timed NAME WORD..` runs the
+# program with these words, and prints the name, its processor seconds and what it wrote.
 top=$(cd "$(dirname "${BASH_SOURCE[0]}")/.." && pwd)
 work=$(mktemp -d)
 trap 'rm -rf "$work"' EXIT
