@@ -1,4 +1,5 @@
-//! When an audit of a bundle holds, which line fails and why, and what its claims say: definitions alone.
+//! When an audit of a bundle holds, which line fails and why, and what its claims say: definitions, and
+//! the law that a yes is true.
 #![tactic(auto)]
 
 mod audit;

@@ -53,14 +53,14 @@ said_marks [] = 0
 said_marks (p ∷ ps) = p.marks + said_marks ps
 
 module _ (bytes : List ℕ) (without : Kinds) (budget : ℕ) (now : List NameEntry) (tokens : List Token) (u : UnitTree) (f : FunctionTree) where
-  -- Findings of candidates are lawful, and these are their claims: each set that is reported suffices in path runs and in
-  -- every execution, and a query is given up only where it is spent at this budget.
+  -- Findings of candidates are lawful, and these are their claims: each set that is reported suffices in path runs and
+  -- in every execution, and a query is given up only where it is spent at this budget.
   pub record AreClaimed (cs : List Candidate) (findings : List Finding) (claims : List LineBlock) : Type 0 where
     pub lawful : AreLawful (function_subject (unit_typing bytes now u) without f (spent_at (unit_typing bytes now u) without f budget)) cs findings
     pub are : AreClaims (unit_typing bytes now u) without f budget cs findings claims
 
-  -- what is said of the function: the claims of lawful findings of its candidates, in order, behind its line where there
-  -- are some
+  -- what is said of the function: the claims of lawful findings of its candidates, in order, behind its line where
+  -- there are some
   pub record IsFunctionPart (part : FunctionPart) (counts : Counts) : Type 0 where
     pub findings : List Finding
     pub claims : List LineBlock
@@ -104,8 +104,8 @@ pub record IsUnitBegun (bytes : List ℕ) (without : Kinds) (budget : ℕ) (mark
 -- ---- what a sink took
 
 module _ (bytes : List ℕ) (without : Kinds) (budget : ℕ) (mark : Bool) (es : List NameEntry) (body : Option ℕ) (tokens : List Token) (before after : Option (List ℕ)) where
-  -- a sink took the part of a unit, which counts for this and leaves these names, and a count of what was given up tells
-  -- of its marks
+  -- a sink took the part of a unit, which counts for this and leaves these names, and a count of what was given up
+  -- tells of its marks
   pub record WroteUnit (first last : ℕ) (counts : Counts) (now : List NameEntry) : Type 0 where
     pub said : List FunctionPart
     pub are : IsUnitPart bytes without budget mark es body tokens said counts now

@@ -42,8 +42,8 @@ module _ (subject : Subject) (ty : Typing) (without : Kinds) (f : FunctionTree) 
   abbrev pub HasStopped : Type 0
   HasStopped = (after ≡ before) ⊎ WroteClaimsPrefix
 
--- The same of a function whole, at a budget: each set that is reported suffices in path runs and in every execution, and
--- a query is given up only where it is spent.
+-- The same of a function whole, at a budget: each set that is reported suffices in path runs and in every execution,
+-- and a query is given up only where it is spent.
 abbrev pub WroteFunction : Typing → Kinds → FunctionTree → ℕ → ℕ → Option (List ℕ) → Option (List ℕ) → ℕ → ℕ → Counts → Type 0
 WroteFunction ty without f budget at before after first last counts =
     WroteClaims (function_subject ty without f (spent_at ty without f budget)) ty without f budget at (candidates ty f) before after first last counts

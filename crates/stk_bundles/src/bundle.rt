@@ -91,7 +91,7 @@ fn finish<K: Sink>(alloc: Global, out: &mut K) -> Result<(), Stop>
     Ok(())
 }
 
-/// Judges the units of an input and writes its bundle, each claim as soon as its candidate is judged, and flushes it:
+/// Judges the units of an input and writes its bundle, and flushes it:
 /// the first lines say how many bytes the input has and which kinds of conditions are taken out; what is said of a unit
 /// is the line of the function that it defines, where this is judged and a candidate of it is unstable, and a claim for
 /// each report, in the order of its candidates, or that it has none; then comes the last line. A claim has a start, the

@@ -1,5 +1,5 @@
 //! Bundles of inputs: what is said of a unit, which is the line of a function with reports and a claim for each of
-//! them, each written as soon as its candidate is judged; and the first lines, what is said of all units, and the last
+//! them, in the order of its candidates; and the first lines, what is said of all units, and the last
 //! line.
 #![tactic(auto)]
 

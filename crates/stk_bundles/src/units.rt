@@ -78,9 +78,9 @@ impl<K: Sink, D: Decider> UnitVisitor<K, D> for ClaimVisitor {
 /// the order of its candidates, its claim, or that it has none. Every other unit has none. The answer is what the unit
 /// counts for; the names become those that it leaves in force.
 ///
-/// A claim is written as soon as its candidate is judged. Where the writing stops, the sink took nothing, or some
-/// prefix of the claims of the function's first candidates. `WriteFault` comes only where the sink counted a fault; the
-/// only other refusal is want of memory.
+/// A claim is written before the next candidate is judged, which no clause says. Where the writing stops, the sink took
+/// nothing, or some prefix of the claims of the function's first candidates. `WriteFault` comes only where the sink
+/// counted a fault; the only other refusal is want of memory.
 pub fn write_unit_part<K: Sink, D: Decider>(
     unit: &VisitedUnit,
     names: &mut Names,

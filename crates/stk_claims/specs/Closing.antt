@@ -30,9 +30,9 @@ use Rattle.stk_claims.specs.declared.function.ClaimedFunction.{ClaimedFunction}
 use Rattle.stk_claims.specs.declared.function.Report.{Report}
 
 module _ (ty : Typing) (without : Kinds) (f : FunctionTree) (c : Candidate) (set : List Condition) where
-  -- The function has so many input bits that not all maps are tried; a clause list stands for the query of the candidate
-  -- for the set, with at most as many variables as the function has input bits and weight; and a derivation refutes it,
-  -- of at most as many steps as the budget has and one more.
+  -- The function has so many input bits that not all maps are tried; a clause list stands for the query of the
+  -- candidate for the set, with at most as many variables as the function has input bits and weight; and a derivation
+  -- refutes it, of at most as many steps as the budget has and one more.
   pub record IsProof (budget : ℕ) (list : Cnf) (derivation : Derivation) : Type 0 where
     pub wide : most_bits < input_bits (keys_of ty without f)
     pub stands : StandsForQuery ty without f c set list
@@ -69,8 +69,8 @@ without_of x = x.tables.now.places.without
 abbrev pub tree_of : ClaimedFunction → FunctionTree
 tree_of x = view_function x.function.now
 
--- It is searched, the candidates are all that it has, the kinds are those of its keys, and the budget is one that a query
--- may have.
+-- It is searched, the candidates are all that it has, the kinds are those of its keys, and the budget is one that a
+-- query may have.
 pub record IsClaimed (x : ClaimedFunction) : Type 0 where
   pub searched : IsSearched x.tables.now (tree_of x)
   pub candidates : x.candidates.now ≡ candidates (typing_of x) (tree_of x)

@@ -42,8 +42,8 @@ spent_searched s = spent_at (about_searched s).typing (about_searched s).without
 abbrev pub subject_searched : SearchedFunction → Subject
 subject_searched s = searched_subject (about_searched s).typing (about_searched s).without (about_searched s).tree s.budget
 
--- A function is to be searched: it is typed and not too heavy, the tables are its own, the candidates and conditions are
--- all that it has, and the budget is one that a query may have.
+-- A function is to be searched: it is typed and not too heavy, the tables are its own, the candidates and conditions
+-- are all that it has, and the budget is one that a query may have.
 pub record IsSearchable (s : SearchedFunction) : Type 0 where
   pub typed : IsTypedFunction s.tables.now (view_function s.function.now)
   pub candidates : s.candidates.now ≡ candidates (typing_in s.tables.now.places.types) (view_function s.function.now)

@@ -66,8 +66,8 @@ IsLawfulOutput bytes o None false text status marks = IsLawfulText bytes o text 
 IsLawfulOutput bytes o None true text status marks = IsLawfulBundle bytes o.without o.budget text status marks
 IsLawfulOutput bytes o (Some asked) bundle text status marks = IsInputScript bytes o.without asked text × (status ≡ Stable) × (marks ≡ 0)
 
--- What some prefix is written of where the writing stops: lawful records; a lawful bundle, or what one may begin with; or
--- the script.
+-- What some prefix is written of where the writing stops: lawful records; a lawful bundle, or what one may begin with;
+-- or the script.
 abbrev pub IsLawfulFront : List ℕ → Options → Option AskedScript → Bool → List ℕ → Type 0
 IsLawfulFront bytes o None false text = (status : Status) × ((marks : ℕ) × IsLawfulText bytes o text status marks)
 IsLawfulFront bytes o None true text = IsBundleFront bytes o.without o.budget text

@@ -1,4 +1,5 @@
-//! The top call: from the bytes of a source to records, or to the script of a candidate, on a sink.
+//! The top call: from the bytes of a source to records, to a bundle, or to the script of a candidate, on a
+//! sink.
 #![tactic(auto)]
 
 mod lint;

@@ -1,4 +1,5 @@
-//! Tests of the top call of the replay: the texts of executions, and how it ends otherwise.
+//! Tests of the top call of the replay: the texts of executions, and how it ends otherwise; and of memory, of scripts
+//! and of the lines of a replay.
 #![tactic(auto)]
 
 #[cfg(test)]

@@ -1,4 +1,5 @@
--- What a lawful report shows of its set of conditions (Wang, Zeldovich, Kaashoek, Solar-Lezama, SOSP 2013, section 4.5).
+-- What a lawful report shows of its set of conditions (Wang, Zeldovich, Kaashoek, Solar-Lezama, SOSP 2013,
+-- section 4.5).
 use Rattle.std.specs.Prelude.{List, [], ◌∷◌, ℤ, if◌then◌else◌}
 use Rattle.stk_tree.specs.Syntax.{FunctionTree}
 use Rattle.stk_numbers.specs.declared.conditions.Candidate.{Candidate}

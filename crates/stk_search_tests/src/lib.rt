@@ -1,4 +1,4 @@
-//! Tests of the search and of deciding goals.
+//! Tests of the search, of deciding goals, and of the texts of clause lists and derivations.
 #![tactic(auto)]
 
 mod answers;

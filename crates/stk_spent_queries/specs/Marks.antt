@@ -26,8 +26,8 @@ abbrev pub all_marks : List Finding → ℕ
 all_marks [] = 0
 all_marks (x ∷ xs) = marks x + all_marks xs
 
--- A count that was `before` and is `now` tells of so many: it rose by at least as many, or stands at the last value of a
--- u64 or above; and where there are any, it rose at all, or stands there.
+-- A count that was `before` and is `now` tells of so many: it rose by at least as many, or stands at the last value of
+-- a u64 or above; and where there are any, it rose at all, or stands there.
 pub record AreCounted (before now n : ℕ) : Type 0 where
   pub enough : (before + n ≤ now) ⊎ (2 ^ 64 - 1 ≤ now)
   pub rose : 0 < n → Rose before now

@@ -27,8 +27,8 @@ module _ (ty : Typing) (without : Kinds) (f : FunctionTree) (c : Candidate) (set
     pub valid : IsValid ty without f numbers
     pub hits : HitsFree set c (path ty without f numbers)
 
-  -- clauses stand for the query of a candidate for a set of conditions: their inputs are the bits of the keys, in order,
-  -- the least bit first
+  -- clauses stand for the query of a candidate for a set of conditions: their inputs are the bits of the keys, in
+  -- order, the least bit first
   abbrev pub StandsForQuery : Cnf → Type 0
   StandsForQuery list = StandsForInputs (map (λ k. width_of k.kind) (keys_of ty without f)) AnswersByResidues list
 

@@ -57,8 +57,8 @@ pub record HasWrittenRecords (Are : List Line → Counts → Type 0) (o : Option
   pub fault : r ≡ Err stops.WriteFault → Rose faults_before faults_after
   pub given_up : first ≤ last
 
--- The records of a unit that is left out, and of a function that is judged, as what a visitor does: a sink shows what it
--- took and how often it failed, and a decider how much it gave up.
+-- The records of a unit that is left out, and of a function that is judged, as what a visitor does: a sink shows what
+-- it took and how often it failed, and a decider how much it gave up.
 abbrev pub LeavesRecords : {O A : Type 0} → (O → Option (List ℕ)) → (O → ℕ) → (A → ℕ) → LeavingOut RecordVisitor O A
 LeavesRecords taken faults given_up = λ bytes tokens cause r v w o p a b. HasWrittenRecords (IsSkipLine bytes tokens cause) v.options r (taken o) (taken p) (faults o) (faults p) (given_up a) (given_up b) w.counts
 

@@ -1,5 +1,4 @@
-//! The lines of a unit: those of its findings, each written as soon as its candidate is judged, and those of a unit
-//! that is skipped.
+//! The lines of a unit: those of its findings, in the order of its candidates, and those of a unit that is skipped.
 #![tactic(auto)]
 
 mod file;

@@ -18,13 +18,14 @@ use stk_units::{VisitedUnit, visit_unit};
 /// Judges a unit of these tokens, of which there is at least one, with the kinds of conditions taken out that the
 /// options name, and writes its lines in the form that they ask for: none of an empty unit and of a declaration that
 /// are accepted; a line with the cause where no tree is the tokens, where a rule refuses the unit, and where it defines
-/// a function of over 20,000 nodes, or of a weight over 8,000,000; and else the lines of the function's findings, each
-/// as soon as its candidate has been judged. Of a function of over 16 input bits, queries are asked of the decider,
-/// each within the budget of the options, from 1 to 200,000; what is undecided or open is told by the count of goals
-/// that the decider gave up. The answer is what the unit counts for. The names are those that the unit leaves in force;
-/// `body` says how many of its tokens stand before a body, and `mark` that it is marked as one of functions that don't
-/// return. The names before it are orderly, as units leave them (C11 6.7p7, 6.7.2.1). `WriteFault` comes only where the
-/// sink counted a fault; after it and after `NoMemory` the sink took some prefix of lines that are lawful for the unit.
+/// a function of over 20,000 nodes, or of a weight over 8,000,000; and else the lines of the function's findings, in
+/// the order of its candidates (each is written before the next candidate is judged, which no clause says). Of a
+/// function of over 16 input bits, queries are asked of the decider, each within the budget of the options, from 1 to
+/// 200,000; what is undecided or open is told by the count of goals that the decider gave up. The answer is what the
+/// unit counts for. The names are those that the unit leaves in force; `body` says how many of its tokens stand before
+/// a body, and `mark` that it is marked as one of functions that don't return. The names before it are orderly, as
+/// units leave them (C11 6.7p7, 6.7.2.1). `WriteFault` comes only where the sink counted a fault; after it and after
+/// `NoMemory` the sink took some prefix of lines that are lawful for the unit.
 pub fn write_unit<K: Sink, D: Decider>(
     file: &LintedFile,
     mark: bool,

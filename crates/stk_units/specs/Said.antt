@@ -14,9 +14,9 @@ use Rattle.stk_records.specs.Counts.{nothing_counted, counts_sum}
 use Rattle.stk_spent_queries.specs.Marks.{AreCounted}
 use Rattle.stk_units.specs.Pieces.{tokens_of_piece, body_of_piece}
 
--- What is said of a unit of these tokens, which may be marked as one of functions that don't return, and of whose tokens
--- so many may stand before a body: what is said in order, what it counts for, and the names that it leaves in force,
--- where these are in force before it.
+-- What is said of a unit of these tokens, which may be marked as one of functions that don't return, and of whose
+-- tokens so many may stand before a body: what is said in order, what it counts for, and the names that it leaves in
+-- force, where these are in force before it.
 abbrev pub UnitSaying : Type 0 → Type 1
 UnitSaying A = Bool → List NameEntry → Option ℕ → List Token → List A → Counts → List NameEntry → Type 0
 
@@ -24,7 +24,8 @@ UnitSaying A = Bool → List NameEntry → Option ℕ → List Token → List A 
 abbrev pub UnitBeginning : Type 0 → Type 1
 UnitBeginning A = Bool → List NameEntry → Option ℕ → List Token → List A → Type 0
 
--- what is said of units, one after the other, each under the names that those before it leave, and their counts together
+-- what is said of units, one after the other, each under the names that those before it leave, and their counts
+-- together
 pub data AreSaid {A : Type 0} (Says : UnitSaying A) (tokens : List Token) : List NameEntry → List Piece → List A → Counts → Type 0 where
   no_unit : {es : List NameEntry} → AreSaid Says tokens es [] [] nothing_counted
   then_unit : {es now : List NameEntry} {p : Piece} {ps : List Piece} {said others : List A} {counts more : Counts} → Says p.no_return es (body_of_piece p) (tokens_of_piece tokens p) said counts now

@@ -14,8 +14,9 @@ use Rattle.stk_walk.specs.declared.walking.FunctionParts.{FunctionParts}
 use Rattle.stk_walk.specs.Validity.{walk_object, AreDistinct}
 
 -- What a walk is given are the parts of a function: its body, its register parameters, its kept and its memory objects,
--- and its candidates; the setting is the function's, and the numbers of a list are those of its keys in order. It is one
--- that typing accepts: its nodes are numbered, its memory objects have nodes of their own, and operands are scalars.
+-- and its candidates; the setting is the function's, and the numbers of a list are those of its keys in order. It is
+-- one that typing accepts: its nodes are numbered, its memory objects have nodes of their own, and operands are
+-- scalars.
 pub record AreParts (ty : Typing) (without : Kinds) (f : FunctionTree) (g : Setting) (under : List ℤ → InputMap) (parts : FunctionParts) : Type 0 where
   pub setting : g ≡ setting_of ty without f
   pub numbers : (m : List ℤ) → under m ≡ number_under (keys_of ty without f) m
