@@ -14,7 +14,7 @@ type Refused = (u32, u32, u8);
 
 /// Texts with their units that aren't accepted, in order. The rules are those of C11 6.7 and 6.9 in the profile of this
 /// project, and the sizes those that gcc gives.
-static TEXTS: [(&[u8], &[Refused]); 89] = [
+static TEXTS: [(&[u8], &[Refused]); 93] = [
     // a name that isn't declared
     (b"int a[n];", &[(0, 6, 1)]),
     // a struct tag is declared by its use
@@ -41,6 +41,13 @@ static TEXTS: [(&[u8], &[Refused]); 89] = [
     (b"int a; typedef int a;", &[(7, 19, 3)]),
     // other parameters
     (b"int f(void); int f(int);", &[(13, 17, 3)]),
+    // another result, before an unnamed parameter of a definition, an incomplete result and an array
+    (b"int f(int); long f(int) { return 0; }", &[(12, 17, 3)]),
+    (
+        b"struct s; int f(int); struct s f(int x) { return 0; }",
+        &[(22, 31, 3)],
+    ),
+    (b"typedef int A[3]; int f(int); A f(int);", &[(30, 32, 3)]),
     // no parameters given
     (
         b"int f(); int f(int); int f(); int f(long);",
@@ -74,6 +81,8 @@ static TEXTS: [(&[u8], &[Refused]); 89] = [
     (b"extern void v;", &[(0, 12, 4)]),
     // an unknown size
     (b"int a[];", &[(0, 4, 4)]),
+    // an incomplete struct elsewhere, with an initialiser
+    (b"struct s; extern struct s x = { 1 };", &[(10, 26, 4)]),
     // an unknown size within
     (b"extern int a[2][];", &[(0, 11, 4)]),
     // designators don't count

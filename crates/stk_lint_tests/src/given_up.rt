@@ -15,8 +15,8 @@ struct Row {
 
 static ROWS: [Row; 3] = [
     Row {
-        input: "int f(unsigned x, unsigned y) { if ((x + y) * (x - y) != x * x - y * y) return 1; return 0; }",
-        records: "-:1:37: undecided: always false in f; free query\n-:1:73: undecided: never entered in f; free query\n1 functions, 3 candidates, 0 unstable, 2 undecided, 0 skipped\n",
+        input: "int f(unsigned long x, unsigned long y) { if ((x + y) * (x - y) != x * x - y * y) return 1; return 0; }",
+        records: "-:1:47: undecided: always false in f; free query\n-:1:83: undecided: never entered in f; free query\n1 functions, 3 candidates, 0 unstable, 2 undecided, 0 skipped\n",
         status: Status::Unsure,
     },
     // No run in which `z` is 0 comes to the test without a division by zero.

@@ -56,7 +56,7 @@ fn add_column(
     add_count(text, b"", u64::from(place.column))
 }
 
-// The nodes of a function without the one of its unit, its bits and its weight.
+// The nodes of a function, the one of its unit included, its bits and its weight.
 fn sizes_text(alloc: Global, setting: &Setting) -> Result<Vec<u8>, NoMemory>
     requires { IsWhole setting.now }
 {

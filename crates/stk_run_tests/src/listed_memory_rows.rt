@@ -197,7 +197,7 @@ pub(crate) static POINTERS: [Listed; 13] = [
 ];
 
 /// Stores, tests and calls.
-pub(crate) static STORES: [Listed; 12] = [
+pub(crate) static STORES: [Listed; 13] = [
     (
         "int m27(struct S *s, int i) { struct S *t = &s[i]; s[i].arr[i] = i; t->in.lo = i; return t->b + s->b; }",
         "37 nodes, 98 bits, 32384",
@@ -280,6 +280,14 @@ pub(crate) static STORES: [Listed; 12] = [
         "45 nodes, 88 bits, 318592",
         "c SChar, s UShort, l Long",
         "overflow 59, shift 68, overflow 59, shift 79, overflow 59, overflow 90, zero 90, overflow 59, overflow 100, zero 100, overflow 59, overflow 59, overflow 124, overflow 59",
+        "",
+    ),
+    // what isn't evaluated has no condition, no candidate and no replacement, and weighs as sums and comparisons do
+    (
+        "int m39(int y) { return sizeof(y + 1 < y) + sizeof abs(y) + sizeof memcpy(0, 0, 1); }",
+        "27 nodes, 32 bits, 9600",
+        "y Int",
+        "",
         "",
     ),
 ];

@@ -1,5 +1,5 @@
 //! Functions over numbers and single objects, of many forms of expressions and statements. Beside each function stand
-//! its sizes: its nodes without the one of its unit, the bits of its input maps, and its weight; its keys, each with
+//! its sizes: its nodes, the one of its unit included, the bits of its input maps, and its weight; its keys, each with
 //! its kind, the size of its object, and whether that is kept; its conditions and its candidates, each with the column
 //! of its node.
 

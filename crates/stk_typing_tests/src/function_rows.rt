@@ -4,10 +4,10 @@
 
 /// What is declared before each function.
 pub(crate) static FIRST: &str =
-    "int one(int); void none(void); int many(); struct point { int x; char mark; int at[2]; struct point *next; }; struct hidden; struct hidden *veiled; struct point here; extern int row[]; enum shade { DARK, PALE }; typedef int count; ";
+    "int one(int); void none(void); int many(); struct point { int x; char mark; int at[2]; struct point *next; }; struct hidden; struct hidden *veiled; struct point here; extern int row[]; enum shade { DARK, PALE }; typedef int count; void taking(struct point); ";
 
 /// Names, types and objects.
-pub(crate) static DECLARED: [(&str, u8); 46] = [
+pub(crate) static DECLARED: [(&str, u8); 51] = [
     // names that aren't declared, or no longer
     ("int f(int a) { return @b; }", 1),
     ("int f(int a) { { int b; } return @b; }", 1),
@@ -56,6 +56,15 @@ pub(crate) static DECLARED: [(&str, u8); 46] = [
     // sizes and labels that aren't constant
     ("int f(int a) { int @b[a]; return 1; }", 5),
     ("int f(void) { int @b[0]; return 1; }", 5),
+    // a local whose type can't be made, in its own initialiser
+    ("int f(int a) { int @b[0] = { b + 1 }; return a; }", 5),
+    ("int f(int a) { int @b[0] = { sizeof b }; return a; }", 5),
+    (
+        "int f(int a) { char @b[3000000000] = { b[0] }; return a; }",
+        5,
+    ),
+    ("int f(int a) { int @b[a] = { b[0] }; return a; }", 5),
+    ("int f(int a) { int @b[][] = { b[0][0] }; return a; }", 4),
     ("int f(int a) { return sizeof(@int[a]); }", 5),
     ("int f(int a) { switch (a) { @case a: ; } return 0; }", 5),
     (
@@ -82,7 +91,7 @@ pub(crate) static DECLARED: [(&str, u8); 46] = [
 ];
 
 /// Expressions.
-pub(crate) static EXPRESSIONS: [(&str, u8); 44] = [
+pub(crate) static EXPRESSIONS: [(&str, u8); 45] = [
     // operands of the wrong type
     ("int f(int *p) { return @p * 2; }", 6),
     ("int f(int *p) { return @p + p == p; }", 6),
@@ -111,6 +120,7 @@ pub(crate) static EXPRESSIONS: [(&str, u8); 44] = [
     ("int f(void) { return &@one == 0; }", 8),
     ("int f(int a) { int one = 1; return @one(a); }", 8),
     ("int f(int a) { return one(one(a)); }", 0),
+    ("int f(int a) { @taking(a); return a; }", 6),
     ("int f(int a) { return many(1, 2, &a); }", 0),
     // structs as values
     (
@@ -142,7 +152,7 @@ pub(crate) static EXPRESSIONS: [(&str, u8); 44] = [
 ];
 
 /// Statements.
-pub(crate) static STATEMENTS: [(&str, u8); 45] = [
+pub(crate) static STATEMENTS: [(&str, u8); 47] = [
     // tests that are no scalars
     ("int f(int a) { @if (none()) ; return a; }", 6),
     ("int f(struct point *p) { @if (*p) return 1; return 0; }", 6),
@@ -150,6 +160,10 @@ pub(crate) static STATEMENTS: [(&str, u8); 45] = [
     ("int f(int a) { @do ; while (none()); return a; }", 6),
     ("int f(int a) { @for (; none(); ) ; return a; }", 6),
     ("int f(int *p) { @switch (p) { } return 1; }", 6),
+    (
+        "int f(int *p) { @switch (p) { case 1: case 1: ; } return 1; }",
+        6,
+    ),
     ("int f(int a) { @return none(); }", 6),
     ("int f(int a) { for (none(); a; none()) ; return a; }", 0),
     ("int f(int *p) { if (p) while (p) p = 0; return 1; }", 0),
@@ -158,6 +172,7 @@ pub(crate) static STATEMENTS: [(&str, u8); 45] = [
     ("int f(struct point *p) { @for (*p; 0; ) ; return 1; }", 9),
     ("int f(struct point *p) { @for (; 0; *p) ; return 1; }", 9),
     ("int f(struct point *p) { @return *p; }", 9),
+    ("struct point f(char c) { @return 1; }", 6),
     ("int f(struct point *p) { (*p).x; ; return 1; }", 0),
     // labels that stand twice
     (
