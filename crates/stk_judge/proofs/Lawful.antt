@@ -9,7 +9,7 @@ use Rattle.stk_numbers.specs.declared.conditions.Inputs.{Inputs}
 use Rattle.stk_meaning.specs.declared.entry.Entry.{Entry}
 use Rattle.stk_meaning.specs.declared.finding.Need.{Need}
 use Rattle.stk_meaning.specs.Findings.{Subject, NoAnswer, IsFirstAnswer, IsUnstable, IsLawfulReport}
-use Rattle.stk_judge.specs.Subjects.{subject_of}
+use Rattle.stk_hits.specs.Subjects.{subject_of}
 use Rattle.stk_judge.specs.Exhaustive.{IsNeededSet}
 
 -- the answer of a query

@@ -1,6 +1,6 @@
 use Rattle.std.proofs.Common.{arith, List, length, sym, ◌∙◌, ap, subst, Vec, Global}
 use Rattle.stk_meaning.specs.declared.finding.Need.{Need}
-use Rattle.stk_judge.specs.Subjects.{subject_of}
+use Rattle.stk_hits.specs.Subjects.{subject_of}
 use Rattle.stk_judge.specs.Exhaustive.{IsNeededSet}
 use Rattle.stk_judge.proofs.Deletion.{IsNeededBehind, none_needed, no_condition, after_answer, after_none, all_asked}
 use Rattle.stk_judge.proofs.exhaustive.needed.Goals as goal
