@@ -64,8 +64,8 @@ fn tell<E: Sink>(fault: &mut E, status: Status)
 ///
 /// - `Stable`: each line of the bundle holds, and each of its claims is true of the source: in the accepted function
 ///   that begins there the candidate is unstable, its set of conditions suffices in path runs and in every execution,
-///   and each condition that a start shows is needed. The sink took `N claims hold`, where N is the number of the
-///   claims.
+///   and each condition that a line shows with a start is needed, by this start. The sink took `N claims hold`, where N
+///   is the number of the claims.
 /// - `Found`: line L of the bundle fails. The sink took `line L: WHY`, with the reason as `form`, `name`, `start`,
 ///   `tried`, `formula` or `derivation`.
 /// - `BadWords`: exactly where there are words. The source of bytes is unread.
