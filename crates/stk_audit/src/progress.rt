@@ -1,9 +1,10 @@
 // What an audit knows between two lines, and what a line does to it.
-ghost use Rattle.std.specs.Prelude.{◌≡◌, ◌++◌, IfOk};
-ghost use Rattle.stk_audit_rules.specs.Knowing.{nothing_known, with_start, with_member, with_claim, with_candidate, with_function, shown_by, shown_in};
+ghost use Rattle.std.specs.Prelude.{◌≡◌, IfOk};
+ghost use Rattle.stk_audit_rules.specs.Knowing.{nothing_known, with_start, with_member, with_claim, with_candidate, with_function};
 ghost use Rattle.stk_audit.specs.Progressing.{known_in};
 
 use std::alloc::Global;
+use std::mem;
 use stk_audit_rules::{Claim, Start, Why};
 use stk_base::{List, NoMemory};
 use stk_clauses::Cnf;
@@ -126,7 +127,7 @@ impl Progress {
         Ok(())
     }
 
-    /// Adds the claim that was read.
+    /// Adds the claim that was read, with its starts. After want of memory nothing is known of those.
     pub(crate) fn add_claim(
         &mut self,
         alloc: Global,
@@ -137,37 +138,13 @@ impl Progress {
         ensures number { IfOk result (λ _. self.new.number ≡ self.old.number) }
     {
         let set = List::from_vec(Vec::from_slice(alloc, &self.members)?);
-        let shown = shown_by(alloc, &self.starts)?;
+        let starts = mem::replace(&mut self.starts, Vec::new(alloc));
         self.claims.push(Claim {
             at,
             candidate,
             set,
-            shown: List::from_vec(shown),
+            starts: List::from_vec(starts),
         })?;
         Ok(())
     }
-}
-
-/// Adds the condition that a start shows to be needed, if it shows one.
-fn add_shown(shown: &mut Vec<Condition>, shows: Option<Condition>) -> Result<(), NoMemory>
-    ensures { IfOk result (λ _. shown.new.items ≡ shown.old.items ++ shown_in shows) }
-{
-    match shows {
-        Some(condition) => {
-            shown.push(condition)?;
-            Ok(())
-        }
-        None => Ok(()),
-    }
-}
-
-/// The conditions that starts show to be needed.
-fn shown_by(alloc: Global, starts: &[Start]) -> Result<Vec<Condition>, NoMemory>
-    ensures { IfOk result (λ shown. shown.items ≡ shown_by starts.now) }
-{
-    let mut shown = Vec::new(alloc);
-    for start in starts {
-        add_shown(&mut shown, start.shows)?;
-    }
-    Ok(shown)
 }

@@ -1,3 +1,4 @@
 mod Splitting
 mod Ended
+mod Large
 mod Audited

@@ -1,8 +1,8 @@
 -- How an audit of an input ends, and what it tells of a failure.
-use Rattle.std.specs.Prelude.{◌≡◌, ◌<◌, ◌⊎◌, ℕ, List, [], length, Option, Some, Result, Ok, Err, codes}
+use Rattle.std.specs.Prelude.{◌≡◌, ◌≢◌, ◌<◌, ◌⊎◌, ℕ, List, [], length, Option, Some, Result, Ok, Err, codes}
 use Rattle.stk_base.specs.declared.status.Status.{Status}
 use Rattle.stk_base.specs.declared.status.Status.TheVariants.{Stable, Found, BadWords, ReadFault, WriteFault, TooLarge, NoMemory}
-use Rattle.stk_base.specs.Streams.{Came, Appended, AppendedPrefix, IsFlushed, IsSpent}
+use Rattle.stk_base.specs.Streams.{Appended, AppendedPrefix, IsFlushed, IsSpent}
 use Rattle.stk_records.specs.declared.writing.Stop.{Stop}
 use Rattle.stk_records.specs.declared.writing.Stop.TheVariants as stops
 use Rattle.stk_audit_rules.specs.declared.audit.Audit.{Audit}
@@ -73,11 +73,15 @@ pub record HasAnsweredPrefix (left_before left_after taken_before taken_after : 
   pub input : IsInput left_before left_after bytes
   pub took : TookPrefix bytes taken_before taken_after
 
--- what came of an input is too large, or all of it came and a part of it is
-pub record CameTooLarge (left_before left_after : Option (List ℕ)) : Type 0 where
-  pub came : List ℕ
-  pub is : Came left_before left_after came
-  pub large : (most_input < length came) ⊎ (IsSpent left_after × HasLargePart came)
+-- an input was read to its end: nothing is left, and neither a failed call nor want of memory stopped that before
+pub record WasReadWhole (left_after : Option (List ℕ)) (status : Status) : Type 0 where
+  pub spent : IsSpent left_after
+  pub not_failed : status ≢ ReadFault
+  pub not_short : status ≢ NoMemory
+
+-- what came of an input is too large: more than an input may have; or all of it came, and a part of it is
+abbrev pub CameTooLarge : List ℕ → Option (List ℕ) → Status → Type 0
+CameTooLarge came left_after status = (most_input < length came) ⊎ (WasReadWhole left_after status × HasLargePart came)
 
 -- an input is too large
 abbrev pub IsTooLarge : List ℕ → Type 0

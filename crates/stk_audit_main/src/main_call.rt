@@ -2,7 +2,7 @@
 
 ghost use Rattle.std.specs.Prelude.{◌≡◌, ◌≢◌, ◌↔◌, ◌⊎◌, ◌≤◌, ◌<◌, ℕ, List, [], length, Some, Err};
 ghost use Rattle.stk_base.specs.Causes.{Rose};
-ghost use Rattle.stk_base.specs.Streams.{Appended};
+ghost use Rattle.stk_base.specs.Streams.{Came, Appended};
 ghost use Rattle.stk_audit_main.specs.Ending as endings;
 
 use crate::ending::audit_input;
@@ -39,7 +39,7 @@ fn run<S: Source, K: Sink>(alloc: Global, words: &[String], source: &mut S, out:
     ensures read_fault { result ≡ Status.ReadFault → Rose (S.faults source.old) (S.faults source.new) }
     ensures no_fault { (result ≡ Status.ReadFault) ⊎ (S.faults source.new ≡ S.faults source.old) }
     ensures write_fault { result ≡ Status.WriteFault → Rose (K.faults out.old) (K.faults out.new) }
-    ensures too_large { result ≡ Status.TooLarge → endings.CameTooLarge (S.left source.old) (S.left source.new) }
+    ensures too_large { (came : List ℕ) × Came (S.left source.old) (S.left source.new) came × ((result ≡ Status.TooLarge) ↔ ((words.now ≡ []) × endings.CameTooLarge came (S.left source.new) result)) }
     ensures large { (bytes : List ℕ) → words.now ≡ [] → S.left source.old ≡ Some bytes → endings.IsTooLarge bytes → ¬ Rose (S.faults source.old) (S.faults source.new) → (result ≡ Status.TooLarge) ⊎ (result ≡ Status.NoMemory) }
 {
     if !words.is_empty() {
@@ -64,14 +64,15 @@ fn tell<E: Sink>(fault: &mut E, status: Status)
 ///
 /// - `Stable`: each line of the bundle holds, and each of its claims is true of the source: in the accepted function
 ///   that begins there the candidate is unstable, its set of conditions suffices in path runs and in every execution,
-///   and each condition that a start shows is needed. The sink took `N claims hold`, where N is the number of the
-///   claims.
+///   and each condition that a line shows with a start is needed, by this start. The sink took `N claims hold`, where N
+///   is the number of the claims.
 /// - `Found`: line L of the bundle fails. The sink took `line L: WHY`, with the reason as `form`, `name`, `start`,
 ///   `tried`, `formula` or `derivation`.
 /// - `BadWords`: exactly where there are words. The source of bytes is unread.
 /// - `ReadFault`: only where the source of bytes counted a fault; after every other answer it counted none.
-/// - `TooLarge`: only where more than 1,090,519,040 bytes came before the end and before any failed call; or all came,
-///   and the bundle has more than 1,073,741,824 bytes or the source more than 16,777,216.
+/// - `TooLarge`: exactly where there are no words, and more than 1,090,519,040 bytes came before the end and before any
+///   failed call; or no more came, neither a failed call nor want of memory stopped them, and the bundle has more than
+///   1,073,741,824 bytes or the source more than 16,777,216.
 /// - `WriteFault`: only where the sink counted a fault. It took some prefix of the line.
 /// - `NoMemory`: no clause says when it comes. The sink took nothing, or some prefix of the line.
 ///
@@ -97,7 +98,7 @@ pub fn audit_main<S: Source, K: Sink, E: Sink>(
     ensures read_fault { result ≡ Status.ReadFault → Rose (S.faults source.old) (S.faults source.new) }
     ensures no_fault { (result ≡ Status.ReadFault) ⊎ (S.faults source.new ≡ S.faults source.old) }
     ensures write_fault { result ≡ Status.WriteFault → Rose (K.faults out.old) (K.faults out.new) }
-    ensures too_large { result ≡ Status.TooLarge → endings.CameTooLarge (S.left source.old) (S.left source.new) }
+    ensures too_large { (came : List ℕ) × Came (S.left source.old) (S.left source.new) came × ((result ≡ Status.TooLarge) ↔ ((words.now ≡ []) × endings.CameTooLarge came (S.left source.new) result)) }
     ensures large { (bytes : List ℕ) → words.now ≡ [] → S.left source.old ≡ Some bytes → endings.IsTooLarge bytes → ¬ Rose (S.faults source.old) (S.faults source.new) → (result ≡ Status.TooLarge) ⊎ (result ≡ Status.NoMemory) }
 
     // Without words, over a source of bytes that tells no more than the limits, and where nothing fails.

@@ -13,11 +13,11 @@ use Rattle.stk_bundle.specs.declared.stage.Stage.TheVariants as stage
 use Rattle.stk_bundle.specs.Grammar.{next_stage}
 use Rattle.stk_audit_rules.specs.declared.audit.Start.{Start}
 use Rattle.stk_audit_rules.specs.Worlds.{World, AuditedFunction, IsAnsweredBy}
-use Rattle.stk_audit_rules.specs.Knowing.{Known, shown_in, shown_by, claim_of}
+use Rattle.stk_audit_rules.specs.Knowing.{Known, claim_of}
 use Rattle.stk_audit_rules.specs.Naming.{NamesCandidate, NamesCondition}
-use Rattle.stk_audit_rules.specs.Starts.{kept_free, IsClaimOf, Shows, AllShow, no_more, one_more, IsShown}
+use Rattle.stk_audit_rules.specs.Starts.{kept_free, IsClaimOf, Shows, AllShow, one_more, IsShown}
 use Rattle.stk_audit_rules.specs.Reasons.{Holds, head, source, without, function, left, unstable, hit, need, open_member, tried, clauses, steps, end}
-use Rattle.stk_audit_rules.specs.Truths.{IsNeeded, IsTrueClaim, IsSound}
+use Rattle.stk_audit_rules.specs.Truths.{IsTrueClaim, IsSound}
 use Rattle.stk_audit_rules.proofs.Sets.{none_with_more}
 use Rattle.stk_audit_rules.proofs.Stages.{at_head, at_source, at_without, to_function, to_left, to_candidate, at_hit, at_need, at_open, at_tried, at_clauses, at_steps, to_end}
 
@@ -62,15 +62,6 @@ first_begins xs y e h = record { first = y; behind = []; is = ap (λ ys. ys ++ y
 
 first_shows : (f : AuditedFunction) (c : Candidate) (set : List Condition) (x : Start) (xs : List Start) → AllShow f c set (x ∷ xs) → Shows f c set x
 first_shows f c set x xs (one_more h more) = h
-
-with_needed : (f : AuditedFunction) (c : Candidate) (set : List Condition) (start : List ℕ) (o : Option Condition) (ks : List Condition) → IsAnsweredBy f c (kept_free o set) start
-    → AllByRecursion (IsNeeded f.subject c set) ks → AllByRecursion (IsNeeded f.subject c set) (shown_in o ++ ks)
-with_needed f c set start None ks h all = all
-with_needed f c set start (Some k) ks h all = (record { start = h.map; answers = h.answers }, all)
-
-needed_by : (f : AuditedFunction) (c : Candidate) (set : List Condition) (xs : List Start) → AllShow f c set xs → AllByRecursion (IsNeeded f.subject c set) (shown_by xs)
-needed_by f c set [] no_more = tt
-needed_by f c set (x ∷ xs) (one_more h more) = with_needed f c set x.residues x.shows (shown_by xs) h (needed_by f c set xs more)
 
 hit_by : (f : AuditedFunction) (c : Candidate) (set : List Condition) (xs : List Start) → Begins xs → AllShow f c set xs → (start : List ℤ) × Answers f.subject c [] start
 hit_by f c set xs b all =
@@ -117,7 +108,7 @@ module _ (w : World) where
         members = all;
         path_sufficient = none;
         sufficient = sound.gathered s.without b c s.members (k.exists b shown.claim.here) (k.last b c shown.claim) none;
-        needed = needed_by (w.function s.without b) c s.members s.starts shown.all;
+        starts = shown.all;
       }
 
   pub named_candidate : (s : Known) (node kind b : ℕ) (c d : Candidate) → NamesCandidate w s node kind c → s.at ≡ Some b → ◌≡◌ {A = Option Candidate} (Some c) (Some d) → Contains (w.function s.without b).candidates d

@@ -125,7 +125,7 @@ names_8 : (starts : List Start) → NamesCondition small (claim_with 0 [] starts
 names_8 starts = record { at = 0; here = refl; same_node = refl; same_kind = refl; exists = (0, omega arith, refl); next = refl }
 
 one_claim : IsAudit small (codes "stack bundle 1\nsource 74\nwithout -\nfunction 0\nunstable 12 3\nhit 0\nneed 8 2 0\ntried\nend\n")
-    (Yes (record { at = 0; candidate = test_at_12; set = zero_at_8 ∷ []; shown = zero_at_8 ∷ [] } ∷ []))
+    (Yes (record { at = 0; candidate = test_at_12; set = zero_at_8 ∷ []; starts = start_of 6 0 None ∷ start_of 7 0 (Some zero_at_8) ∷ [] } ∷ []))
 unfolding digits
 one_claim =
     goes_on (line_of stage.Start stage.Named _ Head (codes "source 74\nwithout -\nfunction 0\nunstable 12 3\nhit 0\nneed 8 2 0\ntried\nend\n") refl tt refl refl) head

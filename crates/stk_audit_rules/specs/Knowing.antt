@@ -42,18 +42,9 @@ nothing_known = record { without = kinds_taken []; at = None; last = None; membe
 abbrev pub last_of : List Condition → Option Condition
 last_of ks = slice_get ks (length ks - 1)
 
--- the conditions that starts show to be needed
-abbrev pub shown_in : Option Condition → List Condition
-shown_in None = []
-shown_in (Some k) = k ∷ []
-
-abbrev pub shown_by : List Start → List Condition
-shown_by [] = []
-shown_by (x ∷ xs) = shown_in x.shows ++ shown_by xs
-
 -- the claim that was read, of the candidate c of the function that begins at a byte
 abbrev pub claim_of : Known → ℕ → Candidate → Claim
-claim_of s at c = record { at = at; candidate = c; set = s.members; shown = shown_by s.starts }
+claim_of s at c = record { at = at; candidate = c; set = s.members; starts = s.starts }
 
 -- a function is at hand
 abbrev pub with_function : Known → ℕ → Known
@@ -75,6 +66,6 @@ with_start s line residues shows = record s { starts = s.starts ++ record { line
 abbrev pub with_clauses : Known → Cnf → Known
 with_clauses s own = record s { clauses = Some own }
 
--- a claim more holds
+-- a claim more holds, which has the starts that were read
 abbrev pub with_claim : Known → ℕ → Candidate → Known
-with_claim s at c = record s { claims = s.claims ++ claim_of s at c ∷ [] }
+with_claim s at c = record s { starts = []; claims = s.claims ++ claim_of s at c ∷ [] }

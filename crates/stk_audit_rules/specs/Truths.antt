@@ -1,11 +1,11 @@
 -- What the claims of an audit say of a source, and which sources an audit may be trusted about.
-use Rattle.std.specs.Prelude.{◌≡◌, ℕ, true, List, ◌∷◌, ◌++◌, ℤ}
+use Rattle.std.specs.Prelude.{◌≡◌, ℕ, true, List, ◌∷◌, ◌++◌}
 use Rattle.std.specs.List.{Contains, AllByRecursion}
 use Rattle.stk_numbers.specs.declared.conditions.Kinds.{Kinds}
 use Rattle.stk_numbers.specs.declared.conditions.UbKind.{UbKind}
 use Rattle.stk_numbers.specs.declared.conditions.Candidate.{Candidate}
 use Rattle.stk_numbers.specs.declared.conditions.Condition.{Condition}
-use Rattle.stk_meaning.specs.Findings.{Subject, Answers, NoAnswer, IsUnstable}
+use Rattle.stk_meaning.specs.Findings.{NoAnswer, IsUnstable}
 use Rattle.stk_clauses.specs.declared.store.Cnf.{Cnf}
 use Rattle.stk_clauses.specs.Literals.{IsUnsatisfiable}
 use Rattle.stk_bundle.specs.declared.line.BundleLine.TheVariants.{Head, Source, Without}
@@ -15,16 +15,12 @@ use Rattle.stk_audit_rules.specs.declared.audit.Audit.{Audit}
 use Rattle.stk_audit_rules.specs.declared.audit.Audit.TheVariants.{Yes, No}
 use Rattle.stk_audit_rules.specs.Worlds.{World}
 use Rattle.stk_audit_rules.specs.Knowing.{kinds_taken}
-use Rattle.stk_audit_rules.specs.Starts.{others}
-
--- a condition of a set is needed for a candidate: a valid map's path run hits it free of the others
-pub record IsNeeded (q : Subject) (c : Candidate) (set : List Condition) (k : Condition) : Type 0 where
-  pub start : List ℤ
-  pub answers : Answers q c (others k set) start
+use Rattle.stk_audit_rules.specs.Starts.{AllShow}
 
 -- A claim is true, with these kinds taken out: the definition of an accepted function begins there, the candidate is
 -- one of its, it is unstable, the set has conditions of the function alone and suffices, in path runs and in every
--- execution, and each condition that is shown is needed.
+-- execution, and each start shows what its line says: its residues are those of a valid map whose path run hits the
+-- candidate; where it shows that a condition is needed, free of the others of the set.
 pub record IsTrueClaim (w : World) (without : Kinds) (claim : Claim) : Type 0 where
   pub function : w.is_function without claim.at ≡ true
   pub candidate : Contains (w.function without claim.at).candidates claim.candidate
@@ -32,7 +28,7 @@ pub record IsTrueClaim (w : World) (without : Kinds) (claim : Claim) : Type 0 wh
   pub members : AllByRecursion (Contains (w.function without claim.at).subject.conditions) claim.set
   pub path_sufficient : NoAnswer (w.function without claim.at).subject claim.candidate claim.set
   pub sufficient : (w.function without claim.at).subject.Suffices claim.candidate claim.set
-  pub needed : AllByRecursion (IsNeeded (w.function without claim.at).subject claim.candidate claim.set) claim.shown
+  pub starts : AllShow (w.function without claim.at) claim.candidate claim.set claim.starts
 
 -- a bundle opens with its first line, the length of its source, and the kinds that it takes out
 abbrev pub OpensWith : List ℕ → ℕ → List UbKind → Type 0

@@ -32,14 +32,14 @@ pub struct Start {
 }
 
 /// What a claim says: in the function that begins at this byte of the source the candidate is unstable; wherever it is
-/// hit, in a path run or in an execution, a condition of the set has been violated before; and those that are shown
-/// are needed for that.
+/// hit, in a path run or in an execution, a condition of the set has been violated before; and each start, in the order
+/// of their lines, shows that the candidate is hit, or that the condition which it names is needed for that.
 #[derive(Debug, Drop)]
 pub struct Claim {
     pub at: u32,
     pub candidate: Candidate,
     pub set: List<Condition>,
-    pub shown: List<Condition>,
+    pub starts: List<Start>,
 }
 
 /// What an audit of a bundle answers.

@@ -9,8 +9,8 @@ use Rattle.stk_meaning.specs.declared.entry.Entry.{Entry}
 use Rattle.stk_meaning.specs.Hits.{HitsFree, is_hit_free}
 use Rattle.stk_meaning.specs.Findings.{Subject, Answers}
 use Rattle.stk_meaning.proofs.HitLemmas.{found, finds}
-use Rattle.stk_judge.specs.InputMaps.{bits_in, Covers, Precedes, map_at}
-use Rattle.stk_judge.proofs.Numbering.{by_number}
+use Rattle.stk_hits.specs.InputMaps.{bits_in, Covers, Precedes, map_at}
+use Rattle.stk_hits.proofs.Numbering.{by_number}
 use Rattle.stk_finding_laws.proofs.Searching.{FirstBelow, first_below, none_below, search_below}
 use Rattle.stk_finding_laws.proofs.Deciding.{FirstOrNone, an_answer, no_answer}
 

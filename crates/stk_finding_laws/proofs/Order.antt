@@ -4,12 +4,12 @@ use Rattle.std.proofs.lemmas.Bool.{cases_order}
 use Rattle.stk_ctype.specs.declared.kind.IntKind.{IntKind}
 use Rattle.stk_meaning.specs.Keys.{KeyInfo}
 use Rattle.stk_meaning.specs.Maps.{AreInRange, residue_in, Precedes}
-use Rattle.stk_judge.specs.InputMaps.{bits_in, Covers, map_at}
-use Rattle.stk_judge.proofs.Numbering.{by_number}
-use Rattle.stk_judge.proofs.Starts.{number_back}
-use Rattle.stk_judge.specs.Subjects.{number_of}
-use Rattle.stk_judge.specs.PathSubjects.{kinds_of}
-use Rattle.stk_judge.proofs.KeyKinds.{covers}
+use Rattle.stk_hits.specs.InputMaps.{bits_in, Covers, map_at}
+use Rattle.stk_hits.proofs.Numbering.{by_number}
+use Rattle.stk_hits.proofs.Starts.{number_back}
+use Rattle.stk_hits.specs.Subjects.{number_of}
+use Rattle.stk_hits.specs.PathSubjects.{kinds_of}
+use Rattle.stk_hits.proofs.KeyKinds.{covers}
 
 -- one comes first, or they have one number
 by_residues : (keys : List KeyInfo) (xs ys : List ℤ) → AreInRange keys xs → AreInRange keys ys → Precedes keys xs ys ⊎ (Precedes keys ys xs ⊎ (number_of (kinds_of keys) xs ≡ number_of (kinds_of keys) ys))

@@ -12,9 +12,9 @@ use Rattle.stk_meaning.specs.declared.finding.Finding.{Finding}
 use Rattle.stk_meaning.specs.Findings.{NoAnswer, AreLawful}
 use Rattle.stk_meaning.specs.PathFindings.{function_subject}
 use Rattle.stk_meaning.specs.Sufficient.{IsPathSufficient, IsSufficient}
-use Rattle.stk_judge.specs.InputMaps.{Covers}
-use Rattle.stk_judge.specs.PathSubjects.{path_subject, kinds_of}
-use Rattle.stk_judge.proofs.KeyKinds.{covers, in_range, precedes}
+use Rattle.stk_hits.specs.InputMaps.{Covers}
+use Rattle.stk_hits.specs.PathSubjects.{path_subject, kinds_of}
+use Rattle.stk_hits.proofs.KeyKinds.{covers, in_range, precedes}
 use Rattle.stk_finding_laws.proofs.Deciding.{IsDecided, findings_of}
 use Rattle.stk_finding_laws.proofs.Numbered.{HasMapsOf, asked}
 

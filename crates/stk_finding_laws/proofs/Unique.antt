@@ -15,7 +15,7 @@ use Rattle.stk_meaning.specs.declared.finding.Phase.{Phase}
 use Rattle.stk_meaning.specs.declared.finding.Phase.TheVariants.{Free, Hit}
 use Rattle.stk_meaning.specs.Findings.{Subject, members, shown_need, NoAnswer, IsFirstAnswer, IsPrintedOf, IsPrinted, IsGivenUp, IsMinimal, no_more, member, open_member, no_member, IsLawfulPhase, IsLawful, AreLawful}
 use Rattle.stk_meaning.specs.PathFindings.{function_subject}
-use Rattle.stk_judge.specs.PathSubjects.{path_subject}
+use Rattle.stk_hits.specs.PathSubjects.{path_subject}
 use Rattle.stk_finding_laws.proofs.Order.{order_of}
 
 -- What a subject needs for a candidate to have one finding: all maps are tried, and of two maps one comes first, or

@@ -7,7 +7,7 @@ ghost use Rattle.stk_numbers.specs.declared.conditions.Kinds.{Kinds};
 ghost use Rattle.stk_meaning.specs.Typings.{Typing};
 ghost use Rattle.stk_meaning.specs.declared.finding.Finding.{Finding};
 ghost use Rattle.stk_meaning.specs.Findings.{AreLawful};
-ghost use Rattle.stk_judge.specs.PathSubjects.{path_subject};
+ghost use Rattle.stk_hits.specs.PathSubjects.{path_subject};
 
 /// Each candidate of a function has a lawful finding by the function's path runs, whatever the number of its input
 /// bits: there are finitely many input maps, so each query has a first answer or none.

@@ -16,7 +16,7 @@ use Rattle.stk_meaning.specs.Findings.{IsLawful}
 use Rattle.stk_function_types.specs.Nodes.{typing_in}
 use Rattle.stk_goals.specs.Rows.{Tables}
 use Rattle.stk_findings.specs.Asked as goals
-use Rattle.stk_judge.proofs.Agreeing.{Agrees, lawful}
+use Rattle.stk_hits.proofs.Agreeing.{Agrees, lawful}
 use Rattle.stk_spent_queries.specs.Spent.{spent_at}
 use Rattle.stk_wide_judge.specs.Wide.{asked_in, wide_subject}
 use Rattle.stk_findings.specs.Searched.{searched_subject}

@@ -12,8 +12,8 @@ use Rattle.stk_meaning.specs.declared.finding.Finding.TheVariants.{Clear, Unstab
 use Rattle.stk_meaning.specs.declared.finding.Need.{Need}
 use Rattle.stk_meaning.specs.declared.finding.Phase.TheVariants.{Free, Hit}
 use Rattle.stk_meaning.specs.Findings.{Subject, IsGivenUp, IsMinimal, no_more, member, open_member, no_member, IsLawful}
-use Rattle.stk_judge.specs.PathSubjects.{path_subject}
-use Rattle.stk_judge.proofs.Agreeing.{Agrees, lawful}
+use Rattle.stk_hits.specs.PathSubjects.{path_subject}
+use Rattle.stk_hits.proofs.Agreeing.{Agrees, lawful}
 use Rattle.stk_spent_queries.specs.Marks.{open_count, marks, AreCounted}
 use Rattle.stk_spent_queries.proofs.Counting.{counted_none}
 use Rattle.stk_findings.specs.Searched.{searched_subject}

@@ -9,15 +9,15 @@ use Rattle.stk_meaning.specs.declared.entry.Entry.{Entry}
 use Rattle.stk_meaning.specs.Typings.{Typing}
 use Rattle.stk_meaning.specs.Keys.{KeyInfo, keys_of, input_bits}
 use Rattle.stk_meaning.specs.Lists.{conditions}
-use Rattle.stk_judge.specs.InputMaps.{bits_in}
+use Rattle.stk_hits.specs.InputMaps.{bits_in}
 use Rattle.stk_meaning.specs.declared.finding.Finding.{Finding}
 use Rattle.stk_meaning.specs.Findings.{IsLawful}
-use Rattle.stk_judge.specs.Tables.{Table, Describes}
-use Rattle.stk_judge.specs.Subjects.{subject_of}
-use Rattle.stk_judge.specs.PathSubjects.{path_subject, kinds_of}
-use Rattle.stk_judge.proofs.KeyKinds.{bits}
-use Rattle.stk_judge.proofs.Same.{lawful_paths}
-use Rattle.stk_judge.specs.PathTables.{IsTableOf}
+use Rattle.stk_hits.specs.Tables.{Table, Describes}
+use Rattle.stk_hits.specs.Subjects.{subject_of}
+use Rattle.stk_hits.specs.PathSubjects.{path_subject, kinds_of}
+use Rattle.stk_hits.proofs.KeyKinds.{bits}
+use Rattle.stk_hits.proofs.Same.{lawful_paths}
+use Rattle.stk_hits.specs.PathTables.{IsTableOf}
 
 -- what is lawful by the table of a function is lawful for the function
 lawful_here : (ty : Typing) (without : Kinds) (f : FunctionTree) (ks : List IntKind) (cs : List Condition) (table : Table) (c : Candidate) (x : Finding)

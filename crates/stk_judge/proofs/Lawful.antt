@@ -9,8 +9,8 @@ use Rattle.stk_numbers.specs.declared.conditions.Inputs.{Inputs}
 use Rattle.stk_meaning.specs.declared.entry.Entry.{Entry}
 use Rattle.stk_meaning.specs.declared.finding.Need.{Need}
 use Rattle.stk_meaning.specs.Findings.{Subject, NoAnswer, IsFirstAnswer, IsUnstable, IsLawfulReport}
-use Rattle.stk_judge.specs.Subjects.{subject_of}
-use Rattle.stk_judge.specs.Exhaustive.{IsNeededSet}
+use Rattle.stk_hits.specs.Subjects.{subject_of}
+use Rattle.stk_guess.specs.Needed.{IsNeededSet}
 
 -- the answer of a query
 abbrev pub Asked : Subject → Candidate → List Condition → Option Inputs → Type 0

@@ -1,10 +1,1 @@
-pub mod InputMaps
-pub mod ConditionIds
-pub mod Tables
-pub mod Recording
-pub mod Queries
-pub mod Subjects
-pub mod Exhaustive
-pub mod PathSubjects
-pub mod PathTables
 pub mod Tried

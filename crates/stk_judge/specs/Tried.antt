@@ -4,9 +4,9 @@ use Rattle.stk_tree.specs.Syntax.{FunctionTree}
 use Rattle.stk_numbers.specs.declared.conditions.Kinds.{Kinds}
 use Rattle.stk_meaning.specs.Typings.{Typing}
 use Rattle.stk_meaning.specs.Keys.{keys_of}
-use Rattle.stk_judge.specs.InputMaps.{bits_in}
-use Rattle.stk_judge.specs.PathSubjects.{kinds_of}
-use Rattle.stk_judge.specs.PathTables.{IsTableOf}
+use Rattle.stk_hits.specs.InputMaps.{bits_in}
+use Rattle.stk_hits.specs.PathSubjects.{kinds_of}
+use Rattle.stk_hits.specs.PathTables.{IsTableOf}
 use Rattle.stk_judge.specs.declared.tried.TriedMaps.{TriedMaps}
 
 -- the keys have at most 16 bits together

@@ -4,15 +4,15 @@ ghost use Rattle.std.specs.Prelude.{◌≡◌, ◌≤◌, ◌^◌, ℕ, List, []
 ghost use Rattle.stk_numbers.specs.declared.conditions.Candidate.{Candidate as Asked};
 ghost use Rattle.stk_meaning.specs.declared.entry.Entry.{Entry as Passed};
 ghost use Rattle.stk_meaning.specs.Findings.{NoAnswer, IsLawful};
-ghost use Rattle.stk_judge.specs.InputMaps.{bits_in};
-ghost use Rattle.stk_judge.specs.Tables.{Describes, rows_of};
-ghost use Rattle.stk_judge.specs.Subjects.{subject_of};
-ghost use Rattle.stk_judge.specs.Exhaustive.{IsNeededSet};
+ghost use Rattle.stk_hits.specs.InputMaps.{bits_in};
+ghost use Rattle.stk_hits.specs.Tables.{Describes, rows_of};
+ghost use Rattle.stk_hits.specs.Subjects.{subject_of};
+ghost use Rattle.stk_guess.specs.Needed.{IsNeededSet};
 
 use crate::first_answers::{first_answer, query_set};
-use crate::{HitTable, Row};
 use std::alloc::Global;
 use stk_base::{List, NoMemory};
+use stk_hits::{HitTable, Row};
 use stk_meaning::{Finding, Need};
 use stk_numbers::{Candidate, Condition, IntKind};
 

@@ -5,13 +5,13 @@ ghost use Rattle.stk_numbers.specs.declared.conditions.Candidate.{Candidate as A
 ghost use Rattle.stk_numbers.specs.declared.conditions.Condition.{Condition as Violated};
 ghost use Rattle.stk_meaning.specs.declared.entry.Entry.{Entry as Passed};
 ghost use Rattle.stk_meaning.specs.Findings.{members, NoAnswer, IsFirstAnswer};
-ghost use Rattle.stk_judge.specs.InputMaps.{bits_in};
-ghost use Rattle.stk_judge.specs.Tables.{Describes, rows_of};
-ghost use Rattle.stk_judge.specs.Subjects.{subject_of};
+ghost use Rattle.stk_hits.specs.InputMaps.{bits_in};
+ghost use Rattle.stk_hits.specs.Tables.{Describes, rows_of};
+ghost use Rattle.stk_hits.specs.Subjects.{subject_of};
 
-use crate::{HitTable, Row, map_of};
 use std::alloc::Global;
 use stk_base::NoMemory;
+use stk_hits::{HitTable, Row, map_of};
 use stk_meaning::Need;
 use stk_numbers::{Condition, Inputs, IntKind};
 

@@ -9,14 +9,14 @@ ghost use Rattle.stk_meaning.specs.Keys.{input_bits};
 ghost use Rattle.stk_meaning.specs.Lists as lists;
 ghost use Rattle.stk_meaning.specs.Findings.{IsLawful};
 ghost use Rattle.stk_function_types.specs.Nodes.{typing_in};
-ghost use Rattle.stk_judge.specs.PathSubjects as subjects;
+ghost use Rattle.stk_hits.specs.PathSubjects as subjects;
 ghost use Rattle.stk_path_runs.specs.FunctionTables.{AreTablesOf};
 ghost use Rattle.stk_judge.specs.Tried.{AreFew, AreTried};
 
-use crate::path_table::{kinds_of, table_of};
-use crate::{HitTable, finding_of};
+use crate::finding_of;
 use std::alloc::Global;
 use stk_base::NoMemory;
+use stk_hits::{HitTable, kinds_of, table_of};
 use stk_meaning::Finding;
 use stk_numbers::{Candidate, Condition, IntKind};
 use stk_path_runs::FunctionTables;

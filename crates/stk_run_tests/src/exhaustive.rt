@@ -1,11 +1,12 @@
 // Findings for candidates of functions of one key, by their runs.
 ghost use Rattle.std.specs.Prelude.{◌≤◌};
-ghost use Rattle.stk_judge.specs.InputMaps.{bits_in};
+ghost use Rattle.stk_hits.specs.InputMaps.{bits_in};
 
 use std::alloc::Global;
 use std::test::Fail;
 use stk_base::NoMemory;
-use stk_judge::{HitTable, finding_of, map_of, total_bits};
+use stk_hits::{HitTable, map_of, total_bits};
+use stk_judge::finding_of;
 use stk_meaning::{Entry, Finding, Need};
 use stk_numbers::{CandKind, Candidate, Condition, IntKind, UbKind};
 

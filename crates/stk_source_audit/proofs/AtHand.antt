@@ -14,10 +14,10 @@ use Rattle.stk_meaning.specs.Typings.{Typing}
 use Rattle.stk_meaning.specs.Keys.{keys_of, input_bits}
 use Rattle.stk_meaning.specs.PathFindings.{most_bits}
 use Rattle.stk_clauses.specs.declared.store.Cnf.{Cnf}
-use Rattle.stk_judge.specs.InputMaps.{bits_in}
-use Rattle.stk_judge.specs.PathSubjects.{kinds_of}
-use Rattle.stk_judge.specs.Tables.{Table}
-use Rattle.stk_judge.specs.PathTables.{IsTableOf}
+use Rattle.stk_hits.specs.InputMaps.{bits_in}
+use Rattle.stk_hits.specs.PathSubjects.{kinds_of}
+use Rattle.stk_hits.specs.Tables.{Table}
+use Rattle.stk_hits.specs.PathTables.{IsTableOf}
 use Rattle.stk_units.specs.Functions.{IsDefinition}
 use Rattle.stk_bundle.specs.Claims.{candidate_number}
 use Rattle.stk_audit_rules.specs.Worlds.{AuditedFunction, IsAnsweredBy}

@@ -13,11 +13,11 @@ use Rattle.stk_meaning.specs.Typings.{Typing}
 use Rattle.stk_meaning.specs.Keys.{KeyInfo, keys_of, input_bits}
 use Rattle.stk_meaning.specs.Lists.{candidates}
 use Rattle.stk_meaning.specs.PathFindings.{most_bits}
-use Rattle.stk_judge.specs.InputMaps.{bits_in}
-use Rattle.stk_judge.specs.PathSubjects.{kinds_of}
-use Rattle.stk_judge.specs.Tables.{Table}
-use Rattle.stk_judge.specs.PathTables.{IsTableOf}
-use Rattle.stk_judge.proofs.KeyKinds.{bits}
+use Rattle.stk_hits.specs.InputMaps.{bits_in}
+use Rattle.stk_hits.specs.PathSubjects.{kinds_of}
+use Rattle.stk_hits.specs.Tables.{Table}
+use Rattle.stk_hits.specs.PathTables.{IsTableOf}
+use Rattle.stk_hits.proofs.KeyKinds.{bits}
 use Rattle.stk_units.specs.Functions.{unit_typing, IsDefinition}
 use Rattle.stk_source_audit.specs.declared.judged.JudgedFunction.{JudgedFunction}
 use Rattle.stk_source_audit.specs.declared.answering.FunctionAtHand.{FunctionAtHand}

@@ -7,7 +7,7 @@ use Rattle.stk_ctype.specs.declared.symbol.NameEntry.{NameEntry}
 use Rattle.stk_numbers.specs.declared.conditions.Kinds.{Kinds}
 use Rattle.stk_meaning.specs.Keys.{keys_of}
 use Rattle.stk_type_laws.proofs.Kept.{units_keep_order}
-use Rattle.stk_judge.specs.Tables.{Table}
+use Rattle.stk_hits.specs.Tables.{Table}
 use Rattle.stk_records.specs.declared.line.Cause.{Cause}
 use Rattle.stk_audit_rules.specs.Worlds.{AuditedFunction}
 use Rattle.stk_audit_rules.specs.Naming.{is_next_function}

@@ -15,14 +15,14 @@ use Rattle.stk_meaning.specs.Maps.{are_valid, addresses_in}
 use Rattle.stk_meaning.specs.Paths.{number_under, path}
 use Rattle.stk_meaning.specs.Hits.{HitsFree}
 use Rattle.stk_meaning.specs.Findings.{Answers, NoAnswer}
-use Rattle.stk_judge.specs.InputMaps.{bits_in, map_at}
-use Rattle.stk_judge.specs.Tables.{Table}
-use Rattle.stk_judge.specs.PathSubjects.{kinds_of}
-use Rattle.stk_judge.specs.PathTables.{IsTableOf}
-use Rattle.stk_judge.specs.Queries.{NoneIsFree, IsFirstFree}
-use Rattle.stk_judge.proofs.KeyKinds.{covers, in_range}
-use Rattle.stk_judge.proofs.Numbering.{by_number}
-use Rattle.stk_judge.proofs.Objects.{no_objects}
+use Rattle.stk_hits.specs.InputMaps.{bits_in, map_at}
+use Rattle.stk_hits.specs.Tables.{Table}
+use Rattle.stk_hits.specs.PathSubjects.{kinds_of}
+use Rattle.stk_hits.specs.PathTables.{IsTableOf}
+use Rattle.stk_hits.specs.Queries.{NoneIsFree, IsFirstFree}
+use Rattle.stk_hits.proofs.KeyKinds.{covers, in_range}
+use Rattle.stk_hits.proofs.Numbering.{by_number}
+use Rattle.stk_hits.proofs.Objects.{no_objects}
 use Rattle.stk_audit.specs.Hands.{TellsNone}
 use Rattle.stk_source_audit.specs.Functions.{audited_subject}
 

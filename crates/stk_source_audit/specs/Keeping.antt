@@ -8,9 +8,9 @@ use Rattle.stk_ctype.specs.declared.symbol.NameEntry.{NameEntry}
 use Rattle.stk_tree.specs.View.{view_unit}
 use Rattle.stk_meaning.specs.Keys.{keys_of}
 use Rattle.stk_type_laws.specs.Orderly.{AreOrderly}
-use Rattle.stk_judge.specs.InputMaps.{bits_in}
-use Rattle.stk_judge.specs.Tables.{Table}
-use Rattle.stk_judge.specs.PathTables.{IsTableOf}
+use Rattle.stk_hits.specs.InputMaps.{bits_in}
+use Rattle.stk_hits.specs.Tables.{Table}
+use Rattle.stk_hits.specs.PathTables.{IsTableOf}
 use Rattle.stk_audit_rules.specs.Naming.{is_next_function}
 use Rattle.stk_audit.specs.Hands.{Hand, begins}
 use Rattle.stk_source_audit.specs.declared.answering.FunctionAtHand.{FunctionAtHand}

@@ -27,7 +27,7 @@ use stk_audit::Answering;
 use stk_base::{Boxed, NoMemory};
 use stk_clauses::Cnf;
 use stk_ctype::Names;
-use stk_judge::HitTable;
+use stk_hits::HitTable;
 use stk_lex::{Piece, Token};
 use stk_numbers::{CandKind, Candidate, Condition, Kinds};
 use stk_tree::Unit;

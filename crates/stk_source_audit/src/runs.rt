@@ -1,5 +1,5 @@
 // Path runs of a function that is judged.
-ghost use Rattle.std.specs.Prelude.{◌≡◌, ◌↔◌, ◌≤◌, ◌<◌, ◌+◌, ◌^◌, IfOk, IsTrue, OnOk};
+ghost use Rattle.std.specs.Prelude.{◌≡◌, ◌↔◌, ◌≤◌, ◌^◌, IfOk, IsTrue};
 ghost use Rattle.stk_tree.specs.Syntax.{FunctionTree};
 ghost use Rattle.stk_tree.specs.View.{view_function};
 ghost use Rattle.stk_numbers.specs.declared.conditions.Kinds.{Kinds};
@@ -7,9 +7,9 @@ ghost use Rattle.stk_meaning.specs.Typings.{Typing};
 ghost use Rattle.stk_meaning.specs.Keys.{keys_of, input_bits};
 ghost use Rattle.stk_function_types.specs.Nodes.{typing_in};
 ghost use Rattle.stk_path_runs.specs.FunctionTables.{AreTablesOf};
-ghost use Rattle.stk_judge.specs.InputMaps.{bits_in};
-ghost use Rattle.stk_judge.specs.PathSubjects as subjects;
-ghost use Rattle.stk_judge.specs.PathTables.{IsTableOf};
+ghost use Rattle.stk_hits.specs.InputMaps.{bits_in};
+ghost use Rattle.stk_hits.specs.PathSubjects as subjects;
+ghost use Rattle.stk_hits.specs.PathTables.{IsTableOf};
 ghost use Rattle.stk_audit_rules.specs.Worlds.{IsAnsweredBy};
 ghost use Rattle.stk_audit.specs.Hands.{TellsNone};
 ghost use Rattle.stk_source_audit.specs.Functions.{audited_subject};
@@ -20,9 +20,9 @@ use crate::judged::{JudgedFunction, types_of};
 use crate::words::words_of;
 use std::alloc::Global;
 use stk_base::NoMemory;
-use stk_first_maps::{is_valid, words_of as words_of_map};
+use stk_first_maps::is_valid;
 use stk_function_env::Setting;
-use stk_judge::{HitTable, map_of, total_bits};
+use stk_hits::{HitTable, table_of};
 use stk_numbers::{Candidate, Condition, IntKind};
 use stk_operators::Word;
 use stk_path_runs::{FunctionTables, path_run};
@@ -79,56 +79,8 @@ pub(crate) fn is_answer(
     Ok(is)
 }
 
-/// Takes up the path run of the input map with this number, behind those of all maps before it.
-fn record_run(
-    alloc: Global,
-    tables: &FunctionTables,
-    f: &Function,
-    kinds: &[IntKind],
-    number: u32,
-    table: &mut HitTable,
-) -> Result<(), NoMemory>
-    requires tables { AreTablesOf (view_function f.now) tables.now }
-    requires kinds { kinds.now ≡ subjects.kinds_of tables.now.places.keys }
-    requires few { bits_in kinds.now ≤ 16 }
-    requires below { number < 2 ^ bits_in kinds.now }
-    ensures { IsTableOf (typing_in tables.now.places.types) tables.now.places.without (view_function f.now) number table.old → OnOk result (IsTableOf (typing_in tables.now.places.types) tables.now.places.without (view_function f.now) (number + 1) table.new) }
-{
-    let inputs = map_of(alloc, kinds, number)?;
-    let words = words_of_map(alloc, tables.setting().keys(), inputs.numbers.as_slice())?;
-    let trace = path_run(alloc, tables, f, words.as_slice())?;
-    table.record(number, trace.as_slice())
-}
-
-/// How many input maps there are for keys of these kinds.
-fn map_count(kinds: &[IntKind]) -> u32
-    requires { bits_in kinds.now ≤ 16 }
-    ensures { result ≡ 2 ^ bits_in kinds.now }
-{
-    1 << total_bits(kinds)
-}
-
-/// The table of what the path runs of all input maps of a function hit, which have at most 16 bits. The tables are
-/// those of the function, and the kinds those of its keys.
-fn table_of(
-    alloc: Global,
-    tables: &FunctionTables,
-    f: &Function,
-    kinds: &[IntKind],
-) -> Result<HitTable, NoMemory>
-    requires tables { AreTablesOf (view_function f.now) tables.now }
-    requires kinds { kinds.now ≡ subjects.kinds_of tables.now.places.keys }
-    requires few { bits_in kinds.now ≤ 16 }
-    ensures { IfOk result (IsTableOf (typing_in tables.now.places.types) tables.now.places.without (view_function f.now) (2 ^ bits_in kinds.now)) }
-{
-    let mut table = HitTable::new(alloc);
-    for number in 0..map_count(kinds) {
-        record_run(alloc, tables, f, kinds, number, &mut table)?;
-    }
-    Ok(table)
-}
-
-/// The same of a function that is judged.
+/// The table of what the path runs of all input maps of a function hit, which have at most 16 bits. The kinds are those
+/// of the function's keys.
 pub(crate) fn hit_table(judged: &JudgedFunction, kinds: &[IntKind]) -> Result<HitTable, NoMemory>
     requires judged { IsJudged judged.now }
     requires kinds { kinds.now ≡ judged_kinds judged.now }

@@ -7,8 +7,8 @@ use Rattle.stk_numbers.specs.declared.conditions.Candidate.{Candidate}
 use Rattle.stk_numbers.specs.declared.conditions.Condition.{Condition}
 use Rattle.stk_meaning.specs.declared.finding.Need.{Need}
 use Rattle.stk_meaning.specs.Findings.{Subject, members, shown_need, open_need, NoAnswer, IsGivenUp, IsMinimal, open_member}
-use Rattle.stk_judge.specs.Exhaustive.{IsNeededSet}
-use Rattle.stk_judge.proofs.Deletion.{IsNeededBehind, keep, drop_one, all_asked}
+use Rattle.stk_guess.specs.Needed.{IsNeededSet}
+use Rattle.stk_guess.proofs.Deletion.{IsNeededBehind, keep, drop_one, all_asked}
 use Rattle.stk_wide_judge.specs.declared.asking.QueryAnswer.{QueryAnswer}
 use Rattle.stk_wide_judge.specs.declared.asking.QueryAnswer.TheVariants.{Start, Never, GivenUp}
 use Rattle.stk_wide_judge.specs.Wide.{AskedFunction, asked_subject}

@@ -6,8 +6,8 @@ use Rattle.stk_numbers.specs.declared.conditions.Inputs.{Inputs}
 use Rattle.stk_meaning.specs.declared.finding.Finding.{Finding}
 use Rattle.stk_meaning.specs.declared.finding.Need.{Need}
 use Rattle.stk_meaning.specs.Findings.{members, Answers, NoAnswer, IsMinimal, no_more, member, open_member, no_member, IsLawful}
-use Rattle.stk_judge.specs.Exhaustive.{IsNeededSet}
-use Rattle.stk_judge.proofs.Agreeing.{Agrees, lawful}
+use Rattle.stk_guess.specs.Needed.{IsNeededSet}
+use Rattle.stk_hits.proofs.Agreeing.{Agrees, lawful}
 use Rattle.stk_wide_judge.specs.declared.asking.QueryAnswer.{QueryAnswer}
 use Rattle.stk_wide_judge.specs.declared.asking.QueryAnswer.TheVariants.{Start, Never, GivenUp}
 use Rattle.stk_wide_judge.specs.Wide.{AskedFunction, asked_subject, never_spent}

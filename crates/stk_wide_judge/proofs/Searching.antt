@@ -11,9 +11,9 @@ use Rattle.stk_meaning.specs.Maps.{IsValid}
 use Rattle.stk_meaning.specs.Paths.{path}
 use Rattle.stk_meaning.specs.Hits.{HitsFree}
 use Rattle.stk_meaning.specs.Findings.{Subject, Answers, NoAnswer, IsFirstAnswer}
-use Rattle.stk_judge.specs.Queries.{IsFree, NoneIsFree, IsFirstFree}
-use Rattle.stk_judge.specs.Tables.{Table, Describes}
-use Rattle.stk_judge.proofs.Numbers.{some_one}
+use Rattle.stk_hits.specs.Queries.{IsFree, NoneIsFree, IsFirstFree}
+use Rattle.stk_hits.specs.Tables.{Table, Describes}
+use Rattle.stk_hits.proofs.Numbers.{some_one}
 use Rattle.stk_guess.specs.Known.{IsAt, IsKnown, IsKnownBelow, known_subject, runs_of}
 use Rattle.stk_wide_judge.specs.Wide.{AskedFunction}
 use Rattle.stk_wide_judge.specs.Starts.{AreKnown, known_of}

@@ -8,9 +8,9 @@ use Rattle.stk_meaning.specs.declared.finding.Need.{Need}
 use Rattle.stk_meaning.specs.declared.finding.Finding.TheVariants.{Clear, Unstable}
 use Rattle.stk_meaning.specs.Lists.{conditions}
 use Rattle.stk_meaning.specs.Findings.{Subject, members, Answers, NoAnswer, IsFirstAnswer, IsMinimal, no_more, member, open_member, no_member, IsGivenUp, IsUndecidedHit, IsUnstable, IsLawfulReport}
-use Rattle.stk_judge.specs.Tables.{Table}
-use Rattle.stk_judge.specs.Exhaustive.{IsNeededSet}
-use Rattle.stk_judge.proofs.Deletion.{IsNeededBehind, all_asked}
+use Rattle.stk_hits.specs.Tables.{Table}
+use Rattle.stk_guess.specs.Needed.{IsNeededSet}
+use Rattle.stk_guess.proofs.Deletion.{IsNeededBehind, all_asked}
 use Rattle.stk_guess.specs.Known.{AreMaps, IsGuess, known_subject}
 use Rattle.stk_guess.proofs.Guessing.{answer_less, nothing_included, guess_right, lawful, dead, from_known}
 use Rattle.stk_wide_judge.specs.declared.asking.QueryAnswer.{QueryAnswer}

@@ -8,7 +8,7 @@ use Rattle.stk_meaning.specs.declared.finding.Need.{Need}
 use Rattle.stk_meaning.specs.Findings.{Subject, members, shown_need, NoAnswer, IsFirstAnswer}
 use Rattle.stk_guess.specs.Known.{AreIncluded}
 use Rattle.stk_guess.proofs.Guessing.{included_same, included_more, included_cons, none_more}
-use Rattle.stk_judge.proofs.Deletion.{IsNeededBehind, no_condition, keep, drop_one}
+use Rattle.stk_guess.proofs.Deletion.{IsNeededBehind, no_condition, keep, drop_one}
 use Rattle.stk_wide_judge.specs.declared.guessing.FoundMember.{FoundMember}
 use Rattle.stk_wide_judge.specs.Wide.{AskedFunction}
 use Rattle.stk_wide_judge.specs.Starts.{known_of, KnownAnswer}

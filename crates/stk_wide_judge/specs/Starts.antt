@@ -6,7 +6,7 @@ use Rattle.stk_numbers.specs.declared.conditions.Inputs.{Inputs}
 use Rattle.stk_meaning.specs.Maps.{IsValid}
 use Rattle.stk_meaning.specs.Paths.{path}
 use Rattle.stk_meaning.specs.Findings.{Subject, NoAnswer, IsFirstAnswer}
-use Rattle.stk_judge.specs.Tables.{Table, Describes}
+use Rattle.stk_hits.specs.Tables.{Table, Describes}
 use Rattle.stk_guess.specs.Known.{IsKnown, known_subject, runs_of}
 use Rattle.stk_wide_judge.specs.Wide.{AskedFunction, asked_subject, never_spent}
 

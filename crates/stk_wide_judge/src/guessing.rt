@@ -4,7 +4,7 @@ ghost use Rattle.std.specs.Prelude.{◌≡◌, ◌≤◌, ◌++◌, length, take
 ghost use Rattle.stk_numbers.specs.declared.conditions.Candidate.{Candidate as Asked};
 ghost use Rattle.stk_meaning.specs.Lists as lists;
 ghost use Rattle.stk_meaning.specs.Findings.{members, NoAnswer};
-ghost use Rattle.stk_judge.specs.Tables.{rows_of};
+ghost use Rattle.stk_hits.specs.Tables.{rows_of};
 ghost use Rattle.stk_guess.specs.Known.{IsGuess};
 ghost use Rattle.stk_wide_judge.specs.Wide.{AskedFunction, asked_subject, never_spent};
 ghost use Rattle.stk_wide_judge.specs.Starts.{AreKnown, known_of, KnownAnswer};
@@ -13,7 +13,7 @@ ghost use Rattle.stk_wide_judge.specs.Guesses.{IsBelow, IsLastMember};
 use crate::Known;
 use std::alloc::Global;
 use stk_base::{List, NoMemory};
-use stk_judge::Row;
+use stk_hits::Row;
 use stk_meaning::Need;
 use stk_numbers::{Condition, Inputs};
 

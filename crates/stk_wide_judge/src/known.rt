@@ -4,7 +4,7 @@ ghost use Rattle.std.specs.Prelude.{◌≡◌, IfOk, OnOk};
 ghost use Rattle.stk_tree.specs.View.{view_function};
 ghost use Rattle.stk_numbers.specs.declared.conditions.Candidate.{Candidate as Asked};
 ghost use Rattle.stk_meaning.specs.Maps.{IsValid};
-ghost use Rattle.stk_judge.specs.Tables.{rows_of};
+ghost use Rattle.stk_hits.specs.Tables.{rows_of};
 ghost use Rattle.stk_path_runs.specs.FunctionTables.{AreTablesOf};
 ghost use Rattle.stk_wide_judge.specs.Wide.{AskedFunction, asked_in};
 ghost use Rattle.stk_wide_judge.specs.Answers.{HasValidStart};
@@ -14,7 +14,7 @@ use crate::traces::trace_of;
 use crate::{JudgedFunction, QueryAnswer};
 use std::alloc::Global;
 use stk_base::{List, NoMemory};
-use stk_judge::{HitTable, Row};
+use stk_hits::{HitTable, Row};
 use stk_numbers::{Condition, Inputs};
 
 // The most starts that are known.

@@ -3,7 +3,7 @@
 ghost use Rattle.std.specs.Prelude.{◌≡◌, ◌++◌, ◌∷◌, [], IfOk, OnOk};
 ghost use Rattle.stk_tree.specs.View.{view_function};
 ghost use Rattle.stk_meaning.specs.Findings.{NoAnswer, IsLawful};
-ghost use Rattle.stk_judge.specs.Exhaustive.{IsNeededSet};
+ghost use Rattle.stk_guess.specs.Needed.{IsNeededSet};
 ghost use Rattle.stk_path_runs.specs.FunctionTables.{AreTablesOf};
 ghost use Rattle.stk_wide_judge.specs.Wide.{asked_in, asked_subject, IsPlaced};
 ghost use Rattle.stk_wide_judge.specs.Answers.{IsAnswer, IsCounted, IsLater, with_answer};

@@ -4,7 +4,7 @@ ghost use Rattle.std.specs.Prelude.{◌≡◌, IfOk, OnOk};
 ghost use Rattle.stk_tree.specs.View.{view_function};
 ghost use Rattle.stk_numbers.specs.declared.conditions.Candidate.{Candidate as Asked};
 ghost use Rattle.stk_meaning.specs.Findings.{members, NoAnswer};
-ghost use Rattle.stk_judge.specs.Tables.{rows_of};
+ghost use Rattle.stk_hits.specs.Tables.{rows_of};
 ghost use Rattle.stk_guess.specs.Known.{IsGuess};
 ghost use Rattle.stk_path_runs.specs.FunctionTables.{AreTablesOf};
 ghost use Rattle.stk_wide_judge.specs.Wide.{AskedFunction, asked_in, asked_subject, never_spent, IsPlaced};
@@ -17,7 +17,7 @@ use crate::plain::answered;
 use crate::{AskedCandidate, JudgedFunction, Known, QueryAnswer, Questions};
 use std::alloc::Global;
 use stk_base::{List, NoMemory};
-use stk_judge::Row;
+use stk_hits::Row;
 use stk_meaning::{Finding, Need, Phase};
 use stk_query::Decider;
 

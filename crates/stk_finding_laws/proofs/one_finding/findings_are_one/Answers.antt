@@ -1,4 +1,4 @@
-use Rattle.stk_judge.specs.PathSubjects.{path_subject}
+use Rattle.stk_hits.specs.PathSubjects.{path_subject}
 use Rattle.stk_finding_laws.proofs.Unique.{one_findings, path_ordered}
 use Rattle.stk_finding_laws.proofs.one_finding.findings_are_one.Goals as goal
 

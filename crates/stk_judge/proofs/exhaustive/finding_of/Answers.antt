@@ -1,5 +1,5 @@
 use Rattle.std.proofs.Common.{◌≡◌, sym, ◌∙◌}
-use Rattle.stk_judge.specs.Subjects.{subject_of}
+use Rattle.stk_hits.specs.Subjects.{subject_of}
 use Rattle.stk_judge.proofs.Lawful.{clear_by_free, clear_by_none, none_free, reported}
 use Rattle.stk_judge.proofs.exhaustive.finding_of.Goals as goal
 

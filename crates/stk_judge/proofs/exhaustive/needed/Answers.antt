@@ -1,8 +1,8 @@
 use Rattle.std.proofs.Common.{arith, List, length, sym, ◌∙◌, ap, subst, Vec, Global}
 use Rattle.stk_meaning.specs.declared.finding.Need.{Need}
-use Rattle.stk_judge.specs.Subjects.{subject_of}
-use Rattle.stk_judge.specs.Exhaustive.{IsNeededSet}
-use Rattle.stk_judge.proofs.Deletion.{IsNeededBehind, none_needed, no_condition, after_answer, after_none, all_asked}
+use Rattle.stk_hits.specs.Subjects.{subject_of}
+use Rattle.stk_guess.specs.Needed.{IsNeededSet}
+use Rattle.stk_guess.proofs.Deletion.{IsNeededBehind, none_needed, no_condition, after_answer, after_none, all_asked}
 use Rattle.stk_judge.proofs.exhaustive.needed.Goals as goal
 use Rattle.stk_judge.proofs.exhaustive.needed.Goals.{in-Some+in_ok-push, in_default}
 

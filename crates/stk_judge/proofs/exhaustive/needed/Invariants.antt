@@ -2,10 +2,10 @@ use Rattle.std.proofs.Common.{◌≡◌, ◌^◌, List, [], length, Option}
 use Rattle.stk_numbers.specs.declared.conditions.Candidate.{Candidate}
 use Rattle.stk_meaning.specs.declared.entry.Entry.{Entry}
 use Rattle.stk_meaning.specs.Findings.{NoAnswer}
-use Rattle.stk_judge.specs.InputMaps.{bits_in}
-use Rattle.stk_judge.specs.Tables.{Describes, rows_of}
-use Rattle.stk_judge.specs.Subjects.{subject_of}
-use Rattle.stk_judge.proofs.Deletion.{IsNeededBehind}
+use Rattle.stk_hits.specs.InputMaps.{bits_in}
+use Rattle.stk_hits.specs.Tables.{Describes, rows_of}
+use Rattle.stk_hits.specs.Subjects.{subject_of}
+use Rattle.stk_guess.proofs.Deletion.{IsNeededBehind}
 use Rattle.stk_judge.proofs.exhaustive.needed.Given as goal
 
 abbrev pub invariant-loop-i : goal.invariant-loop-i

@@ -1,7 +1,7 @@
 use Rattle.std.proofs.Common.{◌≡◌, ℕ, subst, Option}
 use Rattle.std.specs.Prelude.{MatchOption}
-use Rattle.stk_judge.specs.Queries.{NoneIsFree, IsFirstFree}
-use Rattle.stk_judge.proofs.Starts.{no_answer, first_answer}
+use Rattle.stk_hits.specs.Queries.{NoneIsFree, IsFirstFree}
+use Rattle.stk_hits.proofs.Starts.{no_answer, first_answer}
 use Rattle.stk_judge.proofs.first_answers.first_answer.Goals as goal
 
 pub returns-in-None : goal.returns-in-None

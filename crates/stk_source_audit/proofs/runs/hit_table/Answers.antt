@@ -3,7 +3,7 @@ use Rattle.stk_tree.specs.View.{view_function}
 use Rattle.stk_numbers.specs.declared.conditions.Kinds.{Kinds}
 use Rattle.stk_meaning.specs.Typings.{Typing}
 use Rattle.stk_meaning.specs.Keys.{keys_of}
-use Rattle.stk_judge.specs.PathSubjects.{kinds_of}
+use Rattle.stk_hits.specs.PathSubjects.{kinds_of}
 use Rattle.stk_function_types.specs.Nodes.{typing_in}
 use Rattle.stk_source_audit.proofs.Tabled.{judged_tables}
 use Rattle.stk_source_audit.proofs.runs.hit_table.Goals as goal

@@ -1,6 +1,6 @@
 use Rattle.std.proofs.Common.{◌≡◌, ◌<◌, List, Option, length, arith, sym, ◌∙◌, subst}
 use Rattle.stk_meaning.specs.declared.finding.Need.{Need}
-use Rattle.stk_judge.proofs.Deletion.{IsNeededBehind, none_needed}
+use Rattle.stk_guess.proofs.Deletion.{IsNeededBehind, none_needed}
 use Rattle.stk_wide_judge.specs.declared.guessing.FoundMember.{FoundMember}
 use Rattle.stk_wide_judge.specs.Starts.{known_of}
 use Rattle.stk_wide_judge.specs.Guesses.{IsBelow}

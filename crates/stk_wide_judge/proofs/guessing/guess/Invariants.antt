@@ -1,8 +1,8 @@
 use Rattle.std.proofs.Common.{◌≡◌, ◌≤◌, length}
 use Rattle.stk_numbers.specs.declared.conditions.Candidate.{Candidate}
 use Rattle.stk_meaning.specs.Findings.{NoAnswer}
-use Rattle.stk_judge.specs.Tables.{rows_of}
-use Rattle.stk_judge.proofs.Deletion.{IsNeededBehind}
+use Rattle.stk_hits.specs.Tables.{rows_of}
+use Rattle.stk_guess.proofs.Deletion.{IsNeededBehind}
 use Rattle.stk_wide_judge.specs.Wide.{AskedFunction}
 use Rattle.stk_wide_judge.specs.Starts.{AreKnown, known_of}
 use Rattle.stk_wide_judge.proofs.guessing.guess.Given as goal

@@ -1,7 +1,7 @@
 use Rattle.std.proofs.Common.{◌≡◌, ◌<◌, ◌≤◌, ◌-◌, ◌++◌, take, reverse}
 use Rattle.stk_numbers.specs.declared.conditions.Candidate.{Candidate}
 use Rattle.stk_meaning.specs.Findings.{members, NoAnswer}
-use Rattle.stk_judge.specs.Tables.{rows_of}
+use Rattle.stk_hits.specs.Tables.{rows_of}
 use Rattle.stk_wide_judge.specs.Wide.{AskedFunction}
 use Rattle.stk_wide_judge.specs.Starts.{AreKnown, known_of}
 use Rattle.stk_wide_judge.specs.Guesses.{IsBetween}

@@ -1,6 +1,6 @@
 use Rattle.std.proofs.Common.{subst, sym}
 use Rattle.stk_tree.specs.View.{view_function}
-use Rattle.stk_judge.specs.Exhaustive.{IsNeededSet}
+use Rattle.stk_guess.specs.Needed.{IsNeededSet}
 use Rattle.stk_wide_judge.specs.declared.asking.QueryAnswer.{QueryAnswer}
 use Rattle.stk_wide_judge.specs.Wide.{AskedFunction, asked_in, asked_subject}
 use Rattle.stk_wide_judge.proofs.Later.{started, needed_earlier}

@@ -1,7 +1,7 @@
 use Rattle.std.proofs.Common.{◌≡◌, List, length, arith, sym, ◌∙◌, subst, refl}
 use Rattle.stk_tree.specs.View.{view_function}
 use Rattle.stk_meaning.specs.declared.finding.Need.{Need}
-use Rattle.stk_judge.proofs.Deletion.{IsNeededBehind, none_needed, no_condition}
+use Rattle.stk_guess.proofs.Deletion.{IsNeededBehind, none_needed, no_condition}
 use Rattle.stk_wide_judge.specs.Wide.{AskedFunction, asked_in, asked_subject}
 use Rattle.stk_spent_queries.specs.Marks.{open_count, AreCounted}
 use Rattle.stk_spent_queries.proofs.Counting.{counted_none}

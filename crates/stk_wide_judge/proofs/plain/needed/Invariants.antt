@@ -1,5 +1,5 @@
 use Rattle.stk_tree.specs.View.{view_function}
-use Rattle.stk_judge.proofs.Deletion.{IsNeededBehind}
+use Rattle.stk_guess.proofs.Deletion.{IsNeededBehind}
 use Rattle.stk_wide_judge.specs.Wide.{asked_in, asked_subject}
 use Rattle.stk_wide_judge.specs.Answers.{IsLater}
 use Rattle.stk_spent_queries.specs.Marks.{open_count, AreCounted}

@@ -1,7 +1,7 @@
 use Rattle.std.proofs.Common.{◌≤◌, refl, subst}
 use Rattle.stk_meaning.specs.Keys.{input_bits}
 use Rattle.stk_meaning.specs.Findings.{IsLawful}
-use Rattle.stk_judge.specs.PathSubjects.{path_subject}
+use Rattle.stk_hits.specs.PathSubjects.{path_subject}
 use Rattle.stk_spent_queries.specs.Marks.{marks, AreCounted}
 use Rattle.stk_findings.specs.Searched.{about_searched, subject_searched}
 use Rattle.stk_findings.proofs.Narrow.{narrow_finding, uncounted, weaker}

@@ -1,6 +1,6 @@
 use Rattle.std.proofs.Common.{◌≤◌, ◌^◌, sym, subst, ◌∙◌}
-use Rattle.stk_judge.specs.InputMaps.{bits_in}
-use Rattle.stk_judge.specs.PathTables.{IsTableOf}
+use Rattle.stk_hits.specs.InputMaps.{bits_in}
+use Rattle.stk_hits.specs.PathTables.{IsTableOf}
 use Rattle.stk_judge.proofs.Finding.{lawful_found}
 use Rattle.stk_judge.proofs.tried.TriedMaps.finding.Goals as goal
 

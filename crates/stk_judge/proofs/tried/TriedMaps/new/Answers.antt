@@ -3,9 +3,9 @@ use Rattle.stk_tree.specs.View.{view_function}
 use Rattle.stk_function_types.specs.Nodes.{typing_in}
 use Rattle.stk_function_env.specs.Infos.{info_in}
 use Rattle.stk_function_env.specs.Settings.{FunctionPlaces}
-use Rattle.stk_judge.specs.InputMaps.{bits_in}
-use Rattle.stk_judge.specs.PathSubjects.{kinds_of}
-use Rattle.stk_judge.specs.PathTables.{IsTableOf}
+use Rattle.stk_hits.specs.InputMaps.{bits_in}
+use Rattle.stk_hits.specs.PathSubjects.{kinds_of}
+use Rattle.stk_hits.specs.PathTables.{IsTableOf}
 use Rattle.stk_judge.proofs.Finding.{few_bits}
 use Rattle.stk_judge.proofs.tried.TriedMaps.new.Goals as goal
 

@@ -1,5 +1,0 @@
-use Rattle.stk_judge.proofs.Numbering.{by_number}
-use Rattle.stk_judge.proofs.input_map_laws.maps_by_number.Goals as goal
-
-pub returns : goal.returns
-returns c = by_number

@@ -1,5 +1,0 @@
-use Rattle.stk_judge.proofs.Same.{lawful_paths}
-use Rattle.stk_judge.proofs.path_laws.all_path_runs_tell.Goals as goal
-
-pub returns : goal.returns
-returns c = λ ty without f runs few all are x y h. lawful_paths ty without f runs few all are x y h

@@ -1,5 +1,0 @@
-use Rattle.stk_judge.proofs.Passing.{skipped}
-use Rattle.stk_judge.proofs.queries.describes_a_map_without_a_run.Goals as goal
-
-pub returns : goal.returns
-returns c runs table = skipped runs table
