@@ -9,7 +9,45 @@ use stk_query::Cdcl;
 // A function that tests a sum for overflow behind the sum: three candidates are unstable, by one set.
 const INPUT: &str = "int f(int x) { if (x + 100 < x) return 1; return 0; }";
 
-const FIRST: &[u8] = b"stack bundle 1\nsource 53\nwithout -\nfunction 0\nunstable ";
+/// Words and an input, how its bundle begins, and how many of its lines begin with which words.
+struct Row {
+    words: &'static [&'static str],
+    input: &'static str,
+    first: &'static str,
+    lines: &'static [(&'static str, u32)],
+}
+
+static ROWS: [Row; 2] = [
+    Row {
+        words: &["--bundle"],
+        input: INPUT,
+        first: "stack bundle 1\nsource 53\nwithout -\nfunction 0\nunstable ",
+        lines: &[
+            ("unstable ", 3),
+            ("need ", 3),
+            ("open ", 0),
+            ("cnf ", 3),
+            ("lrat ", 3),
+            ("left ", 0),
+        ],
+    },
+    // With the least budget four reports have a member that a start shows, and two have two members that are open: the
+    // records are a row of `given_up`. The goal of each claim is one that was refuted as the report was made, by the
+    // same clauses and within the same budget, so none is left.
+    Row {
+        words: &["--bundle", "--budget", "1"],
+        input: "int f(unsigned x, unsigned y, unsigned long z, unsigned long w) { unsigned long q = 1 / z + 1 / w; if (z == 0 || (w == 0 && (x + y) * (x - y) != x * x - y * y)) return 1; return q; }",
+        first: "stack bundle 1\nsource 182\nwithout -\nfunction 0\nunstable ",
+        lines: &[
+            ("unstable ", 6),
+            ("need ", 4),
+            ("open ", 4),
+            ("cnf ", 6),
+            ("lrat ", 6),
+            ("left ", 0),
+        ],
+    },
+];
 
 // How many lines of a text begin with these bytes.
 fn lines_with(text: &[u8], start: &[u8]) -> u32 {
@@ -29,19 +67,27 @@ fn lines_with(text: &[u8], start: &[u8]) -> u32 {
     count
 }
 
+// Whether so many lines of a text begin with each of these words.
+fn has_lines(text: &[u8], lines: &[(&str, u32)]) -> bool {
+    for (start, count) in lines {
+        if lines_with(text, start.as_bytes()) != *count {
+            return false;
+        }
+    }
+    true
+}
+
 #[test]
 fn reports_have_claims(rt: HostRuntime) -> Result<(), Fail> {
-    let mut decider = Cdcl::new(rt.alloc());
-    let run = ran(rt.alloc(), &["--bundle"], INPUT, &mut decider)?;
-    let bundle = run.records.as_slice();
-    assert!(rt; run.status == Status::Found);
-    assert!(rt; bundle.starts_with(FIRST));
-    assert!(rt; bundle.ends_with(b"\nend\n"));
-    assert!(rt; lines_with(bundle, b"unstable ") == 3);
-    assert!(rt; lines_with(bundle, b"need ") == 3);
-    assert!(rt; lines_with(bundle, b"cnf ") == 3);
-    assert!(rt; lines_with(bundle, b"lrat ") == 3);
-    assert!(rt; lines_with(bundle, b"left ") == 0);
+    for row in &ROWS {
+        let mut decider = Cdcl::new(rt.alloc());
+        let run = ran(rt.alloc(), row.words, row.input, &mut decider)?;
+        let bundle = run.records.as_slice();
+        assert!(rt; run.status == Status::Found, "{:?}", row.words);
+        assert!(rt; bundle.starts_with(row.first.as_bytes()), "{:?}", row.words);
+        assert!(rt; bundle.ends_with(b"\nend\n"), "{:?}", row.words);
+        assert!(rt; has_lines(bundle, row.lines), "{:?}", row.words);
+    }
     Ok(())
 }
 

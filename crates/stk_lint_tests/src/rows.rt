@@ -467,12 +467,18 @@ pub(crate) fn of_outside(
 
 #[test]
 fn each_failure_has_its_status(rt: HostRuntime) -> Result<(), Fail> {
-    let table: [(Outside, Status, &[u8], &[u8]); 10] = [
+    let table: [(Outside, Status, &[u8], &[u8]); 13] = [
         (
             of_outside(&["--help"], 9, None, None, None),
             Status::BadWords,
             b"",
             b"stack: bad words\n",
+        ),
+        (
+            of_outside(&["--budget", "0"], 9, None, None, Some(0)),
+            Status::BadWords,
+            b"",
+            b"",
         ),
         (
             of_outside(&[], 9, Some(0), None, None),
@@ -488,6 +494,20 @@ fn each_failure_has_its_status(rt: HostRuntime) -> Result<(), Fail> {
         ),
         (
             of_outside(&[], 1, None, None, None),
+            Status::Found,
+            RECORDS,
+            b"",
+        ),
+        // The 74 bytes and the end are 75 calls of the source, so call 75 isn't made; the 261 bytes and the flush are
+        // 262 calls of the output, so call 262 isn't.
+        (
+            of_outside(&[], 1, Some(75), None, None),
+            Status::Found,
+            RECORDS,
+            b"",
+        ),
+        (
+            of_outside(&[], 1, None, Some(262), None),
             Status::Found,
             RECORDS,
             b"",

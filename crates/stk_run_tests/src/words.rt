@@ -278,3 +278,83 @@ fn other_words_are_bad(rt: HostRuntime) -> Result<(), Fail> {
     }
     Ok(())
 }
+
+/// Legal words, and the legal ones among those that differ from them in one letter, of the 95 that are printed: a blank
+/// in place of `=` or the other way round, a digit that leaves the number in its range, and a blank for the last of
+/// several digits. All others are another item's word, no number or one out of its range, or no kind.
+static CHANGED: [(&str, &[&str]); 4] = [
+    ("--json", &[]),
+    ("--without null,abs", &["--without=null,abs"]),
+    // at most 200000
+    (
+        "--budget=200000",
+        &["--budget 200000", "--budget=100000", "--budget=20000 "],
+    ),
+    // at least 1
+    (
+        "--smt-hit 7",
+        &[
+            "--smt-hit=7",
+            "--smt-hit 1",
+            "--smt-hit 2",
+            "--smt-hit 3",
+            "--smt-hit 4",
+            "--smt-hit 5",
+            "--smt-hit 6",
+            "--smt-hit 8",
+            "--smt-hit 9",
+        ],
+    ),
+];
+
+/// A text with another letter at a place.
+fn changed(alloc: Global, text: &str, place: usize, letter: char) -> Result<String, NoMemory> {
+    let mut out = String::new(alloc);
+    let mut at = 0usize;
+    for old in text.chars() {
+        out.push(if at == place { letter } else { old })?;
+        at = at.saturating_add(1);
+    }
+    Ok(out)
+}
+
+/// Whether a text is one of these.
+fn is_among(list: &[&str], text: &str) -> bool {
+    for other in list {
+        if other.as_bytes() == text.as_bytes() {
+            return true;
+        }
+    }
+    false
+}
+
+/// Whether of the words that differ from some legal ones in the letter at a place just these are legal.
+fn are_legal_at(alloc: Global, text: &str, place: usize, legal: &[&str]) -> Result<bool, NoMemory> {
+    for byte in 32..127u8 {
+        let other = changed(alloc, text, place, char::from(byte))?;
+        let list = split(alloc, other.as_str())?;
+        let is_same = other.as_bytes() == text.as_bytes();
+        if words(list.as_slice()).is_ok() != (is_same || is_among(legal, other.as_str())) {
+            return Ok(false);
+        }
+    }
+    Ok(true)
+}
+
+/// Whether of the words that differ from some legal ones in one letter just these are legal.
+fn are_legal(alloc: Global, text: &str, legal: &[&str]) -> Result<bool, NoMemory> {
+    for place in 0..text.len() {
+        if !are_legal_at(alloc, text, place, legal)? {
+            return Ok(false);
+        }
+    }
+    Ok(true)
+}
+
+#[test]
+fn words_with_one_letter_changed_are_bad(rt: HostRuntime) -> Result<(), Fail> {
+    for (text, legal) in &CHANGED {
+        assert!(rt; are_legal(rt.alloc(), text, legal)?, "{text:?}");
+    }
+    Ok(())
+}

@@ -33,7 +33,8 @@ static WRAPPED: [Part; 4] = [
     },
 ];
 
-static WRAPPED_SCRIPT: &str =
+/// Its script.
+pub(crate) static WRAPPED_SCRIPT: &str =
     "(set-logic QF_BV)\n(declare-fun k0 () (_ BitVec 8))\n(define-fun t0 () (_ BitVec 8) k0)\n(define-fun t1 () (_ BitVec 8) (_ bv200 8))\n(define-fun t2 () (_ BitVec 8) (bvadd t0 t1))\n(define-fun t3 () (_ BitVec 1) (ite (bvult t2 t0) (_ bv1 1) (_ bv0 1)))\n(assert (= t3 (_ bv1 1)))\n(check-sat)\n";
 
 // Over inputs of 8 and 16 bits: a term on which the goal doesn't depend is left out, and a quotient by 0 is 0.
