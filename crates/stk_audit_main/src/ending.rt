@@ -18,8 +18,11 @@ use stk_units::cut_into_units;
 // A bundle has at most so many bytes.
 const MOST_BUNDLE: u64 = 1_073_741_824;
 
-// The answer of the audit of a bundle by its source.
-fn audit_parts(alloc: Global, bundle: &[u8], source: &[u8]) -> Result<Audit, NoMemory>
+/// The audit of a bundle of at most 1,073,741,824 bytes by its source of C, of at most 16,777,216: `Yes` with the
+/// claims of the bundle, in the order of their lines, each of which is true of the source; or `No` with the first line
+/// that fails, counted from 1, and why. The source is read and typed here, and each clause list is made here: nothing
+/// that the bundle says is taken on trust. The only refusal is want of memory.
+pub fn audit_bundle(alloc: Global, bundle: &[u8], source: &[u8]) -> Result<Audit, NoMemory>
     requires bundle { length bundle.now ≤ most_bundle }
     requires source { length source.now ≤ most_source }
     ensures { IfOk result (IsAuditOf bundle.now source.now) }
@@ -48,7 +51,7 @@ fn write_answer<K: Sink>(
     ensures prefix { OnErr result ((K.taken out.new ≡ K.taken out.old) ⊎ endings.TookPrefixOf bundle.now source.now (K.taken out.old) (K.taken out.new)) }
     ensures fault { result ≡ Err Stop.WriteFault → Rose (K.faults out.old) (K.faults out.new) × endings.TookPrefixOf bundle.now source.now (K.taken out.old) (K.taken out.new) }
 {
-    let answer = audit_parts(alloc, bundle, source)?;
+    let answer = audit_bundle(alloc, bundle, source)?;
     let text = answer_text(alloc, &answer)?;
     write_all(out, text.as_slice())?;
     out.flush()?;

@@ -3,8 +3,9 @@
 use std::alloc::Global;
 use std::process::Abort;
 use std::test::Fail;
-use stk_audit_main::audit_main;
-use stk_base::{MemSink, MemSource, Status};
+use stk_audit_main::{audit_bundle, audit_main};
+use stk_audit_rules::Audit;
+use stk_base::{MemSink, MemSource, NoMemory, Status};
 
 /// The lines of a bundle, and the answer of its audit.
 struct Row {
@@ -160,4 +161,36 @@ fn without_an_end_all_is_the_bundle(rt: HostRuntime) -> Result<(), Fail> {
         b"line 4: form\n",
         b"",
     )
+}
+
+/// The lines of the starts of the claims that hold, in order.
+fn start_lines(alloc: Global, answer: &Audit) -> Result<Vec<u32>, NoMemory> {
+    let mut lines = Vec::new(alloc);
+    if let Audit::Yes(claims) = answer {
+        for claim in claims.as_slice() {
+            for start in claim.starts.as_slice() {
+                lines.push(start.line)?;
+            }
+        }
+    }
+    Ok(lines)
+}
+
+/// Those of the audit of a bundle by its source; none where one is too large.
+fn audited_starts(alloc: Global, bundle: &[u8], source: &[u8]) -> Result<Vec<u32>, NoMemory> {
+    if bundle.len() > 1_073_741_824 {
+        return Ok(Vec::new(alloc));
+    }
+    if source.len() > 16_777_216 {
+        return Ok(Vec::new(alloc));
+    }
+    let answer = audit_bundle(alloc, bundle, source)?;
+    start_lines(alloc, &answer)
+}
+
+#[test]
+fn claims_have_the_starts_of_their_lines(rt: HostRuntime) -> Result<(), Fail> {
+    let lines = audited_starts(rt.alloc(), ROWS[0].lines, SOURCE)?;
+    assert!(rt; lines.as_slice() == [6, 7, 10, 11].as_slice());
+    Ok(())
 }

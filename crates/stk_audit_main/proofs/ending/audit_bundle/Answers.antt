@@ -1,5 +1,5 @@
 use Rattle.stk_audit_main.proofs.Audited.{cut_well, audit_by}
-use Rattle.stk_audit_main.proofs.ending.audit_parts.Goals as goal
+use Rattle.stk_audit_main.proofs.ending.audit_bundle.Goals as goal
 
 pub audit_source-requires-clause-cut : goal.audit_source-requires-clause-cut
 audit_source-requires-clause-cut c =
