@@ -1,6 +1,5 @@
 -- How the replay of an input ends.
-use Rattle.std.specs.Prelude.{◌<◌, ℕ, List, length, Option}
-use Rattle.stk_base.specs.Limits.{most_bytes}
+use Rattle.std.specs.Prelude.{ℕ, List, Option}
 use Rattle.stk_base.specs.Streams.{Came, Appended, AppendedPrefix, IsFlushed, IsSpent}
 use Rattle.stk_replay_input.specs.Replays.{IsReplayText, HasBadScript, HasLongRun}
 use Rattle.stk_replay.specs.declared.status.ReplayStatus.{ReplayStatus}
@@ -53,9 +52,3 @@ pub record HasReadLongRun (left_before left_after : Option (List ℕ)) : Type 0 
   pub bytes : List ℕ
   pub input : WasRead left_before left_after bytes
   pub long : HasLongRun bytes
-
--- more came of an input than the limit
-pub record CameTooLarge (left_before left_after : Option (List ℕ)) : Type 0 where
-  pub bytes : List ℕ
-  pub came : Came left_before left_after bytes
-  pub large : most_bytes < length bytes

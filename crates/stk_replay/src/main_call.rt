@@ -3,7 +3,7 @@
 ghost use Rattle.std.specs.Prelude.{◌≡◌, ◌≢◌, ◌↔◌, ◌⊎◌, ◌≤◌, ◌<◌, ℕ, List, [], length, Some};
 ghost use Rattle.stk_base.specs.Causes.{Rose};
 ghost use Rattle.stk_base.specs.Limits.{most_bytes};
-ghost use Rattle.stk_base.specs.Streams.{Appended};
+ghost use Rattle.stk_base.specs.Streams.{Came, Appended};
 ghost use Rattle.stk_replay_input.specs.Replays.{HasBadScript, HasLongRun};
 ghost use Rattle.stk_replay.specs.Status as lines;
 ghost use Rattle.stk_replay.specs.Ending as endings;
@@ -41,10 +41,10 @@ fn run<S: Source, K: Sink>(
     ensures nothing { endings.IsRefused result ⊎ (result ≡ ReplayStatus.NoMemory) → (K.taken out.new ≡ K.taken out.old) × (K.flushed out.new ≡ K.flushed out.old) }
     ensures bad_words { (result ≡ ReplayStatus.BadWords) ↔ (words.now ≢ []) }
     ensures unread { words.now ≢ [] → (S.left source.new ≡ S.left source.old) × (S.faults source.new ≡ S.faults source.old) }
-    ensures read_fault { result ≡ ReplayStatus.ReadFault → Rose (S.faults source.old) (S.faults source.new) }
+    ensures read_fault { result ≡ ReplayStatus.ReadFault → (words.now ≡ []) × Rose (S.faults source.old) (S.faults source.new) }
     ensures no_fault { (result ≡ ReplayStatus.ReadFault) ⊎ (S.faults source.new ≡ S.faults source.old) }
     ensures write_fault { result ≡ ReplayStatus.WriteFault → Rose (K.faults out.old) (K.faults out.new) }
-    ensures too_large { result ≡ ReplayStatus.TooLarge → endings.CameTooLarge (S.left source.old) (S.left source.new) }
+    ensures too_large { (came : List ℕ) × Came (S.left source.old) (S.left source.new) came × ((result ≡ ReplayStatus.TooLarge) ↔ ((words.now ≡ []) × (most_bytes < length came))) }
     ensures bad { result ≡ ReplayStatus.BadScript → endings.HasReadBadScript (S.left source.old) (S.left source.new) }
     ensures long { result ≡ ReplayStatus.TooLong → endings.HasReadLongRun (S.left source.old) (S.left source.new) }
     ensures large_only { (bytes : List ℕ) → words.now ≡ [] → S.left source.old ≡ Some bytes → most_bytes < length bytes → ¬ Rose (S.faults source.old) (S.faults source.new) → (result ≡ ReplayStatus.TooLarge) ⊎ (result ≡ ReplayStatus.NoMemory) }
@@ -74,9 +74,11 @@ fn tell<E: Sink>(fault: &mut E, status: ReplayStatus)
 /// - `Done`: the input was read to its end. The sink took a line for each entry of the trace of the execution, a line
 ///   for each candidate that the trace hits, and how the execution ends, and was flushed.
 /// - `BadWords`: exactly where there are words. The source of bytes is unread.
-/// - `ReadFault`: only where the source of bytes counted a fault; after every other answer it counted none.
+/// - `ReadFault`: only where there are no words and the source of bytes counted a fault; after every other answer it
+///   counted none.
 /// - `WriteFault`: only where the sink counted a fault. It took some prefix of the text.
-/// - `TooLarge`: only where more than 16,777,216 bytes came before the end and before any failed call.
+/// - `TooLarge`: exactly where there are no words, and more than 16,777,216 bytes came before the end and before any
+///   failed call.
 /// - `NoMemory`: no clause says when it comes.
 /// - `BadScript`: where the input was read to its end and names no execution: no script comes, the source has no
 ///   accepted function of this name, the start isn't a valid one of the function, or two cells of the memory have one
@@ -102,21 +104,21 @@ pub fn replay_main<S: Source, K: Sink, E: Sink>(
     // When each refusal comes.
     ensures bad_words { (result ≡ ReplayStatus.BadWords) ↔ (words.now ≢ []) }
     ensures unread { words.now ≢ [] → (S.left source.new ≡ S.left source.old) × (S.faults source.new ≡ S.faults source.old) }
-    ensures read_fault { result ≡ ReplayStatus.ReadFault → Rose (S.faults source.old) (S.faults source.new) }
+    ensures read_fault { result ≡ ReplayStatus.ReadFault → (words.now ≡ []) × Rose (S.faults source.old) (S.faults source.new) }
     ensures no_fault { (result ≡ ReplayStatus.ReadFault) ⊎ (S.faults source.new ≡ S.faults source.old) }
     ensures write_fault { result ≡ ReplayStatus.WriteFault → Rose (K.faults out.old) (K.faults out.new) }
-    ensures too_large { result ≡ ReplayStatus.TooLarge → endings.CameTooLarge (S.left source.old) (S.left source.new) }
+    ensures too_large { (came : List ℕ) × Came (S.left source.old) (S.left source.new) came × ((result ≡ ReplayStatus.TooLarge) ↔ ((words.now ≡ []) × (16777216 < length came))) }
     ensures bad { result ≡ ReplayStatus.BadScript → endings.HasReadBadScript (S.left source.old) (S.left source.new) }
     ensures long { result ≡ ReplayStatus.TooLong → endings.HasReadLongRun (S.left source.old) (S.left source.new) }
 
     // Without words, over a source of bytes that tells them and doesn't fail.
-    ensures large_only { (bytes : List ℕ) → words.now ≡ [] → S.left source.old ≡ Some bytes → most_bytes < length bytes
+    ensures large_only { (bytes : List ℕ) → words.now ≡ [] → S.left source.old ≡ Some bytes → 16777216 < length bytes
         → ¬ Rose (S.faults source.old) (S.faults source.new) → (result ≡ ReplayStatus.TooLarge) ⊎ (result ≡ ReplayStatus.NoMemory) }
-    ensures bad_only { (bytes : List ℕ) → words.now ≡ [] → S.left source.old ≡ Some bytes → length bytes ≤ most_bytes
+    ensures bad_only { (bytes : List ℕ) → words.now ≡ [] → S.left source.old ≡ Some bytes → length bytes ≤ 16777216
         → ¬ Rose (S.faults source.old) (S.faults source.new) → HasBadScript bytes → (result ≡ ReplayStatus.BadScript) ⊎ (result ≡ ReplayStatus.NoMemory) }
-    ensures long_only { (bytes : List ℕ) → words.now ≡ [] → S.left source.old ≡ Some bytes → length bytes ≤ most_bytes
+    ensures long_only { (bytes : List ℕ) → words.now ≡ [] → S.left source.old ≡ Some bytes → length bytes ≤ 16777216
         → ¬ Rose (S.faults source.old) (S.faults source.new) → HasLongRun bytes → (result ≡ ReplayStatus.TooLong) ⊎ (result ≡ ReplayStatus.NoMemory) }
-    ensures complete { (bytes : List ℕ) → words.now ≡ [] → S.left source.old ≡ Some bytes → length bytes ≤ most_bytes
+    ensures complete { (bytes : List ℕ) → words.now ≡ [] → S.left source.old ≡ Some bytes → length bytes ≤ 16777216
         → (HasBadScript bytes → ⊥) → (HasLongRun bytes → ⊥)
         → ¬ Rose (S.faults source.old) (S.faults source.new) → ¬ Rose (K.faults out.old) (K.faults out.new)
         → (result ≡ ReplayStatus.Done) ⊎ (result ≡ ReplayStatus.NoMemory) }

@@ -51,7 +51,7 @@ pub(crate) fn fault_line(status: ReplayStatus) -> &'static [u8]
         ReplayStatus::BadWords => b"stack: bad words\n",
         ReplayStatus::ReadFault => b"stack: the input cannot be read\n",
         ReplayStatus::WriteFault => b"stack: the output cannot be written\n",
-        ReplayStatus::TooLarge => b"stack: the input is too large\n",
+        ReplayStatus::TooLarge => b"stack: the input is larger than 16777216 bytes\n",
         ReplayStatus::NoMemory => b"stack: no memory\n",
         ReplayStatus::BadScript => b"stack: bad script\n",
         ReplayStatus::TooLong => b"stack: the run is too long\n",

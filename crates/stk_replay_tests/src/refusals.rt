@@ -1,6 +1,6 @@
 //! Inputs that name no execution, and how the top call ends where something fails.
 
-use crate::running::{Faults, NONE, replayed};
+use crate::running::{Faults, NONE, replayed, replayed_input};
 use std::test::Fail;
 use stk_replay::ReplayStatus;
 
@@ -84,5 +84,19 @@ fn words_and_failing_streams_are_told(rt: HostRuntime) -> Result<(), Fail> {
     };
     let run = replayed(rt.alloc(), &[], SCRIPT, SOURCE, untold)?;
     assert!(rt; run.status == ReplayStatus::ReadFault && run.told.is_empty());
+    Ok(())
+}
+
+#[test]
+fn an_input_over_the_limit_is_too_large(rt: HostRuntime) -> Result<(), Fail> {
+    let spaces = vec![in rt.alloc(); b' '; 16_777_217]?;
+    let run = replayed_input(rt.alloc(), &[], spaces, NONE)?;
+    assert!(rt; run.status == ReplayStatus::TooLarge && run.status.code() == 6);
+    assert!(rt; run.text.is_empty());
+    let line = b"stack: the input is larger than 16777216 bytes\n";
+    assert!(rt; run.told.as_slice() == line.as_slice());
+    let fewer = vec![in rt.alloc(); b' '; 16_777_216]?;
+    let run = replayed_input(rt.alloc(), &[], fewer, NONE)?;
+    assert!(rt; run.status == ReplayStatus::BadScript && run.status.code() == 8);
     Ok(())
 }

@@ -31,20 +31,17 @@ pub const NONE: Faults = Faults {
 // The most bytes of a call of the source or a sink.
 const MOST: usize = 1_000_000;
 
-/// Runs the top call with words on an input, a script and a source behind it.
-pub(crate) fn replayed(
+/// Runs the top call with words on an input.
+pub(crate) fn replayed_input(
     alloc: Global,
     words: &[&'static str],
-    script: &str,
-    source: &str,
+    bytes: Vec<u8>,
     faults: Faults,
 ) -> Result<Outcome, Fail> {
     let mut owned = Vec::new(alloc);
     for word in words {
         owned.push(String::from_str(alloc, word)?)?;
     }
-    let mut bytes = Vec::from_slice(alloc, script.as_bytes())?;
-    bytes.extend_from_slice(source.as_bytes())?;
     let mut input = MemSource::new(bytes, MOST, Vec::from_slice(alloc, faults.source)?);
     let mut out = MemSink::new(alloc, MOST, Vec::from_slice(alloc, faults.output)?);
     let mut fault = MemSink::new(alloc, MOST, Vec::from_slice(alloc, faults.fault)?);
@@ -54,4 +51,17 @@ pub(crate) fn replayed(
         text: Vec::from_slice(alloc, out.bytes())?,
         told: Vec::from_slice(alloc, fault.bytes())?,
     })
+}
+
+/// Runs the top call with words on a script and a source behind it.
+pub(crate) fn replayed(
+    alloc: Global,
+    words: &[&'static str],
+    script: &str,
+    source: &str,
+    faults: Faults,
+) -> Result<Outcome, Fail> {
+    let mut bytes = Vec::from_slice(alloc, script.as_bytes())?;
+    bytes.extend_from_slice(source.as_bytes())?;
+    replayed_input(alloc, words, bytes, faults)
 }
