@@ -4,6 +4,7 @@
 mod executed;
 mod execution;
 mod hitting;
+mod marks;
 mod outside;
 mod replaying;
 

@@ -2,14 +2,10 @@
 
 ghost use Rattle.std.specs.Prelude.{◌≡◌, ◌<◌, ◌≤◌, ◌^◌, Err, IfOk, length, option_map};
 ghost use Rattle.stk_tree.specs.View.{view_function};
-ghost use Rattle.stk_numbers.specs.declared.conditions.Kinds as kinds;
-ghost use Rattle.stk_meaning.specs.Typings as typings;
-ghost use Rattle.stk_meaning.specs.Keys.{body_of, keys_of, setting_of};
-ghost use Rattle.stk_eval_expr.specs.Loops.{EachLoop};
+ghost use Rattle.stk_function_types.specs.Nodes.{typing_in};
 ghost use Rattle.stk_eval_expr.specs.Shown.{flow_shown};
-ghost use Rattle.stk_function_env.specs.Settings.{setting_in};
 ghost use Rattle.stk_memory.specs.Image.{AreApart};
-ghost use Rattle.stk_path_runs.specs.Rows.{Knows};
+ghost use Rattle.stk_path_runs.specs.FunctionTables.{AreTablesOf};
 ghost use Rattle.stk_replaying.specs.Replaying.{trace_in, ran_in, flow_end_of, end_of, hit_places};
 ghost use Rattle.stk_replaying.specs.declared.execution.Replay.TheVariants.{TooLong};
 
@@ -38,7 +34,7 @@ fn end_of_flow(flow: Option<Flow>) -> End
 }
 
 /// The replay of an execution of a function: its trace, which of these candidates it hits, and how it ends. The tables
-/// are those of the function, and know its loops. `TooLong` comes exactly where the trace has more than `most` entries.
+/// are those of the function. `TooLong` comes exactly where the trace has more than `most` entries.
 pub fn replay_of(
     alloc: Global,
     tables: &FunctionTables,
@@ -47,14 +43,14 @@ pub fn replay_of(
     execution: &Execution,
     most: u32,
 ) -> Result<Replayed, Replay>
-    requires loops { EachLoop (Knows (setting_in tables.now.places) tables.now.places.keys tables.now.rows) (body_of (view_function f.now)) }
+    requires tables { AreTablesOf (view_function f.now) tables.now }
     requires apart { AreApart execution.now.memory.now.cells }
     requires few { length list.now < 2 ^ 32 }
-    ensures trace { (ty : typings.Typing) → (without : kinds.Kinds) → setting_in tables.now.places ≡ setting_of ty without (view_function f.now) → tables.now.places.keys ≡ keys_of ty without (view_function f.now) → IfOk result (λ r. r.trace ≡ trace_in ty without (view_function f.now) execution.now) }
-    ensures end { (ty : typings.Typing) → (without : kinds.Kinds) → setting_in tables.now.places ≡ setting_of ty without (view_function f.now) → tables.now.places.keys ≡ keys_of ty without (view_function f.now) → IfOk result (λ r. r.end ≡ end_of (ran_in ty without (view_function f.now) execution.now)) }
+    ensures trace { IfOk result (λ r. r.trace ≡ trace_in (typing_in tables.now.places.types) tables.now.places.without (view_function f.now) execution.now) }
+    ensures end { IfOk result (λ r. r.end ≡ end_of (ran_in (typing_in tables.now.places.types) tables.now.places.without (view_function f.now) execution.now)) }
     ensures hits { IfOk result (λ r. r.hits ≡ hit_places list.now r.trace) }
     ensures fits { IfOk result (λ r. length r.trace ≤ most) }
-    ensures long { (ty : typings.Typing) → (without : kinds.Kinds) → setting_in tables.now.places ≡ setting_of ty without (view_function f.now) → tables.now.places.keys ≡ keys_of ty without (view_function f.now) → result ≡ Err TooLong → most < length (trace_in ty without (view_function f.now) execution.now) }
+    ensures long { result ≡ Err TooLong → most < length (trace_in (typing_in tables.now.places.types) tables.now.places.without (view_function f.now) execution.now) }
 {
     let out = ExecutedFunction {
         mapped: MappedFunction {

@@ -25,7 +25,7 @@ returns-in_err-replayed c =
     let run = ran_in (typing_in p.types) p.without f c.args.execution.now in
     let same : c.from_residual-in_err-replayed.result ≡ Err (unreplayed_of c.in_err-replayed.field-0.0) = search rules in
     answers_none (hand_in p f) run c.in_err-replayed.field-0.0 c.from_residual-in_err-replayed.result same
-    (λ e. c.in_err-replayed.ensures.long (typing_in p.types) p.without c.requires.tables.setting c.requires.tables.keys (ap Err e))
+    (λ e. c.in_err-replayed.ensures.long (ap Err e))
 
 pub returns : goal.returns
 returns c =
@@ -35,6 +35,4 @@ returns c =
     let run = ran_in (typing_in p.types) p.without f c.args.execution.now in
     let types = c.types-types.ensures ∙ ap (λ (x : FunctionPlaces). x.types) c.setting.ensures in
     let shown = c.in_ok-replayed.ensures in
-    let trace = shown.trace (typing_in p.types) p.without c.requires.tables.setting c.requires.tables.keys in
-    let end = shown.end (typing_in p.types) p.without c.requires.tables.setting c.requires.tables.keys in
-    answers_text p f t run c.as_slice-3.result.now c.in_ok-replayed.replayed.trace c.in_ok-replayed.replayed.end c.in_ok-text.text.items types (c.as_slice-3.ensures.value ∙ c.in_ok-list.ensures) trace end shown.fits c.in_ok-text.ensures
+    answers_text p f t run c.as_slice-3.result.now c.in_ok-replayed.replayed.trace c.in_ok-replayed.replayed.end c.in_ok-text.text.items types (c.as_slice-3.ensures.value ∙ c.in_ok-list.ensures) shown.trace shown.end shown.fits c.in_ok-text.ensures
