@@ -312,39 +312,32 @@ EOF
     chmod +x tools/ccache
 }
 
-test_ccache_by_the_environment() {
-    make_ccache
-    export KEPT=$PWD/kept PATH=$PWD/tools:$PATH
+# Builds one file twice by make with these words, each time with its report.
+builds_twice() {
     unstable f >a.c
     for round in first second; do
         rm -f a.o
-        CC="ccache gcc" stack_build --out $round -- make a.o >/dev/null
+        stack_build --out $round -- make "$@" a.o >/dev/null
         [ -s a.o ]
         [ "$(checked_files $round)" = a.c ]
     done
+}
+
+test_ccache_by_the_environment() {
+    make_ccache
+    export KEPT=$PWD/kept PATH=$PWD/tools:$PATH
+    CC="ccache gcc" builds_twice
 }
 
 test_ccache_by_a_word_of_make() {
     make_ccache
     export KEPT=$PWD/kept PATH=$PWD/tools:$PATH
-    unstable f >a.c
-    for round in first second; do
-        rm -f a.o
-        stack_build --out $round -- make CC="ccache gcc" a.o >/dev/null
-        [ -s a.o ]
-        [ "$(checked_files $round)" = a.c ]
-    done
+    builds_twice CC="ccache gcc"
 }
 
 test_ccache_itself() {
     command -v ccache >/dev/null || return 77
-    unstable f >a.c
-    for round in first second; do
-        rm -f a.o
-        CC="ccache gcc" stack_build --out $round -- make a.o >/dev/null
-        [ -s a.o ]
-        [ "$(checked_files $round)" = a.c ]
-    done
+    CC="ccache gcc" builds_twice
     ccache -s | grep -q 'Hits: *1 '
 }
 
