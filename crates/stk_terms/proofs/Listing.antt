@@ -5,7 +5,6 @@ use Rattle.std.proofs.Math.Seq.{get_or-append_seam}
 use Rattle.std.proofs.lemmas.Bool.{ltb-true, ltb-false}
 use Rattle.stk_terms.specs.Terms.{Stored, term_at, child}
 use Rattle.stk_terms.specs.Fitting.{IsSound}
-use Rattle.stk_terms.specs.Cost.{IsClosed}
 use Rattle.stk_terms.specs.Orders.{HasBefore, HasPlace, IsOrder, AreListed}
 use Rattle.stk_terms.specs.Parts.{is_part}
 use Rattle.stk_terms.proofs.Parting.{parts_closed}

@@ -7,7 +7,7 @@ use Rattle.stk_terms.specs.declared.term.TermNode.{TermNode}
 use Rattle.stk_terms.specs.declared.term.TermId.{TermId}
 use Rattle.stk_terms.specs.Terms.{Term, Stored, term_at, nth}
 use Rattle.stk_terms.specs.Keys.{plain, terms_of, sizes_of, stored, AreKept}
-use Rattle.stk_terms.specs.Values.{Bits, none, arg_at, meanings, number_at, number_by}
+use Rattle.stk_terms.specs.Values.{none, arg_at, meanings, number_at, number_by}
 use Rattle.stk_terms.specs.Fitting.{AreBelow, AreResidues}
 use Rattle.stk_terms.specs.Applying.{CanApply}
 use Rattle.stk_terms.specs.Orders.{IsOrder, AreNumbers}

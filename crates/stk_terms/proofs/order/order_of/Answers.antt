@@ -1,5 +1,4 @@
-use Rattle.std.proofs.Common.{◌≡◌, ◌+◌, ◌≤◌, ◌<◌, ◌++◌, ◌∷◌, [], false, true, length, get_or, sym, ap, subst, ◌∙◌, arith, if◌then◌else◌}
-use Rattle.stk_terms.specs.Orders.{IsOrder, AreListed}
+use Rattle.std.proofs.Common.{◌+◌, false, length, get_or, ap, ◌∙◌, arith}
 use Rattle.stk_terms.proofs.Listing.{none_listed, one_more}
 use Rattle.stk_terms.proofs.Parting.{has_itself}
 use Rattle.stk_terms.proofs.order.order_of.Goals as goal

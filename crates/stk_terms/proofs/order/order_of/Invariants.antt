@@ -1,4 +1,4 @@
-use Rattle.std.proofs.Common.{◌+◌, length}
+use Rattle.std.proofs.Common.{◌+◌}
 use Rattle.stk_terms.specs.Orders.{IsOrder, AreListed}
 use Rattle.stk_terms.proofs.order.order_of.Given as goal
 
