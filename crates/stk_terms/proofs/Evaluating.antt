@@ -3,7 +3,7 @@ use Rattle.std.proofs.Common.{◌≡◌, ℕ, zero, suc, ◌+◌, ◌<◌, List,
 use Rattle.std.proofs.lemmas.List.{length-map, length-take-le, get_or-take, take-append-drop}
 use Rattle.stk_terms.specs.declared.term.TermNode.{TermNode}
 use Rattle.stk_terms.specs.declared.term.TermId.{TermId}
-use Rattle.stk_terms.specs.Terms.{Stored, StandsAt}
+use Rattle.stk_terms.specs.Terms.{Stored, StandsAt, nth}
 use Rattle.stk_terms.specs.Keys.{plain, terms_of, sizes_of, AreKept}
 use Rattle.stk_terms.specs.Values.{Bits, none, arg_at, bits_of, number_by, meanings}
 use Rattle.stk_terms.specs.Fitting.{AreBelow, AreResidues, Fits}
@@ -21,6 +21,12 @@ take_more : (xs : List ℕ) (i : ℕ) → i < length xs → take i xs ++ get_or 
 take_more [] i h = absurd (omega arith)
 take_more (x ∷ xs) zero h = refl
 take_more (x ∷ xs) (suc i) h = let e : suc i + 1 ≡ suc (i + 1) = omega arith in rw e (ap (λ l. x ∷ l) (take_more xs i (omega arith)))
+
+-- what stands for an argument is its number, where that is so of each
+arg_alike : (xs : List ℕ) (all : List Bits) (args : List TermId) (k : ℕ) → ((j : ℕ) → j < length args → get_or xs (nth args j) 0 ≡ (get_or all (nth args j) none).number) → arg_at 0 xs args k ≡ (arg_at none all args k).number
+arg_alike xs all [] k each = refl
+arg_alike xs all (a ∷ args) zero each = each 0 (omega arith)
+arg_alike xs all (a ∷ args) (suc k) each = arg_alike xs all args k (λ j l. each (suc j) (omega arith))
 
 module _ (inputs residues : List ℕ) (ns : List TermNode) (kept : AreKept inputs ns) (res : AreResidues inputs residues) where
   abbrev s : Stored
@@ -48,7 +54,7 @@ module _ (inputs residues : List ℕ) (ns : List TermNode) (kept : AreKept input
     stands : StandsAt (terms_of ns) i (plain n)
     stands = term_at ns i m h
 
-    under : AreBelow i n.args.items
+    pub under : AreBelow i n.args.items
     under = wider (0 + i) i n.args.items (omega arith) (below_at 0 (terms_of ns) i (plain n) (behind inputs [] (terms_of ns) kept.fit) stands)
 
     pub among : AreBelow (length ns) n.args.items
@@ -80,6 +86,23 @@ module _ (inputs residues : List ℕ) (ns : List TermNode) (kept : AreKept input
         let same : number_by residues n.op (arg_at 0 (sizes_of ns) n.args.items 0) (arg_at 0 (sizes_of ns) n.args.items 1) (arg_at 0 (take i numbers) n.args.items 0) (arg_at 0 (take i numbers) n.args.items 1) (arg_at 0 (take i numbers) n.args.items 2) ≡ get_or numbers i 0 =
         rw (size_is n.args.items 0, size_is n.args.items 1, number_is 0, number_is 1, number_is 2) (sym (number_at all i ∙ ap (λ b. b.number) (meaning_at s residues i (plain n) kept.fit stands))) in
         ap (λ x. take i numbers ++ x ∷ []) same ∙ take_more numbers i (omega (arith, count))
+
+    -- the same over the numbers of the arguments, wherever they come from
+    module _ (xs : List ℕ) (each : (j : ℕ) → j < length n.args.items → get_or xs (nth n.args.items j) 0 ≡ (get_or all (nth n.args.items j) none).number) where
+      given : (k : ℕ) → arg_at 0 xs n.args.items k ≡ (arg_at none all n.args.items k).number
+      given k = arg_alike xs all n.args.items k each
+
+      pub can_with : CanApply residues n.op (arg_at 0 (sizes_of ns) n.args.items 0) (arg_at 0 (sizes_of ns) n.args.items 1) (arg_at 0 xs n.args.items 0) (arg_at 0 xs n.args.items 1)
+      can_with =
+          let wide = subst AllWide (sym kept.sized) (all_wide inputs [] (terms_of ns) kept.widths_are kept.fit no_widths) in
+          let low = all_below inputs residues [] (terms_of ns) res kept.fit no_bits in
+          can_apply inputs residues n.op (arg_at 0 (sizes_of ns) n.args.items 0) (arg_at 0 (sizes_of ns) n.args.items 1) (arg_at 0 (sizes_of ns) n.args.items 2) _ _ res well.widths_fit (arg_most (sizes_of ns) n.args.items 0 wide)
+          (λ l. arg_least (sizes_of ns) n.args.items 0 wide (subst (λ j. AreBelow j n.args.items) (sym (length-map ns (λ m. m.width))) among) (subst (λ j. 0 < j) (sym well.arity_is) l))
+          (rw (given 0, size_is n.args.items 0) (arg_below all n.args.items 0 low))
+          (rw (given 1, size_is n.args.items 1) (arg_below all n.args.items 1 low))
+
+      pub number_with : number_by residues n.op (arg_at 0 (sizes_of ns) n.args.items 0) (arg_at 0 (sizes_of ns) n.args.items 1) (arg_at 0 xs n.args.items 0) (arg_at 0 xs n.args.items 1) (arg_at 0 xs n.args.items 2) ≡ (get_or all i none).number
+      number_with = rw (size_is n.args.items 0, size_is n.args.items 1, given 0, given 1, given 2) (sym (ap (λ b. b.number) (meaning_at s residues i (plain n) kept.fit stands)))
 
   -- the same of the node that is read, over the numbers that are kept
   moved : (P : TermNode → List ℕ → Type 0) (a b : TermNode) (xs ys : List ℕ) → b ≡ a → ys ≡ xs → P a xs → P b ys

@@ -7,3 +7,4 @@ pub mod Cost
 pub mod Growth
 pub mod Keys
 pub mod Ordered
+pub mod Orders

@@ -8,6 +8,7 @@ mod kept;
 mod marks;
 mod nodes;
 mod operators;
+mod order;
 mod table;
 mod term;
 

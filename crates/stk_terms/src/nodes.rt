@@ -2,7 +2,8 @@
 ghost use Rattle.std.specs.Prelude.{◌≡◌, ◌+◌, ◌<◌, ◌≤◌, [], length, take, map, get_or, IsTrue, ◌↔◌, IfOk};
 ghost use Rattle.stk_terms.specs.Fitting.{AreWidths, AreResidues, AreBelow, Fits};
 ghost use Rattle.stk_terms.specs.Terms.{term_of};
-ghost use Rattle.stk_terms.specs.Keys.{sizes_of, terms_of, AreKept, plain};
+ghost use Rattle.stk_terms.specs.Keys.{sizes_of, stored, terms_of, AreKept, plain};
+ghost use Rattle.stk_terms.specs.Orders.{IsOrder, AreNumbers};
 ghost use Rattle.stk_terms.specs.Values.{none, width_by, number_by, arg_at, bits_of, evaluated};
 ghost use Rattle.stk_terms.specs.Applying.{CanApply};
 
@@ -122,4 +123,26 @@ pub(crate) fn number(
     let numbers = numbers(alloc, inputs, nodes, residues, place + 1)?;
     let first = numbers.as_slice();
     Ok(first[place])
+}
+
+/// Writes the numbers of the nodes at the places of an order, each at its place.
+pub(crate) fn evaluate(
+    inputs: &[u8],
+    nodes: &[TermNode],
+    order: &[usize],
+    residues: &[u64],
+    numbers: &mut [u128],
+)
+    requires kept { AreKept inputs.now nodes.now }
+    requires residues { AreResidues inputs.now residues.now }
+    requires order { IsOrder (stored inputs.now nodes.now) (length numbers.old) order.now }
+    ensures are { AreNumbers (stored inputs.now nodes.now) residues.now order.now (length order.now) numbers.new }
+    ensures long { length numbers.new ≡ length numbers.old }
+{
+    // The contract alone reads the widths of the inputs.
+    let _widths = inputs;
+    for place in order {
+        let number = number_of(nodes, &nodes[*place], numbers, residues);
+        numbers[*place] = number;
+    }
 }

@@ -6,11 +6,12 @@ ghost use Rattle.stk_terms.specs.Values.{meaning, meanings, bits_of, width_of, w
 ghost use Rattle.stk_terms.specs.Cost.{total_cost, bound_of};
 ghost use Rattle.stk_terms.specs.Growth.{Keeps};
 ghost use Rattle.stk_terms.specs.Parts.{IsPart, is_part};
+ghost use Rattle.stk_terms.specs.Orders.{IsOrder, AreNumbers};
 
 use crate::fitting::are_residues;
 use crate::kept;
 use crate::marks::parts;
-use crate::nodes::{fits, number, width_of};
+use crate::nodes::{evaluate, fits, number, width_of};
 use crate::term::{TermId, TermNode, TermOp};
 use indexmap::IndexSet;
 use smallvec::SmallVec;
@@ -168,5 +169,21 @@ impl Terms {
             id.0,
         )?;
         Ok(number)
+    }
+
+    /// Writes the numbers of the terms at the places of an order for residues of the inputs, each at its place.
+    pub(crate) fn evaluate(&self, order: &[usize], residues: &[u64], numbers: &mut [u128])
+        requires residues { AreResidues self.now.inputs residues.now }
+        requires order { IsOrder self.now (length numbers.old) order.now }
+        ensures are { AreNumbers self.now residues.now order.now (length order.now) numbers.new }
+        ensures long { length numbers.new ≡ length numbers.old }
+    {
+        evaluate(
+            self.inputs.as_slice(),
+            self.nodes.as_slice(),
+            order,
+            residues,
+            numbers,
+        );
     }
 }

@@ -1,12 +1,12 @@
 use Rattle.std.proofs.Common.{◌≡◌, ◌≤◌, ◌++◌, length}
 use Rattle.stk_terms.specs.Ordered.{bits_in, residues_at}
-use Rattle.stk_terms.proofs.enumerate.residues_with.Given as goal
+use Rattle.stk_terms.proofs.enumerate.put_residues.Given as goal
 
 abbrev pub invariant-loop-width : goal.invariant-loop-width
 invariant-loop-width l = record {
   left : l.left ≡ bits_in l.rest;
   few : l.left ≤ 16;
-  whole : l.numbers.items ++ residues_at l.rest l.number ≡ residues_at l.widths l.number;
+  whole : l.residues.items ++ residues_at l.rest l.number ≡ residues_at l.widths l.number;
 }
 
 abbrev pub decreases-loop-width : goal.decreases-loop-width
