@@ -1,17 +1,18 @@
 -- Fewer true literals.
-use Rattle.std.proofs.Common.{◌≡◌, ℕ, ◌+◌, ◌*◌, ◌<◌, ◌≤◌, Bool, true, false, List, [], ◌∷◌, ◌++◌, length, get_or, take, set, sym, ◌∙◌, ap, subst, inl, inr, arith, cond}
-use Rattle.std.specs.List.{Contains, count_by}
+use Rattle.std.proofs.Common.{◌≡◌, ℕ, ◌+◌, ◌*◌, ◌<◌, ◌≤◌, Bool, true, false, List, [], ◌∷◌, ◌++◌, length, get_or, take, set, sym, ◌∙◌, ap, subst, inl, inr, arith, cond, Option, None}
+use Rattle.std.specs.List.{Contains, count_by, sum_by}
 use Rattle.std.specs.Vec.{vec_capacity}
 use Rattle.std.proofs.lemmas.Bool.{cases_eq, cases_order, false≢true}
 use Rattle.std.proofs.lemmas.List.{get_or-set_same, get_or-set_other, length-set, length-take, get_or-take, take-take, take_more, take_all}
-use Rattle.std.proofs.lemmas.List.Sums.{sum_by-set}
+use Rattle.std.proofs.lemmas.List.Sums.{sum_by-set, sum_by_push}
 use Rattle.std.proofs.lemmas.List.Elements.{All-take, Contains-push_cases, Contains-append_left, Contains-push}
 use Rattle.stk_clauses.specs.declared.literal.Lit.{Lit}
 use Rattle.stk_clauses.specs.Literals.{AreBelow}
 use Rattle.stk_clauses.specs.Propagation.{IsOpen}
 use Rattle.stk_clauses.proofs.Values.{same_lit}
 use Rattle.stk_propagate.specs.Assigned.{Assigned, IsAssigned, AreFresh}
-use Rattle.stk_propagate.specs.AssignmentInside.{seen_as, AreTruths, ArePlaces, IsInside}
+use Rattle.stk_propagate.specs.AssignmentInside.{seen_as, AreTruths, ArePlaces, HaveLevels, IsInside}
+use Rattle.stk_propagate.specs.Trailed.{one_if_assumed}
 use Rattle.stk_propagate.specs.declared.assignment.Assignment.TheInside.{Inside}
 use Rattle.stk_propagate.proofs.Pushing.{itself}
 
@@ -53,10 +54,20 @@ places_take places n t s k d h =
     let in' : k < length t = omega (arith, h, length-take n t) in
     rw (get_or-take n t k d lt) (s k d in')
 
+levels_take : (levels : List ℕ) (n : ℕ) (t : List Lit) (rs : List (Option ℕ)) → HaveLevels levels t rs → HaveLevels levels (take n t) (take n rs)
+levels_take levels n t rs s k d h =
+    let lt : k < n = omega (arith, h, length-take n t) in
+    let in' : k < length t = omega (arith, h, length-take n t) in
+    rw (get_or-take n t k d lt) (s k d in' ∙ ap (sum_by one_if_assumed) (sym (take-take (k + 1) n rs (omega (arith, lt)))))
+
+-- without the last one
+depth_drop : (n : ℕ) (rs : List (Option ℕ)) → length rs ≡ n + 1 → sum_by one_if_assumed (take n rs) + one_if_assumed (get_or rs n None) ≡ sum_by one_if_assumed rs
+depth_drop n rs len = sym (sum_by_push one_if_assumed (take n rs) (get_or rs n None)) ∙ ap (sum_by one_if_assumed) (sym (take_more rs n None (omega (arith, len))) ∙ take_all (n + 1) rs (omega (arith, len)))
+
 pub inside_drop : (f g : Inside) (n : ℕ) (l : Lit) → IsInside f → length f.literals.items ≡ n + 1 → l ≡ get_or f.literals.items n l
-    → g.vars ≡ f.vars → g.truth.items ≡ set f.truth.items l.0 false → g.places.items ≡ f.places.items → g.literals.items ≡ take n f.literals.items → g.reasons.items ≡ take n f.reasons.items
+    → g.vars ≡ f.vars → g.truth.items ≡ set f.truth.items l.0 false → g.places.items ≡ f.places.items → g.levels.items ≡ f.levels.items → g.depth + one_if_assumed (get_or f.reasons.items n None) ≡ f.depth → g.literals.items ≡ take n f.literals.items → g.reasons.items ≡ take n f.reasons.items
     → vec_capacity f.literals ≤ vec_capacity g.literals → vec_capacity f.reasons ≤ vec_capacity g.reasons → IsInside g
-inside_drop f g n l s len at ev et ep el er cl cr =
+inside_drop f g n l s len at ev et ep eg eh el er cl cr =
     let t : List Lit = f.literals.items in
     let truth : List Bool = f.truth.items in
     let lt : n < length t = omega arith in
@@ -75,6 +86,9 @@ inside_drop f g n l s len at ev et ep el er cl cr =
       reason_room = omega (arith, ev, s.reason_room, cr);
       placed_sized = omega (arith, ap length ep, s.placed_sized, ev);
       placed = subst (λ xs. ArePlaces xs g.literals.items) (sym ep) (subst (λ xs. ArePlaces f.places.items xs) (sym el) (places_take f.places.items n t s.placed));
+      leveled_sized = omega (arith, ap length eg, s.leveled_sized, ev);
+      leveled = subst (λ xs. HaveLevels xs g.literals.items g.reasons.items) (sym eg) (subst (λ xs. HaveLevels f.levels.items xs g.reasons.items) (sym el) (subst (λ xs. HaveLevels f.levels.items (take n t) xs) (sym er) (levels_take f.levels.items n t f.reasons.items s.leveled)));
+      deep = omega (arith, eh, s.deep, ap (sum_by one_if_assumed) er, depth_drop n f.reasons.items (omega (arith, s.facts.paired, len)));
     }
 
 -- a literal stands at one place

@@ -1,6 +1,7 @@
 pub mod Pushing
 pub mod Dropping
 pub mod Numbers
+pub mod Filling
 pub mod Following
 pub mod Apart
 pub mod Operations

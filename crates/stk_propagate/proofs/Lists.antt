@@ -15,7 +15,7 @@ in_take t k x (j, lt, e) =
     let b : j < length t = omega (arith, lt, length-take k t) in
     (j, b, sym (get_or-take k t j x a) ∙ e)
 
-in_front : (t : List Lit) (x : Lit) (i k : ℕ) → i < k → i < length t → get_or t i x ≡ x → Contains (take k t) x
+pub in_front : (t : List Lit) (x : Lit) (i k : ℕ) → i < k → i < length t → get_or t i x ≡ x → Contains (take k t) x
 in_front t x i k lt in' e = (i, omega (arith, lt, in', length-take k t), get_or-take k t i x lt ∙ e)
 
 -- literals that were unassigned when they became true have no pair

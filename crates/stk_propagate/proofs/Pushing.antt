@@ -1,17 +1,18 @@
 -- One more true literal.
 use Rattle.std.proofs.Common.{◌≡◌, ◌≢◌, ◌⊎◌, ◌↔◌, ℕ, ◌+◌, ◌-◌, ◌*◌, ◌/◌, ◌%◌, ◌<◌, ◌≤◌, Bool, true, false, IsTrue, List, [], ◌∷◌, ◌++◌, length, get_or, set, sym, ◌∙◌, ap, subst, inl, inr, arith, Option, length-append, cond}
-use Rattle.std.specs.List.{Contains, count_by}
+use Rattle.std.specs.List.{Contains, count_by, sum_by}
 use Rattle.std.specs.Vec.{vec_capacity}
 use Rattle.std.proofs.lemmas.Bool.{cases_eq, cases_lt, cases_Bool}
-use Rattle.std.proofs.lemmas.List.{get_or-set_same, get_or-set_other, length-set, take-append-le, take_at, get_or_append_left, get_or_at, get_or_read}
-use Rattle.std.proofs.lemmas.List.Sums.{sum_by-set, count_by-le-length}
+use Rattle.std.proofs.lemmas.List.{get_or-set_same, get_or-set_other, length-set, take-append-le, take_all, take_at, get_or_append_left, get_or_at, get_or_read}
+use Rattle.std.proofs.lemmas.List.Sums.{sum_by-set, sum_by_push, count_by-le-length}
 use Rattle.std.proofs.lemmas.List.Elements.{All-push, Contains-push, Contains-append_left, Contains-push_cases, Contains-get_or}
 use Rattle.stk_clauses.specs.declared.literal.Lit.{Lit}
 use Rattle.stk_clauses.specs.Literals.{negated, AreBelow}
 use Rattle.stk_clauses.specs.Propagation.{IsOpen}
 use Rattle.stk_clauses.proofs.Values.{same_lit}
 use Rattle.stk_propagate.specs.Assigned.{Assigned, IsAssigned, AreFresh}
-use Rattle.stk_propagate.specs.AssignmentInside.{seen_as, AreTruths, ArePlaces, IsInside}
+use Rattle.stk_propagate.specs.AssignmentInside.{seen_as, AreTruths, ArePlaces, HaveLevels, IsInside}
+use Rattle.stk_propagate.specs.Trailed.{one_if_assumed, level_of}
 use Rattle.stk_propagate.specs.declared.assignment.Assignment.TheInside.{Inside}
 
 -- what the table tells of a literal
@@ -58,6 +59,23 @@ places_push places t l lt o s k d h =
           rw (get_or_at t l [] d k e) (get_or-set_same places (l.0 / 2) (length t) 0 lt ∙ e)
     ]
 
+levels_push : (levels : List ℕ) (t : List Lit) (rs : List (Option ℕ)) (l : Lit) (r : Option ℕ) (n : ℕ) → l.0 / 2 < length levels → length rs ≡ length t → IsOpen t l → n ≡ sum_by one_if_assumed (rs ++ r ∷ []) → HaveLevels levels t rs → HaveLevels (set levels (l.0 / 2) n) (t ++ l ∷ []) (rs ++ r ∷ [])
+levels_push levels t rs l r n lt paired o en s k d h =
+    elim (cases_lt k (length t)) [
+      | inl a ↦
+          let m : Lit = get_or t k d in
+          let other : m.0 / 2 ≢ l.0 / 2 = λ e. elim (same_variable l m (sym e)) [
+            | inl f ↦ o.0 (subst (λ y. Contains t y) f (Contains-get_or t k d a))
+            | inr f ↦ o.1 (subst (λ y. Contains t y) f (Contains-get_or t k d a))
+          ] in
+          let front : level_of rs k ≡ level_of (rs ++ r ∷ []) k = ap (sum_by one_if_assumed) (sym (take-append-le (k + 1) rs (r ∷ []) (omega (arith, a, paired)))) in
+          rw (get_or_append_left t (l ∷ []) d k a) (get_or-set_other levels (l.0 / 2) (m.0 / 2) n 0 other ∙ s k d a ∙ front)
+      | inr b ↦
+          let e : length t ≡ k = omega (arith, h, b, length-append t (l ∷ [])) in
+          let whole : sum_by one_if_assumed (rs ++ r ∷ []) ≡ level_of (rs ++ r ∷ []) k = ap (sum_by one_if_assumed) (sym (take_all (k + 1) (rs ++ r ∷ []) (omega (arith, e, paired, length-append rs (r ∷ []))))) in
+          rw (get_or_at t l [] d k e) (get_or-set_same levels (l.0 / 2) n 0 lt ∙ en ∙ whole)
+    ]
+
 -- an unassigned literal isn't marked
 truth_open : (truth : List Bool) (t : List Lit) (l : Lit) → AreTruths truth t → IsOpen t l → get_or truth l.0 false ≡ false
 truth_open truth t l s o = elim (cases_Bool (get_or truth l.0 false)) [ inl e ↦ absurd (o.0 (s.back l e)) | inr e ↦ e ]
@@ -95,14 +113,18 @@ assigned_push a b l r s lt o ev el er = record {
   fresh = subst AreFresh (sym el) (fresh_push a.literals l s.fresh o);
 }
 
-pub inside_push : (f g : Inside) (l : Lit) (r : Option ℕ) (n : ℕ) → IsInside f → l.0 < 2 * f.vars → IsOpen f.literals.items l → n ≡ length f.literals.items
-    → g.vars ≡ f.vars → g.truth.items ≡ set f.truth.items l.0 true → g.places.items ≡ set f.places.items (l.0 / 2) n → g.literals.items ≡ f.literals.items ++ l ∷ [] → g.reasons.items ≡ f.reasons.items ++ r ∷ []
+pub inside_push : (f g : Inside) (l : Lit) (r : Option ℕ) (n m : ℕ) → IsInside f → l.0 < 2 * f.vars → IsOpen f.literals.items l → n ≡ length f.literals.items → m ≡ f.depth + one_if_assumed r
+    → g.vars ≡ f.vars → g.truth.items ≡ set f.truth.items l.0 true → g.places.items ≡ set f.places.items (l.0 / 2) n → g.levels.items ≡ set f.levels.items (l.0 / 2) m → g.depth ≡ m → g.literals.items ≡ f.literals.items ++ l ∷ [] → g.reasons.items ≡ f.reasons.items ++ r ∷ []
     → vec_capacity f.literals ≤ vec_capacity g.literals → vec_capacity f.reasons ≤ vec_capacity g.reasons → IsInside g
-inside_push f g l r n s lt o en ev et ep el er cl cr =
+inside_push f g l r n m s lt o en em ev et ep eg eh el er cl cr =
     let t : List Lit = f.literals.items in
     let truth : List Bool = f.truth.items in
     let in' : l.0 < length truth = omega (arith, s.sized, lt) in
     let half : l.0 / 2 < length f.places.items = omega (arith, s.placed_sized, lt) in
+    let part : l.0 / 2 < length f.levels.items = omega (arith, s.leveled_sized, lt) in
+    let rs : List (Option ℕ) = f.reasons.items in
+    let sum : m ≡ sum_by one_if_assumed (rs ++ r ∷ []) = em ∙ ap (λ k. k + one_if_assumed r) s.deep ∙ sym (sum_by_push one_if_assumed rs r) in
+    let leveled' : HaveLevels g.levels.items (t ++ l ∷ []) (rs ++ r ∷ []) = subst (λ xs. HaveLevels xs (t ++ l ∷ []) (rs ++ r ∷ [])) (sym eg) (levels_push f.levels.items t rs l r m part s.facts.paired o sum s.leveled) in
     let ep' : g.places.items ≡ set f.places.items (l.0 / 2) (length t) = ep ∙ ap (λ k. set f.places.items (l.0 / 2) k) en in
     record {
       facts = assigned_push (seen_as f) (seen_as g) l r s.facts lt o ev el er;
@@ -113,4 +135,7 @@ inside_push f g l r n s lt o en ev et ep el er cl cr =
       reason_room = omega (arith, ev, s.reason_room, cr);
       placed_sized = omega (arith, ap length ep, length-set f.places.items (l.0 / 2) n, s.placed_sized, ev);
       placed = subst (λ xs. ArePlaces xs g.literals.items) (sym ep') (subst (λ xs. ArePlaces (set f.places.items (l.0 / 2) (length t)) xs) (sym el) (places_push f.places.items t l half o s.placed));
+      leveled_sized = omega (arith, ap length eg, length-set f.levels.items (l.0 / 2) m, s.leveled_sized, ev);
+      leveled = subst (λ xs. HaveLevels g.levels.items xs g.reasons.items) (sym el) (subst (λ xs. HaveLevels g.levels.items (t ++ l ∷ []) xs) (sym er) leveled');
+      deep = eh ∙ sum ∙ ap (sum_by one_if_assumed) (sym er);
     }

@@ -1,5 +1,6 @@
 -- A trail as contracts see it.
-use Rattle.std.specs.Prelude.{◌≡◌, ℕ, ◌<◌, ◌++◌, List, map, length, slice_index_or, Option, Some, None}
+use Rattle.std.specs.Prelude.{◌≡◌, ℕ, ◌<◌, ◌+◌, ◌++◌, List, map, length, take, slice_index_or, Option, Some, None}
+use Rattle.std.specs.List.{sum_by}
 use Rattle.stk_clauses.specs.declared.literal.Lit.{Lit}
 use Rattle.stk_propagate.specs.Assigned.{Assigned}
 
@@ -14,6 +15,15 @@ pub record Trailed : Type 0 where
 -- the literal at the place was assumed
 abbrev pub IsAssumed : Assigned → ℕ → Type 0
 IsAssumed a k = (k < length a.literals) × (slice_index_or a.reasons k None ≡ None)
+
+-- 1 for an assumed literal, by its reason
+abbrev pub one_if_assumed : Option ℕ → ℕ
+one_if_assumed None = 1
+one_if_assumed (Some r) = 0
+
+-- the level of the literal at the place: how many literals as far as this one were assumed
+abbrev pub level_of : List (Option ℕ) → ℕ → ℕ
+level_of reasons k = sum_by one_if_assumed (take (k + 1) reasons)
 
 -- the new literals go on from the old ones, each with a clause as its reason
 pub record IsGrown (old new : Assigned) : Type 0 where

@@ -1,9 +1,10 @@
 // The true literals, by list, by literal and by variable.
-ghost use Rattle.std.specs.Prelude.{◌≡◌, ◌+◌, ◌-◌, ◌*◌, ◌<◌, ◌≤◌, ◌↔◌, ◌++◌, ◌∷◌, [], ℕ, length, take, slice_index_or, IfOk, IsTrue, MatchOption, MatchBool, None};
+ghost use Rattle.std.specs.Prelude.{◌≡◌, ◌+◌, ◌-◌, ◌*◌, ◌<◌, ◌≤◌, ◌↔◌, ◌++◌, ◌∷◌, ◌^◌, [], ℕ, length, take, slice_index_or, IfOk, IsTrue, MatchOption, MatchBool, None};
 ghost use Rattle.std.specs.List.{Contains};
 ghost use Rattle.stk_clauses.specs.Literals.{negated};
 ghost use Rattle.stk_clauses.specs.Propagation.{IsOpen};
 ghost use Rattle.stk_propagate.specs.Assigned.{IsAssigned};
+ghost use Rattle.stk_propagate.specs.Trailed.{one_if_assumed, level_of};
 
 use std::alloc::Global;
 use std::marker::Model;
@@ -13,13 +14,15 @@ use stk_clauses::Lit;
 /// The true literals, in the order in which they became true, each with its reason: the number of a clause, or `None`.
 /// No literal is there twice or beside its negation.
 ///
-/// `truth` tells of each literal whether it is true, and `places` of each variable that has a value where its literal
-/// stands.
+/// `truth` tells of each literal whether it is true, and `places` and `levels` of each variable that has a value where
+/// its literal stands, and how many literals as far as it were assumed. `depth` counts all assumed ones.
 #[derive(Drop)]
 pub struct Assignment {
     vars: u32,
     truth: Vec<bool>,
     places: Vec<usize>,
+    levels: Vec<u32>,
+    depth: u32,
     literals: Vec<Lit>,
     reasons: Vec<Option<u32>>,
 }
@@ -36,21 +39,46 @@ impl Model for Assignment {
     ghost invariant = { IsInside };
 }
 
+/// A number of assumed literals with one literal more, which has this reason.
+fn deeper(depth: u32, reason: Option<u32>) -> u32
+    requires { depth < 2 ^ 32 - 1 }
+    ensures { result ≡ depth + one_if_assumed reason }
+{
+    match reason {
+        None => depth + 1,
+        Some(_) => depth,
+    }
+}
+
+/// A number of assumed literals without one literal, which has this reason.
+fn shallower(depth: u32, reason: Option<u32>) -> u32
+    requires { one_if_assumed reason ≤ depth }
+    ensures { result + one_if_assumed reason ≡ depth }
+{
+    match reason {
+        None => depth - 1,
+        Some(_) => depth,
+    }
+}
+
 impl Assignment {
-    /// No true literals, over the variables below `vars`. All memory is taken here: two marks and two entries a
-    /// literal.
+    /// No true literals, over the variables below `vars`. All memory is taken here: a mark and two entries a literal,
+    /// and two numbers a variable.
     pub fn reserve(alloc: Global, vars: u32) -> Result<Assignment, NoMemory>
         ensures { IfOk result (λ a. a ≡ record { vars = vars; literals = []; reasons = [] }) }
     {
         let size = vars as usize * 2;
         let truth = vec![in alloc; false; size]?;
         let places = vec![in alloc; 0usize; vars as usize]?;
+        let levels = vec![in alloc; 0u32; vars as usize]?;
         let literals = Vec::with_capacity(alloc, size)?;
         let reasons = Vec::with_capacity(alloc, size)?;
         Ok(Assignment {
             vars,
             truth,
             places,
+            levels,
+            depth: 0,
             literals,
             reasons,
         })
@@ -79,6 +107,18 @@ impl Assignment {
     {
         if self.truth[lit.0 as usize] {
             Some(self.places[(lit.0 / 2) as usize])
+        } else {
+            None
+        }
+    }
+
+    /// How many literals as far as this true one were assumed, or `None` if it isn't true.
+    pub fn level(&self, lit: Lit) -> Option<u32>
+        requires { lit.0 < 2 * self.now.vars }
+        ensures { MatchOption result (Contains self.now.literals lit → ⊥) (λ n. (k : ℕ) × (k < length self.now.literals) × (slice_index_or self.now.literals k lit ≡ lit) × (n ≡ level_of self.now.reasons k)) }
+    {
+        if self.truth[lit.0 as usize] {
+            Some(self.levels[(lit.0 / 2) as usize])
         } else {
             None
         }
@@ -121,6 +161,9 @@ impl Assignment {
     {
         self.truth[lit.0 as usize] = true;
         self.places[(lit.0 / 2) as usize] = self.literals.len();
+        let depth = deeper(self.depth, reason);
+        self.depth = depth;
+        self.levels[(lit.0 / 2) as usize] = depth;
         if let Err(_) = self.literals.push(lit) {
             unreachable!();
         }
@@ -167,6 +210,7 @@ impl Assignment {
         let at = self.literals.len() - 1;
         let lit = self.literals[at];
         self.truth[lit.0 as usize] = false;
+        self.depth = shallower(self.depth, self.reasons[at]);
         self.literals.truncate(at);
         self.reasons.truncate(at);
     }

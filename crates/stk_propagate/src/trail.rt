@@ -5,7 +5,7 @@ ghost use Rattle.stk_clauses.specs.declared.literal.Lit.{Lit};
 ghost use Rattle.stk_clauses.specs.Literals.{negated, AreBelow};
 ghost use Rattle.stk_clauses.specs.Propagation.{Forced, Falsifies, IsOpen, AllFalse, AreQuiet};
 ghost use Rattle.stk_propagate.specs.Assigned.{IsAssigned};
-ghost use Rattle.stk_propagate.specs.Trailed.{IsAssumed, IsGrown};
+ghost use Rattle.stk_propagate.specs.Trailed.{IsAssumed, IsGrown, level_of};
 ghost use Rattle.stk_propagate.specs.Fitting.{Fits, IsCalm, IsAlive, IsTimely};
 
 use crate::inner::Inner;
@@ -70,6 +70,14 @@ impl Trail {
         ensures { MatchOption result (Contains self.now.assigned.literals lit → ⊥) (λ k. (k < length self.now.assigned.literals) × (slice_index_or self.now.assigned.literals k lit ≡ lit)) }
     {
         self.inner.assigned.place(lit)
+    }
+
+    /// How many literals as far as this true one were assumed, or `None` if it isn't true.
+    pub fn level(&self, lit: Lit) -> Option<u32>
+        requires { lit.0 < 2 * self.now.assigned.vars }
+        ensures { MatchOption result (Contains self.now.assigned.literals lit → ⊥) (λ n. (k : ℕ) × (k < length self.now.assigned.literals) × (slice_index_or self.now.assigned.literals k lit ≡ lit) × (n ≡ level_of self.now.assigned.reasons k)) }
+    {
+        self.inner.assigned.level(lit)
     }
 
     /// The clause whose other literals were all false when propagation made the literal true; `None` where it was

@@ -65,7 +65,7 @@ fn learnt(
     let low = levels[levels.len() - 1] as usize;
     marks.begin(trail, store, low, conflict)?;
     let point = marks.to_point(trail, store, low)?;
-    redundancy.find(marks, trail, store, levels)?;
+    redundancy.find(marks, trail, store)?;
     marks.shorten(trail, store, low, point, redundancy.places())?;
     let clause = marks.collect(alloc, trail.assigned()[point])?;
     let hints = marks.hints_in_order(alloc)?;

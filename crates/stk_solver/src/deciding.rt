@@ -1,5 +1,5 @@
 // What a search tries next.
-ghost use Rattle.std.specs.Prelude.{◌≡◌, ◌+◌, ◌*◌, ◌<◌, ◌≤◌, length, OnOk, MatchOption};
+ghost use Rattle.std.specs.Prelude.{◌≡◌, ◌+◌, ◌*◌, ◌<◌, ◌≤◌, length, IsTrue, OnOk, MatchOption};
 ghost use Rattle.stk_clauses.specs.Propagation.{IsOpen, AreQuiet};
 ghost use Rattle.stk_solver.specs.Searching.{IsSearch, AreAllAssigned};
 
@@ -9,7 +9,8 @@ use stk_clauses::{Lit, Store};
 
 impl Search {
     /// The unassigned literal to try next, if what is tried next knows one: a variable that conflicts met lately, with
-    /// the sign that it had last. Where all variables have values it isn't asked. The contract alone reads `_given`.
+    /// the sign that it had last. Each turn takes a variable that goes in again only on the way back, so all turns
+    /// between two conflicts go over each variable at most once. The contract alone reads `_given`.
     fn suggested(&mut self, _given: &Store) -> Option<Lit>
         requires search { IsSearch self.old _given.now }
         ensures search { IsSearch self.new _given.now }
@@ -20,9 +21,6 @@ impl Search {
         ensures log { self.new.log ≡ self.old.log }
         ensures open { MatchOption result (Unit {0}) (λ l. (l.0 < 2 * self.new.vars) × IsOpen self.new.trail.assigned.literals l) }
     {
-        if self.trail.assigned().len() >= self.vars as usize {
-            return None;
-        }
         for _turn in 0..self.vars {
             let Some(variable) = self.order.take() else {
                 return None;
@@ -37,7 +35,8 @@ impl Search {
         None
     }
 
-    /// The first unassigned variable's literal, if there is one.
+    /// The first unassigned variable's literal, if there is one. What is tried next holds each unassigned variable, so
+    /// it isn't asked; but no proof says so, and this does without one.
     /// The contract alone reads `_given`.
     fn first_open(&self, _given: &Store) -> Option<Lit>
         requires search { IsSearch self.now _given.now }
@@ -52,7 +51,16 @@ impl Search {
         None
     }
 
-    /// An unassigned literal, if there is one. All variables are gone through only where what is tried next knows none.
+    /// Whether each variable has a value: there are as many true literals as variables, and each is of another one.
+    /// The contract alone reads `_given`.
+    fn are_all_assigned(&self, _given: &Store) -> bool
+        requires search { IsSearch self.now _given.now }
+        ensures { IsTrue result → AreAllAssigned self.now.trail.assigned.literals self.now.vars }
+    {
+        self.trail.assigned().len() >= self.vars as usize
+    }
+
+    /// An unassigned literal, if there is one.
     pub(crate) fn choose(&mut self, given: &Store) -> Option<Lit>
         requires search { IsSearch self.old given.now }
         ensures search { IsSearch self.new given.now }
@@ -63,6 +71,9 @@ impl Search {
         ensures log { self.new.log ≡ self.old.log }
         ensures open { MatchOption result (AreAllAssigned self.new.trail.assigned.literals self.new.vars) (λ l. (l.0 < 2 * self.new.vars) × IsOpen self.new.trail.assigned.literals l) }
     {
+        if self.are_all_assigned(given) {
+            return None;
+        }
         match self.suggested(given) {
             Some(lit) => Some(lit),
             None => self.first_open(given),

@@ -54,34 +54,28 @@ pub(crate) fn reason_of<'a>(
 }
 
 /// One bit of 64 for the level of a true literal; none for level 0.
-fn level_bit(trail: &Trail, levels: &[u32], lit: Lit, vars: u32) -> u64
+fn level_bit(trail: &Trail, lit: Lit, vars: u32) -> u64
     requires { trail.now.assigned.vars ≡ vars }
 {
     if lit.variable() >= vars {
         return 0;
     }
-    let Some(place) = trail.place(lit) else {
-        return 0;
-    };
-    if place > 4_294_967_295 {
-        return 0;
-    }
-    let level = match levels.binary_search(&(place as u32)) {
-        Ok(at) => at + 1,
-        Err(at) => at,
+    let level = match trail.level(lit) {
+        None => 0,
+        Some(level) => level,
     };
     if level == 0 { 0 } else { 1 << (level % 64) }
 }
 
 /// The levels of the marked literals.
-fn levels_of(marks: &Marks, trail: &Trail, levels: &[u32]) -> u64
+fn levels_of(marks: &Marks, trail: &Trail) -> u64
     requires noted { IsNoted marks.now }
     requires vars { trail.now.assigned.vars ≡ marks.now.vars }
 {
     let mut bits = 0;
     for lit in &marks.noted {
         if marks.is_now_marked(*lit) {
-            bits |= level_bit(trail, levels, *lit, marks.vars);
+            bits |= level_bit(trail, *lit, marks.vars);
         }
     }
     bits
@@ -152,7 +146,6 @@ impl Redundancy {
         marks: &Marks,
         trail: &Trail,
         store: &Store,
-        levels: &[u32],
         bits: u64,
         lit: Lit,
         at: usize,
@@ -174,7 +167,7 @@ impl Redundancy {
             Standing::Follows => Look::Next,
             Standing::Stays => Look::Fails,
             Standing::Unknown => {
-                let bit = level_bit(trail, levels, other, marks.vars);
+                let bit = level_bit(trail, other, marks.vars);
                 if bit & bits == bit {
                     Look::Deeper(other)
                 } else {
@@ -200,7 +193,6 @@ impl Redundancy {
         marks: &Marks,
         trail: &Trail,
         store: &Store,
-        levels: &[u32],
         bits: u64,
     ) -> Result<(), NoMemory>
         requires noted { IsNoted marks.now }
@@ -210,7 +202,7 @@ impl Redundancy {
             let Some((lit, at)) = self.waiting.pop() else {
                 return Ok(());
             };
-            match self.look(marks, trail, store, levels, bits, lit, at) {
+            match self.look(marks, trail, store, bits, lit, at) {
                 Look::Done => {
                     self.set_standing(lit, Standing::Follows)?;
                     if lit.variable() < marks.vars
@@ -239,17 +231,16 @@ impl Redundancy {
         marks: &Marks,
         trail: &Trail,
         store: &Store,
-        levels: &[u32],
     ) -> Result<(), NoMemory>
         requires noted { IsNoted marks.now }
         requires vars { trail.now.assigned.vars ≡ marks.now.vars }
     {
         self.forget();
-        let bits = levels_of(marks, trail, levels);
+        let bits = levels_of(marks, trail);
         for lit in &marks.noted {
             if marks.is_now_marked(*lit) && self.standing(*lit) == Standing::Unknown {
                 self.waiting.push((*lit, 0))?;
-                self.go_through(marks, trail, store, levels, bits)?;
+                self.go_through(marks, trail, store, bits)?;
             }
         }
         self.places.sort_unstable();

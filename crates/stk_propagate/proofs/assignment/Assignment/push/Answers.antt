@@ -2,6 +2,7 @@ use Rattle.std.proofs.Common.{◌<◌, ◌*◌, arith, refl, subst, sym}
 use Rattle.stk_clauses.specs.Propagation.{IsOpen}
 use Rattle.stk_propagate.specs.Assigned.{Assigned}
 use Rattle.stk_propagate.proofs.Pushing.{room_left, inside_push}
+use Rattle.stk_propagate.proofs.Filling.{depth_left}
 use Rattle.stk_propagate.proofs.assignment.Assignment.push.Goals as goal
 
 pub unreachable-requires : goal.unreachable-requires
@@ -16,11 +17,17 @@ unreachable-requires-in-Err-push c =
     let room = room_left f c.args.lit c.self.invariant (subst (λ (a : Assigned). c.args.lit.0 < 2 * a.vars) (sym c.self.view_is) c.requires.below) (subst (λ (a : Assigned). IsOpen a.literals c.args.lit) (sym c.self.view_is) c.requires.unassigned) in
     omega (arith, room, c.in-Err-push.ensures.full, c.self.invariant.reason_room, c.self.invariant.facts.paired, f.reasons.ok.0)
 
+pub deeper-depth-requires : goal.deeper-depth-requires
+deeper-depth-requires c =
+    let f = c.self.inside in
+    omega (arith, depth_left f c.args.lit c.self.invariant (subst (λ (a : Assigned). c.args.lit.0 < 2 * a.vars) (sym c.self.view_is) c.requires.below) (subst (λ (a : Assigned). IsOpen a.literals c.args.lit) (sym c.self.view_is) c.requires.unassigned))
+
 pub invariant_of-self : goal.invariant_of-self
 invariant_of-self c =
     let f = c.self.inside in
-    inside_push f _ c.args.lit c.args.reason c.len.result c.self.invariant
+    inside_push f _ c.args.lit c.args.reason c.len.result c.deeper-depth.result c.self.invariant
     (subst (λ (a : Assigned). c.args.lit.0 < 2 * a.vars) (sym c.self.view_is) c.requires.below)
     (subst (λ (a : Assigned). IsOpen a.literals c.args.lit) (sym c.self.view_is) c.requires.unassigned)
     (omega (arith, c.len.ensures, f.literals.ok.0))
-    refl refl refl c.in_default.ensures.items c.in_default-push.ensures.items c.in_default.ensures.capacity c.in_default-push.ensures.capacity
+    c.deeper-depth.ensures
+    refl refl refl refl refl c.in_default.ensures.items c.in_default-push.ensures.items c.in_default.ensures.capacity c.in_default-push.ensures.capacity
