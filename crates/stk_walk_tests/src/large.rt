@@ -7,8 +7,8 @@ use std::process::Abort;
 use std::test::Fail;
 use stk_base::NoMemory;
 
-// A text with a part again and again in its middle.
-fn repeated(
+/// A text with a part again and again in its middle.
+pub(crate) fn repeated(
     alloc: Global,
     first: &str,
     part: &str,

@@ -12,6 +12,8 @@ mod functions;
 #[cfg(test)]
 mod goal_values;
 #[cfg(test)]
+mod growing;
+#[cfg(test)]
 mod large;
 #[cfg(test)]
 mod last_rows;
