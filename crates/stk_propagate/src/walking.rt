@@ -1,10 +1,11 @@
 // The clauses that are watched by a literal that became false.
-ghost use Rattle.std.specs.Prelude.{◌≡◌, ◌+◌, ◌*◌, ◌/◌, ◌<◌, ℕ, [], length, slice_index_or, MatchBool, MatchOption};
+ghost use Rattle.std.specs.Prelude.{◌≡◌, ◌≢◌, ◌+◌, ◌*◌, ◌/◌, ◌<◌, ℕ, [], length, slice_index_or, MatchBool, MatchOption, Some};
 ghost use Rattle.std.specs.List.{Contains};
+ghost use Rattle.stk_clauses.specs.declared.literal.Lit.{Lit};
 ghost use Rattle.stk_clauses.specs.Literals.{negated};
 ghost use Rattle.stk_clauses.specs.Propagation.{AllFalse};
 ghost use Rattle.stk_propagate.specs.Trailed.{IsGrown};
-ghost use Rattle.stk_propagate.specs.Fitting.{Fits};
+ghost use Rattle.stk_propagate.specs.Fitting.{IsWatched, Fits};
 ghost use Rattle.stk_propagate.specs.Linked.{trailed, chain_of, InSpare, InSpareOr, IsFree, IsSized, AreLinked, IsLinked, AreCalmed};
 
 use crate::choosing::replacement;
@@ -12,6 +13,21 @@ use crate::inner::Inner;
 use stk_clauses::{Lit, Store};
 
 impl Inner {
+    /// A literal of a clause, other than the two that it watches, that isn't false, and how many stand before it. A
+    /// clause of two literals has no others: none is looked for.
+    fn next_watch(&self, store: &Store, id: u32, lit: Lit, other: Lit) -> Option<(Lit, usize)>
+        requires fits { Fits (trailed self.now) store.now }
+        requires exists { id < length store.now }
+        requires watched { IsWatched (slice_index_or store.now id []) (Some (lit, other)) }
+        ensures { MatchOption result ((m : Lit) → Contains (slice_index_or store.now id []) m → m ≢ lit → m ≢ other → Contains self.now.assigned.literals (negated m)) (λ p. Contains (slice_index_or store.now id []) p.0 × (p.0 ≢ lit) × (p.0 ≢ other) × (Contains self.now.assigned.literals (negated p.0) → ⊥)) }
+    {
+        let clause = store.clause(id);
+        if clause.len() == 2 {
+            return None;
+        }
+        replacement(&self.assigned, clause, self.starts.place(id), lit, other)
+    }
+
     /// Visits the clause of a place that watches a false literal: moves the watch, or makes the last literal true that
     /// may be. Says whether all are false.
     fn visit(&mut self, store: &Store, place: u32, lit: Lit) -> bool
@@ -40,8 +56,7 @@ impl Inner {
             self.keep(place, lit);
             return false;
         }
-        let start = self.starts.place(id);
-        match replacement(&self.assigned, store.clause(id), start, lit, other) {
+        match self.next_watch(store, id, lit, other) {
             Some((to, at)) => {
                 self.starts.put(id, at);
                 self.move_to(place, lit, to, other);

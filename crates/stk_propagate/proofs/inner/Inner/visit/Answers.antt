@@ -1,7 +1,6 @@
 use Rattle.std.proofs.Common.{◌≡◌, ◌≢◌, ℕ, ◌*◌, ◌/◌, ◌<◌, List, [], get_or, refl, sym, ◌∙◌, ap, subst, inr, arith, Option, Some, None}
 use Rattle.std.specs.List.{Contains}
 use Rattle.stk_clauses.specs.declared.literal.Lit.{Lit}
-use Rattle.stk_clauses.specs.Literals.{negated}
 use Rattle.stk_clauses.specs.Propagation.{AllFalse}
 use Rattle.stk_propagate.specs.declared.inner.Inner.{Inner}
 use Rattle.stk_propagate.specs.Fitting.{IsReason, IsWatched, Fits}
@@ -27,6 +26,11 @@ true_still f k m e h = subst (λ (x : Inner). Contains x.assigned.literals m) (s
 pub other_watch-other-requires-clause-watches : goal.other_watch-other-requires-clause-watches
 other_watch-other-requires-clause-watches c = (watching c.args.self.now c.args.lit c.args.place c.requires.below c.requires.linked).1
 
+pub next_watch-requires-clause-watched : goal.next_watch-requires-clause-watched
+next_watch-requires-clause-watched c =
+    let f = c.args.self.now in
+    both f c.args.store.now c.args.place c.args.lit c.other_watch-other.result c.requires.fits (watching f c.args.lit c.args.place c.requires.below c.requires.linked).0 c.other_watch-other.ensures
+
 pub returns-then-is_true-clause-found : goal.returns-then-is_true-clause-found
 returns-then-is_true-clause-found c =
     let f = c.args.self.now in
@@ -47,8 +51,7 @@ force-requires-clause-reason c =
     let o = c.other_watch-other.result in
     let cl : List Lit = get_or cs (n / 2) [] in
     let pair = both f cs n w o c.requires.fits (watching f w n c.requires.below c.requires.linked).0 c.other_watch-other.ensures in
-    let others = subst (λ (ys : List Lit). (m : Lit) → Contains ys m → m ≢ w → m ≢ o → Contains f.assigned.literals (negated m)) c.clause.ensures.clause c.in-None.ensures in
-    subst (λ (x : Inner). IsReason x.assigned.literals cl o) (sym c.keep-in-None.ensures.rest) (reason_here f.assigned.literals cl w o pair.1 c.requires.falsified others)
+    subst (λ (x : Inner). IsReason x.assigned.literals cl o) (sym c.keep-in-None.ensures.rest) (reason_here f.assigned.literals cl w o pair.1 c.requires.falsified c.in-None.ensures)
 
 pub returns-in-Some-clause-fits : goal.returns-in-Some-clause-fits
 returns-in-Some-clause-fits c =
@@ -60,9 +63,8 @@ returns-in-Some-clause-fits c =
     let to = c.in-Some.to in
     let o = c.other_watch-other.result in
     let found = c.in-Some.ensures in
-    let has = subst (λ (ys : List Lit). Contains ys to) c.clause.ensures.clause found.0 in
     subst (λ (x : Inner). Fits (trailed x) cs) (sym c.move_to.ensures.rest)
-    (fits_moved (trailed f) c.move_to.new.self.watches.items cs n w to o c.requires.fits (no_pair t c.vars.ensures.facts.fresh) (watching f w n c.requires.below c.requires.linked).0 c.other_watch-other.ensures c.move_to.ensures.watches c.requires.falsified has found.2 found.3)
+    (fits_moved (trailed f) c.move_to.new.self.watches.items cs n w to o c.requires.fits (no_pair t c.vars.ensures.facts.fresh) (watching f w n c.requires.below c.requires.linked).0 c.other_watch-other.ensures c.move_to.ensures.watches c.requires.falsified found.0 found.2 found.3)
 
 pub returns-in-Some-clause-found : goal.returns-in-Some-clause-found
 returns-in-Some-clause-found c =
