@@ -7,9 +7,10 @@ ghost use Rattle.stk_terms.specs.Terms.{term_at, child};
 ghost use Rattle.stk_terms.specs.Values.{arg_at, width_at, number_at};
 ghost use Rattle.stk_terms.specs.Fitting.{AreBelow};
 ghost use Rattle.stk_terms.specs.Cost.{bound_at, cost};
-ghost use Rattle.stk_blast.specs.Inputs.{residues_of};
+ghost use Rattle.stk_blast.specs.Inputs.{AreFirsts, residues_of};
 ghost use Rattle.stk_blast.specs.Rows.{IsRow};
 
+use crate::inputs::firsts_of;
 use crate::operators::operate;
 use std::alloc::Global;
 use stk_base::{List, NoMemory};
@@ -34,12 +35,14 @@ fn row_of(
     alloc: Global,
     terms: &Terms,
     gates: &mut Gates,
+    firsts: &[u32],
     rows: &[List<Edge>],
     id: TermId,
 ) -> Result<List<Edge>, NoMemory>
     requires exists { id.0 < length terms.now.terms }
     requires before { length rows.now ≡ id.0 }
     requires inputs { gates.old.inputs ≡ sum terms.now.inputs }
+    requires firsts { AreFirsts terms.now.inputs firsts.now }
     requires args { (k : ℕ) → k < length (term_at terms.now id.0).args → IsRow gates.old terms.now (child terms.now id.0 k) (slice_index_or rows.now (child terms.now id.0 k) []) }
     requires room { HasRoom gates.old (bound_at terms.now id.0) }
     ensures row { IfOk result (IsRow gates.new terms.now id.0) }
@@ -53,7 +56,7 @@ fn row_of(
     let x = argument(rows, args, 0);
     let y = argument(rows, args, 1);
     let z = argument(rows, args, 2);
-    let row = operate(alloc, gates, terms.widths(), terms.op(id), x, y, z)?;
+    let row = operate(alloc, gates, terms.widths(), firsts, terms.op(id), x, y, z)?;
     Ok(row)
 }
 
@@ -62,6 +65,7 @@ fn row_where(
     alloc: Global,
     terms: &Terms,
     gates: &mut Gates,
+    firsts: &[u32],
     rows: &[List<Edge>],
     id: TermId,
     marked: bool,
@@ -69,6 +73,7 @@ fn row_where(
     requires exists { id.0 < length terms.now.terms }
     requires before { length rows.now ≡ id.0 }
     requires inputs { gates.old.inputs ≡ sum terms.now.inputs }
+    requires firsts { AreFirsts terms.now.inputs firsts.now }
     requires args { marked ≡ true → (k : ℕ) → k < length (term_at terms.now id.0).args → IsRow gates.old terms.now (child terms.now id.0 k) (slice_index_or rows.now (child terms.now id.0 k) []) }
     requires room { HasRoom gates.old (if marked then bound_at terms.now id.0 else 0) }
     ensures row { marked ≡ true → IfOk result (IsRow gates.new terms.now id.0) }
@@ -76,7 +81,7 @@ fn row_where(
     ensures adds { AddsWithin gates.old gates.new (if marked then bound_at terms.now id.0 else 0) }
 {
     if marked {
-        let row = row_of(alloc, terms, gates, rows, id)?;
+        let row = row_of(alloc, terms, gates, firsts, rows, id)?;
         return Ok(row);
     }
     Ok(List::empty(alloc))
@@ -100,15 +105,18 @@ pub fn blast(
     ensures extends { Extends gates.old gates.new }
     ensures adds { AddsWithin gates.old gates.new (cost terms.now id.0) }
 {
-    // For the prover: the terms keep their facts.
+    // For the prover: the terms and the gates keep their facts.
     let _ = terms.count();
+    let _ = gates.count();
     let parts = terms.parts(id)?;
     let marks = parts.as_slice();
-    let mut rows = Vec::new(alloc);
+    let first_gates = firsts_of(alloc, terms.widths())?;
+    let firsts = first_gates.as_slice();
+    let mut rows = Vec::with_capacity(alloc, id.0)?;
     for i in 0..id.0 {
-        let row = row_where(alloc, terms, gates, &rows, TermId(i), marks[i])?;
+        let row = row_where(alloc, terms, gates, firsts, &rows, TermId(i), marks[i])?;
         rows.push(row)?;
     }
-    let row = row_of(alloc, terms, gates, &rows, id)?;
+    let row = row_of(alloc, terms, gates, firsts, &rows, id)?;
     Ok(row)
 }

@@ -1,38 +1,44 @@
 //! The rows of inputs and of constants.
 
-ghost use Rattle.std.specs.Prelude.{◌≡◌, ℕ, ◌+◌, ◌*◌, ◌^◌, ◌<◌, ◌≤◌, Bool, length, take, sum, slice_index, IfOk};
+ghost use Rattle.std.specs.Prelude.{◌≡◌, ℕ, ◌+◌, ◌*◌, ◌^◌, ◌<◌, ◌≤◌, Bool, length, sum, slice_index, IfOk};
 ghost use Rattle.stk_gates.specs.Tables.{Table, Obeys};
 ghost use Rattle.stk_arith.specs.Rows.{number, AreEdges};
-ghost use Rattle.stk_blast.specs.Inputs.{residues_of};
+ghost use Rattle.stk_blast.specs.Inputs.{AreFirsts, residues_of};
 
 use std::alloc::Global;
 use stk_arith::{constant_row, gate_row};
 use stk_base::{List, NoMemory};
 use stk_gates::Edge;
 
-/// How many bits the first inputs have.
-fn bits_before(widths: &[u8], count: usize) -> u32
-    requires count { count ≤ length widths.now }
+/// The first gate of each input: one for each bit, behind the constant's.
+pub(crate) fn firsts_of(alloc: Global, widths: &[u8]) -> Result<Vec<u32>, NoMemory>
     requires few { sum widths.now < 2 ^ 29 }
-    ensures { result ≡ sum (take count widths.now) }
+    ensures { IfOk result (λ r. AreFirsts widths.now r.items) }
 {
-    let mut bits = 0;
-    for i in 0..count {
-        bits += widths[i] as u32;
+    let mut firsts = Vec::with_capacity(alloc, widths.len())?;
+    let mut first = 1;
+    for i in 0..widths.len() {
+        firsts.push(first)?;
+        first += widths[i] as u32;
     }
-    bits
+    Ok(firsts)
 }
 
 /// The row of an input.
-pub(crate) fn input_row(alloc: Global, widths: &[u8], key: usize) -> Result<List<Edge>, NoMemory>
+pub(crate) fn input_row(
+    alloc: Global,
+    widths: &[u8],
+    firsts: &[u32],
+    key: usize,
+) -> Result<List<Edge>, NoMemory>
     requires key { key < length widths.now }
     requires few { sum widths.now < 2 ^ 29 }
+    requires firsts { AreFirsts widths.now firsts.now }
     ensures length { IfOk result (λ r. length r ≡ slice_index widths.now key) }
     ensures edges { IfOk result (λ r. (t : Table) → t.inputs ≡ sum widths.now → AreEdges t r) }
     ensures value { IfOk result (λ r. (values : ℕ → Bool) → number values r ≡ slice_index (residues_of widths.now values) key) }
 {
-    let first = 1 + bits_before(widths, key);
-    let row = gate_row(alloc, first, widths[key] as u32)?;
+    let row = gate_row(alloc, firsts[key], widths[key] as u32)?;
     Ok(row)
 }
 

@@ -6,7 +6,7 @@ ghost use Rattle.stk_arith.specs.Rows.{number, AreEdges};
 ghost use Rattle.stk_terms.specs.Values.{width_by, number_by};
 ghost use Rattle.stk_terms.specs.Fitting.{arity, WidthsFit};
 ghost use Rattle.stk_terms.specs.Cost.{bound};
-ghost use Rattle.stk_blast.specs.Inputs.{residues_of};
+ghost use Rattle.stk_blast.specs.Inputs.{AreFirsts, residues_of};
 
 use crate::compare::{choice, equality, order, signed_order};
 use crate::inputs::{input_row, number_row};
@@ -27,12 +27,14 @@ pub(crate) fn operate(
     alloc: Global,
     gates: &mut Gates,
     inputs: &[u8],
+    firsts: &[u32],
     op: TermOp,
     x: &[Edge],
     y: &[Edge],
     z: &[Edge],
 ) -> Result<List<Edge>, NoMemory>
     requires inputs { gates.old.inputs ≡ sum inputs.now }
+    requires firsts { AreFirsts inputs.now firsts.now }
     requires few_inputs { sum inputs.now < 2 ^ 29 }
     requires fit { WidthsFit inputs.now op (length x.now) (length y.now) (length z.now) }
     requires some { 0 < arity op → 0 < length x.now }
@@ -50,7 +52,7 @@ pub(crate) fn operate(
 {
     match op {
         TermOp::Constant(width, value) => number_row(alloc, width, value),
-        TermOp::Input(key) => input_row(alloc, inputs, key as usize),
+        TermOp::Input(key) => input_row(alloc, inputs, firsts, key as usize),
         TermOp::Not => inverted(alloc, x),
         TermOp::Neg => negative(alloc, gates, x),
         TermOp::And => and_rows(alloc, gates, x, y),

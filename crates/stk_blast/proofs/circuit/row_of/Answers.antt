@@ -4,6 +4,7 @@ use Rattle.stk_gates.specs.Tables.{HasRoom, AddsWithin}
 use Rattle.stk_terms.specs.Terms.{term_at}
 use Rattle.stk_terms.specs.Fitting.{AreBelow}
 use Rattle.stk_terms.proofs.Reading.{there, below_own}
+use Rattle.stk_blast.specs.Inputs.{AreFirsts}
 use Rattle.stk_blast.proofs.Arguments.{operation}
 use Rattle.stk_blast.proofs.circuit.row_of.Goals as goal
 
@@ -46,6 +47,7 @@ operate-requires c =
     c.widths.ensures (c.op.ensures (term_at s id) here) (c.args-args.ensures (term_at s id) here) c.argument-x.ensures c.argument-y.ensures c.argument-z.ensures in
     record {
       inputs = c.requires.inputs ∙ sym (ap sum c.widths.ensures);
+      firsts = subst (λ l. AreFirsts l c.args.firsts.now) (sym c.widths.ensures) c.requires.firsts;
       few_inputs = omega (arith, ap sum c.widths.ensures);
       fit = o.fit;
       some = o.some;
