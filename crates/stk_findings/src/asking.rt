@@ -1,6 +1,6 @@
 //! What is asked of the goals of a function, and what is answered.
 
-ghost use Rattle.std.specs.Prelude.{◌≡◌, ◌+◌, ◌<◌, ◌≤◌, ◌^◌, true, List, length, map, sum, IfOk};
+ghost use Rattle.std.specs.Prelude.{◌≡◌, ◌+◌, ◌<◌, ◌≤◌, ◌^◌, ℕ, true, false, List, length, map, sum, IfOk};
 ghost use Rattle.std.specs.Bool.{OnTrue};
 ghost use Rattle.std.specs.List.{Contains};
 ghost use Rattle.stk_base.specs.Causes.{Rose};
@@ -13,7 +13,7 @@ ghost use Rattle.stk_meaning.specs.Typings.{Typing};
 ghost use Rattle.stk_terms.specs.Values.{width_at};
 ghost use Rattle.stk_terms.specs.Cost.{cost};
 ghost use Rattle.stk_rewrite.specs.Normal.{IsNormal};
-ghost use Rattle.stk_goal_clauses.specs.Laws.{IsNever};
+ghost use Rattle.stk_goal_clauses.specs.Laws.{MakesOne, IsNever};
 ghost use Rattle.stk_goals.specs.Queries.{key_kinds, IsGoalOf};
 ghost use Rattle.stk_findings.specs.Asked.{AreNever};
 ghost use Rattle.stk_findings.specs.Answers.{is_given_up, is_never, IsRightAnswer};
@@ -21,9 +21,10 @@ ghost use Rattle.stk_findings.specs.Answers.{is_given_up, is_never, IsRightAnswe
 use crate::numbers::inputs_of;
 use std::alloc::Global;
 use stk_base::NoMemory;
+use stk_local_search::likely_residues;
 use stk_numbers::IntKind;
 use stk_query::{Decider, MOST_BUDGET, Verdict};
-use stk_terms::{TermId, Terms};
+use stk_terms::{Residues, TermId, Terms};
 use stk_wide_judge::QueryAnswer;
 
 /// A goal: a term, the store in which it is, and the kinds of the keys that the inputs of the store are.
@@ -32,6 +33,18 @@ pub(crate) struct Goal<'a> {
     pub(crate) term: TermId,
     pub(crate) terms: &'a Terms,
     pub(crate) kinds: &'a [IntKind],
+}
+
+// The answer to a query whose goal these residues make 1.
+fn started(alloc: Global, goal: &Goal, residues: &Residues) -> Result<QueryAnswer, NoMemory>
+    requires inputs { goal.now.terms.now.inputs ≡ map width_of goal.now.kinds.now }
+    requires makes { MakesOne goal.now.terms.now goal.now.term.0 residues.now.numbers }
+    ensures right { (budget : ℕ) (ty : Typing) (without : Kinds) (f : FunctionTree) (c : Candidate) (set : List Condition) → goal.now.kinds.now ≡ key_kinds ty without f → IsGoalOf ty without f c set goal.now.terms.now goal.now.term.0 → IfOk result (IsRightAnswer ty without f c set budget) }
+    ensures never { IfOk result (λ a. is_never a ≡ false) }
+    ensures given_up { IfOk result (λ a. is_given_up a ≡ false) }
+{
+    let inputs = inputs_of(alloc, goal.kinds, residues.numbers.as_slice())?;
+    Ok(QueryAnswer::Start(inputs))
 }
 
 // The answer to a query whose goal this is, by a decider.
@@ -56,8 +69,7 @@ fn decided<D: Decider>(
     let verdict = decider.ask(goal.terms, goal.term, budget)?;
     match verdict {
         Verdict::Satisfied(residues) => {
-            let inputs = inputs_of(alloc, goal.kinds, residues.numbers.as_slice())?;
-            Ok(QueryAnswer::Start(inputs))
+            started(alloc, goal, &residues)
         }
         Verdict::Tried | Verdict::Refuted(_, _) => Ok(QueryAnswer::Never),
         Verdict::Undecided(_, _) => Ok(QueryAnswer::GivenUp),
@@ -103,6 +115,9 @@ pub(crate) fn answered<D: Decider>(
     let place = goal.term.0;
     if is_among(nevers.as_slice(), place) {
         return Ok(QueryAnswer::Never);
+    }
+    if let Some(residues) = likely_residues(alloc, goal.terms, goal.term)? {
+        return started(alloc, goal, &residues);
     }
     let answer = decided(alloc, goal, decider, budget)?;
     if is_never(&answer) {

@@ -69,8 +69,9 @@ fn put_residues(
     Ok(())
 }
 
-/// The number of the term for residues, after those of all terms of the order.
-fn number_with(
+/// The number of a term for residues of the inputs, by the numbers of all terms of an order that has its place. These
+/// are left in `numbers`, each at its term's place.
+pub fn number_with(
     terms: &Terms,
     goal: TermId,
     order: &[usize],

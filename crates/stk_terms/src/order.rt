@@ -16,8 +16,9 @@ fn put_where(places: &mut Vec<usize>, place: usize, marked: bool) -> Result<(), 
     Ok(())
 }
 
-/// The places of a term's parts, its own among them.
-pub(crate) fn order_of(alloc: Global, terms: &Terms, id: TermId) -> Result<Vec<usize>, NoMemory>
+/// The places of a term's parts, its own among them, each behind those of its arguments. It takes one pass over the
+/// terms up to this one.
+pub fn order_of(alloc: Global, terms: &Terms, id: TermId) -> Result<Vec<usize>, NoMemory>
     requires { id.0 < length terms.now.terms }
     ensures order { IfOk result (λ r. IsOrder terms.now (id.0 + 1) r.items) }
     ensures has { IfOk result (λ r. HasPlace r.items id.0) }

@@ -72,6 +72,13 @@ impl Terms {
         are_residues(self.inputs.as_slice(), inputs.numbers.as_slice())
     }
 
+    /// As `has_residues`, of residues in a row.
+    pub fn are_residues(&self, residues: &[u64]) -> bool
+        ensures { IsTrue result ↔ AreResidues self.now.inputs residues.now }
+    {
+        are_residues(self.inputs.as_slice(), residues)
+    }
+
     /// The term of an operator over earlier terms: the one that is there, or a new one behind all others.
     pub fn make(&mut self, op: TermOp, args: &[TermId]) -> Result<TermId, NoMemory>
         requires { CanMake self.old (term_of op args.now) }
