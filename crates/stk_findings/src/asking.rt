@@ -68,9 +68,7 @@ fn decided<D: Decider>(
 {
     let verdict = decider.ask(goal.terms, goal.term, budget)?;
     match verdict {
-        Verdict::Satisfied(residues) => {
-            started(alloc, goal, &residues)
-        }
+        Verdict::Satisfied(residues) => { started(alloc, goal, &residues) }
         Verdict::Tried | Verdict::Refuted(_, _) => Ok(QueryAnswer::Never),
         Verdict::Undecided(_, _) => Ok(QueryAnswer::GivenUp),
     }

@@ -78,11 +78,7 @@ fn is_multiple(number: u128, of: u128) -> bool {
 
 // The quotient of two numbers, 0 where the second is 0.
 fn quotient(number: u128, by: u128) -> u128 {
-    if by == 0 {
-        0
-    } else {
-        number / by
-    }
+    if by == 0 { 0 } else { number / by }
 }
 
 // One factor is the quotient by the other where there is no rest, and else the target itself, times 1.
@@ -161,12 +157,28 @@ fn order(wish: &Wish, sign: u128) -> Targets {
 // The taken arm gets the target. If it is a constant, the other one gets it, and is taken.
 fn choice(wish: &Wish) -> Targets {
     let takes_second = wish.first.number == 1;
-    let taken = if takes_second { wish.second } else { wish.third };
+    let taken = if takes_second {
+        wish.second
+    } else {
+        wish.third
+    };
     let changes = taken.is_constant;
     Targets {
-        first: if changes { Some(1 ^ wish.first.number) } else { None },
-        second: if takes_second != changes { Some(wish.target) } else { None },
-        third: if takes_second == changes { Some(wish.target) } else { None },
+        first: if changes {
+            Some(1 ^ wish.first.number)
+        } else {
+            None
+        },
+        second: if takes_second != changes {
+            Some(wish.target)
+        } else {
+            None
+        },
+        third: if takes_second == changes {
+            Some(wish.target)
+        } else {
+            None
+        },
     }
 }
 
@@ -211,7 +223,9 @@ pub(crate) fn inverse(wish: &Wish) -> Targets {
         TermOp::ULt => order(wish, 0),
         TermOp::SLt => order(wish, sign_bit(wish.first.width)),
         TermOp::Extract(low, _) => extract(wish, low),
-        TermOp::ZeroExt(_) | TermOp::SignExt(_) => Targets::first(target & greatest(wish.first.width)),
+        TermOp::ZeroExt(_) | TermOp::SignExt(_) => Targets::first(
+            target & greatest(wish.first.width),
+        ),
         TermOp::Concat => parts(wish),
         TermOp::Ite => choice(wish),
     }

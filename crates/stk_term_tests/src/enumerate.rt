@@ -6,13 +6,13 @@ use stk_terms::{TermId, TermOp, Terms, first_that, input_bits};
 
 /// A term: its operators with their arguments, each by its place; the last one is the goal. Of the inputs those that
 /// are found first, or none.
-struct Case {
-    steps: &'static [(TermOp, &'static [usize])],
-    found: Option<(u64, u64)>,
+pub(crate) struct Case {
+    pub(crate) steps: &'static [(TermOp, &'static [usize])],
+    pub(crate) found: Option<(u64, u64)>,
 }
 
 /// Over two inputs of 8 bits, x and y.
-static TABLE: [Case; 7] = [
+pub(crate) static TABLE: [Case; 7] = [
     // x + 100 < x holds from 156 on
     Case {
         steps: &[
@@ -77,7 +77,7 @@ static TABLE: [Case; 7] = [
 ];
 
 /// The goal of these steps, or `None` where one can't be made.
-fn goal_of(
+pub(crate) fn goal_of(
     alloc: Global,
     terms: &mut Terms,
     steps: &[(TermOp, &[usize])],

@@ -1,8 +1,10 @@
-//! Tests of terms: the store, rewriting, and trying all inputs.
+//! Tests of terms: the store, rewriting, trying all inputs, and likely ones.
 #![tactic(auto)]
 
 #[cfg(test)]
 mod enumerate;
+#[cfg(test)]
+mod local_search;
 #[cfg(test)]
 mod making_terms;
 #[cfg(test)]
