@@ -1,5 +1,5 @@
 -- The places of a long division.
-use Rattle.std.proofs.Common.{◌≡◌, ◌==◌, ℕ, zero, suc, ◌+◌, ◌-◌, ◌*◌, ◌/◌, ◌%◌, ◌^◌, ◌<◌, ◌≤◌, Bool, true, false, not, ◌&&◌, ◌||◌, if◌then◌else◌, nat_lt, nat_eq, List, length, drop, get_or, set, refl, sym, ap, ◌∙◌, subst, arith, mul_assoc, eqb-true}
+use Rattle.std.proofs.Common.{◌≡◌, ◌==◌, ℕ, zero, suc, ◌+◌, ◌-◌, ◌*◌, ◌/◌, ◌%◌, ◌<◌, ◌≤◌, Bool, true, false, not, ◌&&◌, ◌||◌, if◌then◌else◌, nat_lt, nat_eq, List, length, drop, get_or, set, refl, sym, ap, ◌∙◌, subst, arith, mul_assoc, eqb-true}
 use Rattle.std.proofs.lemmas.List.{drop-set, drop_all, get_or-set_same, get_or-set_other}
 use Rattle.std.proofs.lemmas.Nat.{div-mul-add, mod-mul-add}
 use Rattle.std.proofs.lemmas.Bool.{le-ltb, lt-ltb, eqb-false}
@@ -86,6 +86,7 @@ module _ (gates : ℕ → Bool) where
       joined zero false = refl
       joined (suc n) true = ap (λ b. b || true) (lt-ltb 0 (suc n) (omega arith)) ∙ sym (lt-ltb 0 (1 + 2 * suc n) (omega arith))
       joined (suc n) false = ap (λ b. b || false) (lt-ltb 0 (suc n) (omega arith)) ∙ sym (lt-ltb 0 (0 + 2 * suc n) (omega arith))
+
       by : (v : Bool) → nat_eq j i ≡ v → edge_value gates (get_or (set tails i new) j c) ≡ nat_lt 0 (number gates (drop j row))
       by true e =
           let same = eqb-true j i e in

@@ -1,6 +1,6 @@
-use Rattle.std.proofs.Common.{◌≡◌, ◌+◌, ◌*◌, ◌^◌, ◌<◌, length, subst, ap, ◌∙◌, ◌&&◌, not, if◌then◌else◌, refl, sym}
+use Rattle.std.proofs.Common.{◌≡◌, ◌+◌, ◌*◌, ◌^◌, ◌<◌, length, subst, ap, ◌∙◌, ◌&&◌, not, if◌then◌else◌, sym}
 use Rattle.stk_gates.specs.Edges.{edge_value}
-use Rattle.stk_arith.specs.Rows.{bit, number}
+use Rattle.stk_arith.specs.Rows.{number}
 use Rattle.stk_arith.specs.Division.{IsTaken}
 use Rattle.stk_gates.proofs.Growth.{obeys_before}
 use Rattle.stk_arith.proofs.Numbers.{number-below}

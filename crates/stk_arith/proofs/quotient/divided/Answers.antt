@@ -1,16 +1,14 @@
-use Rattle.std.proofs.Common.{◌≡◌, ◌+◌, ◌-◌, ◌*◌, ◌^◌, ◌<◌, ◌≤◌, length, drop, get_or, take, ◌∷◌, nat_lt, refl, subst, sym, ap, ◌∙◌, arith}
-use Rattle.std.proofs.lemmas.List.{length-replicate, length-set, length-take-le}
+use Rattle.std.proofs.Common.{◌≡◌, ◌+◌, ◌-◌, ◌*◌, ◌^◌, ◌≤◌, length, drop, get_or, take, ◌∷◌, refl, subst, sym, ap, ◌∙◌, arith}
+use Rattle.std.proofs.lemmas.List.{length-set}
 use Rattle.stk_gates.specs.declared.edge.Edge.{Edge}
 use Rattle.stk_gates.specs.Tables.{gate_count, IsEdge}
 use Rattle.stk_gates.specs.Edges.{edge_value}
-use Rattle.stk_arith.specs.Rows.{bit, number, AreEdges}
-use Rattle.stk_gates.proofs.Growth.{obeys_before, extends_twice, extends_same}
-use Rattle.stk_gates.proofs.Edges.{edge_value-false}
+use Rattle.stk_arith.specs.Rows.{number}
+use Rattle.stk_gates.proofs.Growth.{obeys_before, extends_twice}
 use Rattle.stk_arith.proofs.Numbers.{edges_kept, number-split}
-use Rattle.std.proofs.lemmas.List.Elements.{All-replicate, All-set}
-use Rattle.stk_arith.proofs.Alike.{number-filled_false}
-use Rattle.stk_arith.specs.Division.{AreTails, IsTaken, IsDivided}
-use Rattle.stk_arith.proofs.Quotients.{more_places, divided_step, divided_none}
+use Rattle.std.proofs.lemmas.List.Elements.{All-set}
+use Rattle.stk_arith.specs.Division.{IsTaken, IsDivided}
+use Rattle.stk_arith.proofs.Quotients.{more_places, divided_step}
 use Rattle.stk_arith.proofs.quotient.divided.Goals as goal
 
 pub loop-k-preserved : goal.loop-k-preserved
