@@ -70,6 +70,7 @@ fn operator(word: &str) -> (TermOp, usize) {
         b"eq" => (TermOp::Eq, 2),
         b"ult" => (TermOp::ULt, 2),
         b"slt" => (TermOp::SLt, 2),
+        b"concat" => (TermOp::Concat, 2),
         _ => (
             TermOp::Constant(width, name.parse::<u128>().unwrap_or(0)),
             0,
