@@ -10,6 +10,7 @@ use std::alloc::Global;
 use stk_base::{List, NoMemory};
 use stk_check::check;
 use stk_clauses::{Cnf, Derivation};
+use stk_cuts::cut_goal;
 use stk_goal_clauses::has_room;
 use stk_query::{Cdcl, Decider, MOST_BUDGET, Verdict};
 use stk_rewrite::simplify;
@@ -69,6 +70,7 @@ fn operator(word: &str) -> (TermOp, usize) {
         b"eq" => (TermOp::Eq, 2),
         b"ult" => (TermOp::ULt, 2),
         b"slt" => (TermOp::SLt, 2),
+        b"concat" => (TermOp::Concat, 2),
         _ => (
             TermOp::Constant(width, name.parse::<u128>().unwrap_or(0)),
             0,
@@ -223,4 +225,29 @@ pub(crate) fn decided(
         u32::from(first) + u32::from(second),
         budget,
     )
+}
+
+/// What a new decider says of the cut goal of the goal of a text, whose inputs have these bits; `Refused` where there
+/// is none.
+pub(crate) fn decided_cut(
+    alloc: Global,
+    (first, second): (u8, u8),
+    text: &str,
+    most: usize,
+    bits: u32,
+) -> Result<Outcome, NoMemory> {
+    if first < 1 || first > 64 || second > 64 {
+        return Ok(Outcome::Refused);
+    }
+    let mut terms = store_of(alloc, first, second)?;
+    let Some(goal) = goal_of(alloc, &mut terms, text)? else {
+        return Ok(Outcome::Refused);
+    };
+    if goal.0 >= terms.count() || terms.width(goal) != 1 {
+        return Ok(Outcome::Refused);
+    }
+    let Some(cut) = cut_goal(alloc, &terms, goal, most)? else {
+        return Ok(Outcome::Refused);
+    };
+    asked(alloc, cut.terms.terms(), cut.term, bits, 100)
 }

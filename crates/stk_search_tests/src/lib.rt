@@ -7,6 +7,8 @@ mod checked;
 #[cfg(test)]
 mod circuits;
 #[cfg(test)]
+mod cutting;
+#[cfg(test)]
 mod deciding;
 #[cfg(test)]
 mod plain;
