@@ -9,7 +9,7 @@ ghost use Rattle.stk_goals.specs.Searched.{IsSearched};
 ghost use Rattle.stk_findings.specs.Asked.{typing_asked, without_asked, tree_asked};
 ghost use Rattle.stk_findings.specs.Answers.{is_given_up, IsRightAnswer};
 
-use crate::asking::{Goal, answered};
+use crate::asking::{Asked, Goal, answered};
 use std::alloc::Global;
 use std::marker::Model;
 use stk_base::NoMemory;
@@ -32,8 +32,7 @@ pub struct FunctionGoals<'a> {
     kinds: Vec<IntKind>,
     symbols: Symbols,
     walk: IndexedWalk,
-    // the places of goals that no inputs make 1
-    nevers: Vec<usize>,
+    asked: Asked,
 }
 
 impl<'a> Model for FunctionGoals<'a> {
@@ -67,7 +66,7 @@ impl<'a> Model for FunctionGoals<'a> {
 
     ghost view = { λ g. record { tables = g.tables.now; function = g.function.now } };
 
-    ghost invariant = { λ g. AreGoalsIn (record { tables = g.tables.now; function = g.function.now }) g.kinds.items g.symbols g.walk.walked g.nevers.items };
+    ghost invariant = { λ g. AreGoalsIn (record { tables = g.tables.now; function = g.function.now }) g.kinds.items g.symbols g.walk.walked g.asked.nevers.items };
 }
 
 impl<'a> FunctionGoals<'a> {
@@ -93,7 +92,10 @@ impl<'a> FunctionGoals<'a> {
             kinds: walked.kinds,
             symbols: walked.symbols,
             walk: walked.walk,
-            nevers: Vec::new(alloc),
+            asked: Asked {
+                nevers: Vec::new(alloc),
+                misses: 0,
+            },
         })
     }
 
@@ -132,6 +134,6 @@ impl<'a> FunctionGoals<'a> {
             terms: self.symbols.terms(),
             kinds: self.kinds.as_slice(),
         };
-        answered(self.alloc, &goal, &mut self.nevers, decider, budget)
+        answered(self.alloc, &goal, &mut self.asked, decider, budget)
     }
 }

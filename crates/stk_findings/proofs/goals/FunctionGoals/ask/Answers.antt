@@ -47,13 +47,13 @@ answered-requires-clause-inputs g c =
     ap (λ (s : Stored). s.inputs) c.terms.ensures.same ∙ c.in_ok-term.ensures.goal.inputs ∙ ap (map width_of) (sym (c.as_slice.ensures.value ∙ c.self.invariant.kinds_are))
 
 pub answered-requires-clause-never : goal.answered-requires-clause-never
-answered-requires-clause-never g c = subst (λ (s : Stored). AreNever s c.self.inside.nevers.items) (sym c.terms.ensures.same) (nevers_stay _ _ c.in_ok-term.ensures.stays _ c.self.invariant.never)
+answered-requires-clause-never g c = subst (λ (s : Stored). AreNever s c.self.inside.asked.nevers.items) (sym c.terms.ensures.same) (nevers_stay _ _ c.in_ok-term.ensures.stays _ c.self.invariant.never)
 
 pub invariant_of-self-2 : goal.invariant_of-self-2
 invariant_of-self-2 g c = record {
   kinds_are = c.self.invariant.kinds_are;
   goals = c.in_ok-term.ensures.goals;
-  never = subst (λ (s : Stored). AreNever s c.answered.new.nevers.items) c.terms.ensures.same c.answered.ensures.never;
+  never = subst (λ (s : Stored). AreNever s c.answered.new.asked.nevers.items) c.terms.ensures.same c.answered.ensures.never;
 }
 
 pub returns-clause-right : goal.returns-clause-right
