@@ -8,11 +8,10 @@ use Rattle.stk_numbers.specs.declared.conditions.Kinds.{Kinds}
 use Rattle.stk_meaning.specs.Typings.{Typing}
 use Rattle.stk_terms.specs.declared.table.Residues.{Residues}
 use Rattle.stk_terms.specs.Terms.{Stored}
-use Rattle.stk_terms.specs.Fitting.{AreResidues}
 use Rattle.stk_symbols.specs.Maps.{map_of}
 use Rattle.stk_clauses.specs.declared.store.Cnf.{Cnf}
 use Rattle.stk_clauses.specs.declared.derivation.Derivation.{Derivation}
-use Rattle.stk_goal_clauses.specs.Laws.{IsNever}
+use Rattle.stk_goal_clauses.specs.Laws.{MakesOne, IsNever}
 use Rattle.stk_query.specs.Verdicts.{is_no, IsVerdict}
 use Rattle.stk_query.specs.declared.verdict.Verdict.{Verdict}
 use Rattle.stk_query.specs.declared.verdict.Verdict.TheVariants.{Satisfied, Tried, Refuted, Undecided}
@@ -20,9 +19,15 @@ use Rattle.stk_spent_queries.specs.Spent.{IsSpentQuery}
 use Rattle.stk_goals.specs.Queries.{key_kinds, AnswersQuery, HasNoAnswer, IsGoalOf}
 use Rattle.stk_goals.proofs.Answered.{start_answers, none_answers, is_spent}
 
--- the residues that make a goal 1 are in range of the inputs
-pub fit_of : (s : Stored) (i budget : ℕ) (v : Verdict) (found : Residues) (ws : List ℕ) → v ≡ Satisfied found → s.inputs ≡ ws → IsVerdict s i budget v → AreResidues ws found.numbers
-fit_of s i budget v found ws is inputs h = subst (λ w. AreResidues w found.numbers) inputs (subst (IsVerdict s i budget) is h).0.fit
+-- the residues of a verdict make the goal 1
+pub makes_of : (s : Stored) (i budget : ℕ) (v : Verdict) (found : Residues) → v ≡ Satisfied found → IsVerdict s i budget v → MakesOne s i found.numbers
+makes_of s i budget v found is h = (subst (IsVerdict s i budget) is h).0
+
+-- an input map whose residues make a query's goal 1 answers the query
+pub said_start : (ty : Typing) (without : Kinds) (f : FunctionTree) (c : Candidate) (set : List Condition) (s : Stored) (i : ℕ) → IsGoalOf ty without f c set s i
+    → (found : List ℕ) (kinds : List IntKind) (numbers : List ℤ) → MakesOne s i found → kinds ≡ key_kinds ty without f → numbers ≡ map_of kinds found → AnswersQuery ty without f c set numbers
+said_start ty without f c set s i h found kinds numbers makes same made =
+    subst (AnswersQuery ty without f c set) (sym (made ∙ ap (λ l. map_of l found) same)) (start_answers ty without f c set s i h found makes)
 
 -- verdicts that say that no inputs make a goal 1
 pub says_no : (v : Verdict) → (v ≡ Tried) ⊎ ((list : Cnf) × (derivation : Derivation) × (v ≡ Refuted list derivation)) → is_no v ≡ true
@@ -30,10 +35,6 @@ says_no v (inl e) = ap is_no e
 says_no v (inr h) = ap is_no h.2
 
 module _ (ty : Typing) (without : Kinds) (f : FunctionTree) (c : Candidate) (set : List Condition) (s : Stored) (i : ℕ) (h : IsGoalOf ty without f c set s i) (budget : ℕ) (v : Verdict) where
-  pub said_start : (found : Residues) (kinds : List IntKind) (numbers : List ℤ) → v ≡ Satisfied found → IsVerdict s i budget v → kinds ≡ key_kinds ty without f → numbers ≡ map_of kinds found.numbers → AnswersQuery ty without f c set numbers
-  said_start found kinds numbers is verdict same made =
-      subst (AnswersQuery ty without f c set) (sym (made ∙ ap (λ l. map_of l found.numbers) same)) (start_answers ty without f c set s i h found.numbers (subst (IsVerdict s i budget) is verdict).0)
-
   pub said_never : is_no v ≡ true → (is_no v ≡ true → IsNever s i) → HasNoAnswer ty without f c set
   said_never is never = none_answers ty without f c set s i h (never is)
 

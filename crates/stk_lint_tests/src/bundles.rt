@@ -31,7 +31,7 @@ static ROWS: [Row; 2] = [
             ("left ", 0),
         ],
     },
-    // With the least budget four reports have a member that a start shows, and two have two members that are open: the
+    // With the least budget all six reports have a member that a start shows, and two have one more that is open: the
     // records are a row of `given_up`. The goal of each claim is one that was refuted as the report was made, by the
     // same clauses and within the same budget, so none is left.
     Row {
@@ -40,8 +40,8 @@ static ROWS: [Row; 2] = [
         first: "stack bundle 1\nsource 182\nwithout -\nfunction 0\nunstable ",
         lines: &[
             ("unstable ", 6),
-            ("need ", 4),
-            ("open ", 4),
+            ("need ", 6),
+            ("open ", 2),
             ("cnf ", 6),
             ("lrat ", 6),
             ("left ", 0),
