@@ -6,6 +6,9 @@ started-requires-clause-makes g c =
     let q = c.args.goal.now in
     makes_of q.terms.now q.term.0 c.args.budget c.in_ok-verdict.verdict c.in-Satisfied.residues c.in-Satisfied.is c.in_ok-verdict.ensures.verdict
 
+pub returns-in-Satisfied-clause-right : goal.returns-in-Satisfied-clause-right
+returns-in-Satisfied-clause-right g c = λ ty without f d set same h. c.started.ensures.right c.args.budget ty without f d set same h
+
 pub returns-in-Tried-clause-right : goal.returns-in-Tried-clause-right
 returns-in-Tried-clause-right g c = λ ty without f d set same h.
     let q = c.args.goal.now in
