@@ -39,7 +39,7 @@ pub(crate) fn latest(assigned: &Assignment, clause: &[Lit], start: Lit, but: Opt
     ensures other { but ≢ Some result }
     ensures latest { (m : Lit) → Contains clause.now m → but ≢ Some m → IsNotLater assigned.now.literals m result }
 {
-    // No literal became false after one that isn't false.
+    // A literal that isn't false is as late as any.
     if !assigned.is_true(start.negated()) {
         return start;
     }

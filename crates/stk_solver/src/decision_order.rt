@@ -40,7 +40,7 @@ pub struct Order {
     conflicts: u32,
 }
 
-/// A place as a number of 32 bits: a heap has fewer places than there are variables.
+/// A place as a number of 32 bits. The heap has at most one place for each variable.
 fn place_number(at: usize) -> u32 {
     (at & 0xffff_ffff) as u32
 }
