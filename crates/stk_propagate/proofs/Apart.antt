@@ -115,8 +115,8 @@ at_empty count m =
       | inr ge ↦ get_or_past (replicate count []) m [] (omega (arith, length-replicate {A = List ℕ} count [], ge))
     ]
 
-pub apart_empty : (count : ℕ) → AreApart (chained (replicate count []) 0)
-apart_empty count =
+pub apart_empty : (count n : ℕ) → AreApart (chained (replicate count []) n)
+apart_empty count n =
     let none : (m x : ℕ) → Contains (get_or (replicate count []) m []) x → ⊥ = λ m x h. none_in x (subst (λ zs. Contains zs x) (at_empty count m) h) in
     record {
       within = λ m x h. absurd (none m x h);

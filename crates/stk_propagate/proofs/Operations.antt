@@ -103,11 +103,11 @@ kept f g s ef en =
     becomes g (chains_of f) (length f.nexts.items) (ap length en) s.few (ap length ef ∙ as_many f)
     (subst (λ zs. AreChains zs g.nexts.items (chains_of f)) (sym ef) (subst (λ zs. AreChains f.firsts.items zs (chains_of f)) (sym en) s.each)) s.apart
 
-pub emptied : (g : Inside) (count : ℕ) → g.firsts.items ≡ replicate count 4294967295 → g.nexts.items ≡ [] → Becomes g (replicate count []) 0
-emptied g count ef en =
-    let each : AreChains (replicate count 4294967295) [] (replicate count []) = λ m h.
+pub emptied : (g : Inside) (count n : ℕ) → n ≤ 4294967295 → g.firsts.items ≡ replicate count 4294967295 → g.nexts.items ≡ replicate n 4294967295 → Becomes g (replicate count []) n
+emptied g count n few ef en =
+    let each : AreChains (replicate count 4294967295) g.nexts.items (replicate count []) = λ m h.
     let lt : m < count = omega (arith, h, length-replicate {A = ℕ} count 4294967295) in
     rw (get_or-replicate {A = ℕ} count m 4294967295 0 lt, at_empty count m) refl in
-    becomes g (replicate count []) 0 (ap length en) (omega arith) (ap length ef ∙ length-replicate {A = ℕ} count 4294967295 ∙ sym (length-replicate {A = List ℕ} count []))
-    (subst (λ zs. AreChains zs g.nexts.items (replicate count [])) (sym ef) (subst (λ zs. AreChains (replicate count 4294967295) zs (replicate count [])) (sym en) each))
-    (apart_empty count)
+    becomes g (replicate count []) n (ap length en ∙ length-replicate {A = ℕ} n 4294967295) few (ap length ef ∙ length-replicate {A = ℕ} count 4294967295 ∙ sym (length-replicate {A = List ℕ} count []))
+    (subst (λ zs. AreChains zs g.nexts.items (replicate count [])) (sym ef) each)
+    (apart_empty count n)

@@ -164,12 +164,8 @@ impl Assignment {
         let depth = deeper(self.depth, reason);
         self.depth = depth;
         self.levels[(lit.0 / 2) as usize] = depth;
-        if let Err(_) = self.literals.push(lit) {
-            unreachable!();
-        }
-        if let Err(_) = self.reasons.push(reason) {
-            unreachable!();
-        }
+        self.literals.push_reserved(lit);
+        self.reasons.push_reserved(reason);
     }
 
     /// The true literals, in the order in which they became true.

@@ -39,6 +39,10 @@ pub(crate) fn latest(assigned: &Assignment, clause: &[Lit], start: Lit, but: Opt
     ensures other { but ≢ Some result }
     ensures latest { (m : Lit) → Contains clause.now m → but ≢ Some m → IsNotLater assigned.now.literals m result }
 {
+    // A literal that isn't false is as late as any.
+    if !assigned.is_true(start.negated()) {
+        return start;
+    }
     let mut best = start;
     let mut when = falsified_at(assigned, start);
     for lit in clause {

@@ -1,5 +1,5 @@
 // The clauses that were taken in since propagation last ended.
-ghost use Rattle.std.specs.Prelude.{◌≡◌, ◌≢◌, ◌+◌, ◌*◌, ◌<◌, ◌≤◌, ℕ, [], length, take, slice_index_or, MatchBool, Some};
+ghost use Rattle.std.specs.Prelude.{◌≡◌, ◌≢◌, ◌+◌, ◌*◌, ◌<◌, ◌≤◌, ℕ, [], length, take, slice_index_or, IsTrue, MatchBool, Some};
 ghost use Rattle.std.specs.List.{Contains};
 ghost use Rattle.stk_clauses.specs.Literals.{negated};
 ghost use Rattle.stk_clauses.specs.Propagation.{AllFalse};
@@ -112,7 +112,18 @@ impl Inner {
         false
     }
 
-    /// Looks at the next clause that wasn't looked at. Says whether all its literals are false.
+    /// Whether neither of two literals is false.
+    fn are_live(&self, first: Lit, second: Lit) -> bool
+        requires first { first.0 < 2 * self.now.assigned.vars }
+        requires second { second.0 < 2 * self.now.assigned.vars }
+        ensures first { IsTrue result → Contains self.now.assigned.literals (negated first) → ⊥ }
+        ensures second { IsTrue result → Contains self.now.assigned.literals (negated second) → ⊥ }
+    {
+        !self.assigned.is_true(first.negated()) && !self.assigned.is_true(second.negated())
+    }
+
+    /// Looks at the next clause that wasn't looked at: has it watch its first two literals, if neither is false. Says
+    /// whether all its literals are false.
     pub(crate) fn look(&mut self, store: &Store) -> bool
         requires linked { IsLinked self.old }
         requires fits { Fits (trailed self.old) store.now }
@@ -122,10 +133,16 @@ impl Inner {
         ensures grown { IsGrown self.old.assigned self.new.assigned }
         ensures found { MatchBool result (AllFalse self.new.assigned.literals (slice_index_or store.now self.old.looked [])) (self.new.looked ≡ self.old.looked + 1) }
     {
-        if store.clause(self.looked).len() < 2 {
-            self.look_short(store)
-        } else {
-            self.look_long(store)
+        // For the prover: the trail keeps its facts.
+        let _ = self.assigned.vars();
+        let clause = store.clause(self.looked);
+        if clause.len() < 2 {
+            return self.look_short(store);
         }
+        if self.are_live(clause[0], clause[1]) {
+            self.watch(store, clause[0], clause[1]);
+            return false;
+        }
+        self.look_long(store)
     }
 }

@@ -9,9 +9,9 @@ pub(crate) struct Starts {
 }
 
 impl Starts {
-    /// No clauses, with room for so many.
+    /// So many clauses, each with the place 0.
     pub(crate) fn reserve(alloc: Global, count: usize) -> Result<Starts, NoMemory> {
-        let places = Vec::with_capacity(alloc, count)?;
+        let places = vec![in alloc; 0u32; count]?;
         Ok(Starts { places })
     }
 

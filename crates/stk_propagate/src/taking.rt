@@ -1,8 +1,8 @@
 // Trails over the clauses of a store, and one clause more.
-ghost use Rattle.std.specs.Prelude.{◌≡◌, ◌+◌, ◌^◌, ◌<◌, [], length, take, slice_index_or, IfOk, OnOk, OnErr};
+ghost use Rattle.std.specs.Prelude.{◌≡◌, ◌+◌, ◌^◌, ◌<◌, ℕ, [], None, length, take, slice_index_or, IfOk, OnOk, OnErr};
 ghost use Rattle.std.specs.List.{All};
 ghost use Rattle.stk_clauses.specs.Literals.{AreBelow};
-ghost use Rattle.stk_propagate.specs.Fitting.{Fits, IsAlive, IsTimely};
+ghost use Rattle.stk_propagate.specs.Fitting.{Fits, IsWatched, IsAlive, IsTimely};
 ghost use Rattle.stk_propagate.specs.Linked.{trailed, IsLinked};
 
 use crate::choosing::first_two;
@@ -11,30 +11,21 @@ use crate::starts::Starts;
 use crate::{Assignment, WatchLists};
 use std::alloc::Global;
 use stk_base::NoMemory;
-use stk_clauses::Store;
+use stk_clauses::{Lit, Store};
+
+/// The literals that each clause of a store watches first: its first two, if it has two.
+fn first_watches(alloc: Global, store: &Store) -> Result<Vec<Option<(Lit, Lit)>>, NoMemory>
+    ensures counted { IfOk result (λ w. length w.items ≡ length store.now) }
+    ensures watched { IfOk result (λ w. (id : ℕ) → id < length store.now → IsWatched (slice_index_or store.now id []) (slice_index_or w.items id None)) }
+{
+    let mut watches = Vec::with_capacity(alloc, store.count() as usize)?;
+    for id in 0..store.count() {
+        watches.push(first_two(store.clause(id)))?;
+    }
+    Ok(watches)
+}
 
 impl Inner {
-    /// No true literals, and no clauses, with room for so many.
-    fn blank(alloc: Global, vars: u32, count: usize) -> Result<Inner, NoMemory>
-        ensures linked { IfOk result IsLinked }
-        ensures fits { IfOk result (λ f. Fits (trailed f) []) }
-        ensures blank { IfOk result (λ f. f.assigned ≡ record { vars = vars; literals = []; reasons = [] }) }
-    {
-        let assigned = Assignment::reserve(alloc, vars)?;
-        let mut chains = WatchLists::reserve(alloc, vars as usize * 2 + 1)?;
-        chains.make_room(count.saturating_mul(2))?;
-        let watches = Vec::with_capacity(alloc, count)?;
-        let starts = Starts::reserve(alloc, count)?;
-        Ok(Inner {
-            assigned,
-            chains,
-            watches,
-            starts,
-            head: 0,
-            looked: 0,
-        })
-    }
-
     /// Takes the next clause of the store in.
     pub(crate) fn take_in(&mut self, id: u32, store: &Store) -> Result<(), NoMemory>
         requires exists { id < length store.now }
@@ -67,10 +58,18 @@ impl Inner {
         ensures fits { IfOk result (λ f. Fits (trailed f) store.now) }
         ensures blank { IfOk result (λ f. f.assigned ≡ record { vars = vars; literals = []; reasons = [] }) }
     {
-        let mut inner = Inner::blank(alloc, vars, store.count() as usize)?;
-        for id in 0..store.count() {
-            inner.take_in(id, store)?;
-        }
-        Ok(inner)
+        let count = store.count() as usize;
+        let assigned = Assignment::reserve(alloc, vars)?;
+        let chains = WatchLists::with_numbers(alloc, vars as usize * 2 + 1, 2 * count)?;
+        let watches = first_watches(alloc, store)?;
+        let starts = Starts::reserve(alloc, count)?;
+        Ok(Inner {
+            assigned,
+            chains,
+            watches,
+            starts,
+            head: 0,
+            looked: 0,
+        })
     }
 }

@@ -35,19 +35,21 @@ impl WatchLists {
     pub fn reserve(alloc: Global, count: usize) -> Result<WatchLists, NoMemory>
         ensures { IfOk result (λ c. c ≡ record { chains = replicate count []; numbers = 0 }) }
     {
-        let firsts = vec![in alloc; END; count]?;
-        Ok(WatchLists {
-            firsts,
-            nexts: Vec::new(alloc),
-        })
+        WatchLists::with_numbers(alloc, count, 0)
     }
 
-    /// Room for so many numbers more. After `NoMemory` all is as before.
-    pub(crate) fn make_room(&mut self, count: usize) -> Result<(), NoMemory>
-        ensures { self.new ≡ self.old }
+    /// So many empty chains, and so many numbers, in no chain.
+    pub(crate) fn with_numbers(
+        alloc: Global,
+        count: usize,
+        numbers: usize,
+    ) -> Result<WatchLists, NoMemory>
+        requires { numbers < 2 ^ 32 }
+        ensures { IfOk result (λ c. c ≡ record { chains = replicate count []; numbers = numbers }) }
     {
-        self.nexts.reserve(count)?;
-        Ok(())
+        let firsts = vec![in alloc; END; count]?;
+        let nexts = vec![in alloc; END; numbers]?;
+        Ok(WatchLists { firsts, nexts })
     }
 
     /// Two numbers more, the next ones, in no chain. After `NoMemory` all is as before.

@@ -4,7 +4,7 @@ use stk_base::NoMemory;
 use stk_clauses::Lit;
 
 /// The place of a variable that isn't in the heap.
-const NOWHERE: usize = usize::MAX;
+const NOWHERE: u32 = u32::MAX;
 
 /// A heap of up to 2^64 entries has at most so many levels.
 const MOST_LEVELS: usize = 64;
@@ -15,6 +15,14 @@ const TOO_LARGE: f64 = 1e100;
 
 const SMALLER: f64 = 1e-100;
 
+/// A variable of the heap with its place and its score.
+#[derive(Clone, Copy)]
+struct Entry {
+    at: usize,
+    variable: u32,
+    score: f64,
+}
+
 /// The variables that a search may try, by their scores, and the sign that each had last.
 ///
 /// `heap` is a binary heap of variables, the highest score first, and `places` tells of each variable where it stands
@@ -24,12 +32,17 @@ const SMALLER: f64 = 1e-100;
 #[derive(Drop)]
 pub struct Order {
     heap: Vec<u32>,
-    places: Vec<usize>,
+    places: Vec<u32>,
     scores: Vec<f64>,
     positive: Vec<bool>,
     step: f64,
-    raised: Vec<u64>,
-    conflicts: u64,
+    raised: Vec<u32>,
+    conflicts: u32,
+}
+
+/// A place as a number of 32 bits. The heap has at most one place for each variable.
+fn place_number(at: usize) -> u32 {
+    (at & 0xffff_ffff) as u32
 }
 
 impl Order {
@@ -39,11 +52,11 @@ impl Order {
         let mut places = Vec::with_capacity(alloc, vars as usize)?;
         for variable in 0..vars {
             heap.push(variable)?;
-            places.push(variable as usize)?;
+            places.push(variable)?;
         }
         let scores = vec![in alloc; 0.0; vars as usize]?;
         let positive = vec![in alloc; false; vars as usize]?;
-        let raised = vec![in alloc; 0u64; vars as usize]?;
+        let raised = vec![in alloc; 0u32; vars as usize]?;
         Ok(Order {
             heap,
             places,
@@ -63,7 +76,7 @@ impl Order {
         }
     }
 
-    fn place(&self, variable: u32) -> usize {
+    fn place(&self, variable: u32) -> u32 {
         if (variable as usize) < self.places.len() {
             self.places[variable as usize]
         } else {
@@ -75,7 +88,7 @@ impl Order {
     fn put_at(&mut self, at: usize, variable: u32) {
         if at < self.heap.len() && (variable as usize) < self.places.len() {
             self.heap[at] = variable;
-            self.places[variable as usize] = at;
+            self.places[variable as usize] = place_number(at);
         }
     }
 
@@ -102,20 +115,33 @@ impl Order {
         self.put_at(at, variable);
     }
 
-    /// The place below with the higher score, if there is one.
-    fn higher_below(&self, at: usize) -> Option<usize> {
-        if at >= self.heap.len() || at > 4_294_967_296 {
+    /// What stands at a place of the heap, if the heap goes that far.
+    fn entry(&self, at: usize) -> Option<Entry> {
+        if at >= self.heap.len() {
             return None;
         }
-        let left = 2 * at + 1;
-        let right = left + 1;
-        if left >= self.heap.len() {
-            return None;
+        let variable = self.heap[at];
+        let score = self.score(variable);
+        Some(Entry {
+            at,
+            variable,
+            score,
+        })
+    }
+
+    /// What stands below a place with the higher score, if something does.
+    fn higher_below(&self, at: usize) -> Option<Entry> {
+        let left = self.entry(at.wrapping_mul(2).wrapping_add(1))?;
+        match self.entry(left.at.wrapping_add(1)) {
+            None => Some(left),
+            Some(right) => {
+                if right.score > left.score {
+                    Some(right)
+                } else {
+                    Some(left)
+                }
+            }
         }
-        if right < self.heap.len() && self.score(self.heap[right]) > self.score(self.heap[left]) {
-            return Some(right);
-        }
-        Some(left)
     }
 
     /// Moves the variable at a place down, as far as one with no higher score.
@@ -130,15 +156,11 @@ impl Order {
             let Some(below) = self.higher_below(at) else {
                 break;
             };
-            if below >= self.heap.len() {
+            if below.score <= score {
                 break;
             }
-            let next = self.heap[below];
-            if self.score(next) <= score {
-                break;
-            }
-            self.put_at(at, next);
-            at = below;
+            self.put_at(at, below.variable);
+            at = below.at;
         }
         self.put_at(at, variable);
     }
@@ -169,7 +191,7 @@ impl Order {
         if (variable as usize) < self.places.len() && self.places[variable as usize] == NOWHERE {
             let at = self.heap.len();
             if let Ok(()) = self.heap.push(variable) {
-                self.places[variable as usize] = at;
+                self.places[variable as usize] = place_number(at);
                 self.move_up(at);
             }
         }
@@ -207,7 +229,7 @@ impl Order {
             }
             let at = self.place(variable);
             if at != NOWHERE {
-                self.move_up(at);
+                self.move_up(at as usize);
             }
         }
     }

@@ -5,17 +5,17 @@ use Rattle.stk_propagate.proofs.Pushing.{room_left, inside_push}
 use Rattle.stk_propagate.proofs.Filling.{depth_left}
 use Rattle.stk_propagate.proofs.assignment.Assignment.push.Goals as goal
 
-pub unreachable-requires : goal.unreachable-requires
-unreachable-requires c =
+pub push_reserved-requires : goal.push_reserved-requires
+push_reserved-requires c =
     let f = c.self.inside in
     let room = room_left f c.args.lit c.self.invariant (subst (λ (a : Assigned). c.args.lit.0 < 2 * a.vars) (sym c.self.view_is) c.requires.below) (subst (λ (a : Assigned). IsOpen a.literals c.args.lit) (sym c.self.view_is) c.requires.unassigned) in
-    omega (arith, room, c.in-Err.ensures.full, c.self.invariant.literal_room, f.literals.ok.0)
+    omega (arith, room, c.self.invariant.literal_room, f.literals.ok.0)
 
-pub unreachable-requires-in-Err-push : goal.unreachable-requires-in-Err-push
-unreachable-requires-in-Err-push c =
+pub push_reserved-requires-2 : goal.push_reserved-requires-2
+push_reserved-requires-2 c =
     let f = c.self.inside in
     let room = room_left f c.args.lit c.self.invariant (subst (λ (a : Assigned). c.args.lit.0 < 2 * a.vars) (sym c.self.view_is) c.requires.below) (subst (λ (a : Assigned). IsOpen a.literals c.args.lit) (sym c.self.view_is) c.requires.unassigned) in
-    omega (arith, room, c.in-Err-push.ensures.full, c.self.invariant.reason_room, c.self.invariant.facts.paired, f.reasons.ok.0)
+    omega (arith, room, c.self.invariant.reason_room, c.self.invariant.facts.paired, f.reasons.ok.0)
 
 pub deeper-depth-requires : goal.deeper-depth-requires
 deeper-depth-requires c =
@@ -30,4 +30,4 @@ invariant_of-self c =
     (subst (λ (a : Assigned). IsOpen a.literals c.args.lit) (sym c.self.view_is) c.requires.unassigned)
     (omega (arith, c.len.ensures, f.literals.ok.0))
     c.deeper-depth.ensures
-    refl refl refl refl refl c.in_default.ensures.items c.in_default-push.ensures.items c.in_default.ensures.capacity c.in_default-push.ensures.capacity
+    refl refl refl refl refl c.push_reserved.ensures.items c.push_reserved-2.ensures.items (omega (arith, c.push_reserved.ensures.capacity)) (omega (arith, c.push_reserved-2.ensures.capacity))
