@@ -218,10 +218,15 @@ goal('1 << k == 0', 32, 1, '1:32 x shl 0:32 eq', '31:32 x ult')
 # a 64-bit division by zero: the quotient is x, and y is 0
 goal('x / y with y == 0, 64 bits', 64, 2, 'x y udiv x eq y 0:64 eq and', 'y 0:64 eq')
 
+# the processor seconds of all programs that ended, the system's among them
+def seconds():
+    used = resource.getrusage(resource.RUSAGE_CHILDREN)
+    return used.ru_utime + used.ru_stime
+
 def run(words, text):
-    before = resource.getrusage(resource.RUSAGE_CHILDREN).ru_utime
+    before = seconds()
     said = subprocess.run(words, input=text, capture_output=True, text=True).stdout
-    return resource.getrusage(resource.RUSAGE_CHILDREN).ru_utime - before, said
+    return seconds() - before, said
 
 minisat = shutil.which('minisat')
 for name, width, inputs, words in GOALS:
