@@ -24,7 +24,7 @@ impl Marks {
         ensures distinct { IfOk result (λ c. AreDistinct c.items) }
         ensures first { IfOk result (λ c. (rest : List Lit) × (c.items ≡ negated point ∷ rest)) }
     {
-        let mut clause = Vec::new(alloc);
+        let mut clause = Vec::with_capacity(alloc, self.noted.len() + 1)?;
         clause.push(point.negated())?;
         self.unmark(point, false);
         for at in 0..self.noted.len() {

@@ -48,7 +48,7 @@ impl Search {
     {
         let id = self.store.push(learnt.clause.as_slice())?;
         self.trail.attach(id, &self.store)?;
-        self.log.push(learnt)?;
+        self.log.push(learnt.hints)?;
         Ok(())
     }
 

@@ -9,19 +9,19 @@ use crate::analysis::Analysis;
 use crate::decision_order::Order;
 use crate::restarts::Restarts;
 use std::alloc::Global;
-use stk_base::NoMemory;
-use stk_clauses::{Cnf, Derived, Store};
+use stk_base::{List, NoMemory};
+use stk_clauses::{Cnf, Store};
 use stk_propagate::Trail;
 
-/// A search: the given clauses and the learnt ones, the trail over them, the places of the assumed literals, the learnt
-/// clauses with their hints, what learns them, what is tried next, and when to begin anew.
+/// A search: the given clauses and the learnt ones, the trail over them, the places of the assumed literals, the hints
+/// of each learnt clause, what learns them, what is tried next, and when to begin anew.
 #[derive(Drop)]
 pub(crate) struct Search {
     pub(crate) vars: u32,
     pub(crate) store: Store,
     pub(crate) trail: Trail,
     pub(crate) levels: Vec<u32>,
-    pub(crate) log: Vec<Derived>,
+    pub(crate) log: Vec<List<u32>>,
     pub(crate) analysis: Analysis,
     pub(crate) order: Order,
     pub(crate) restarts: Restarts,

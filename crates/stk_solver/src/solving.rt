@@ -46,7 +46,7 @@ pub fn solve(alloc: Global, cnf: &Cnf, budget: u32) -> Result<Answer, NoMemory>
                     return Ok(Answer::Refuted(Derivation { steps }));
                 }
                 if search.log.len() == budget as usize {
-                    let steps = List::from_vec(search.spent(given, conflict));
+                    let steps = List::from_vec(search.spent(alloc, given, conflict)?);
                     return Ok(Answer::Spent(Derivation { steps }));
                 }
                 search.learn(alloc, given, conflict)?;

@@ -12,6 +12,7 @@ returns-clause-search c =
     let e : c.push.new.self.items ≡ s.levels.items ++ length a.literals ∷ [] = c.in_ok-push.ensures.items ∙ ap (λ ts. s.levels.items ++ length ts ∷ []) c.assigned.ensures.literals in
     record {
       clauses = q.clauses;
+      logged = q.logged;
       small = q.small;
       steps = q.steps;
       fresh = q.fresh;

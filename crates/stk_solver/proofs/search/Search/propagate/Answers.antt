@@ -10,6 +10,7 @@ returns-clause-search c =
     let b = c.propagate-found.new.self.assigned in
     record {
       clauses = q.clauses;
+      logged = q.logged;
       small = q.small;
       steps = q.steps;
       fresh = q.fresh;

@@ -5,6 +5,7 @@ use Rattle.std.proofs.lemmas.List.{get_or_at, get_or_append_left}
 use Rattle.stk_clauses.specs.Literals.{AreBelow}
 use Rattle.stk_clauses.specs.Propagation.{IsQuiet}
 use Rattle.stk_clauses.specs.Derivations.{clauses_of_steps}
+use Rattle.stk_solver.specs.Searching.{learnt_steps}
 use Rattle.stk_solver.proofs.Valuing.{lit_at, clause_true, value_true}
 use Rattle.stk_propagate.proofs.Lists.{no_pair}
 use Rattle.stk_solver.proofs.search.Search.values.Goals as goal
@@ -41,8 +42,8 @@ returns-clause-satisfies c k d lt =
     let given = c.args._given.now in
     let i = c.loop-variable.invariant in
     let v : ℕ → Bool = λ n. get_or c.loop-variable.values.items n false in
-    let e : get_or s.store k d ≡ get_or given k d = ap (λ cs. get_or cs k d) q.clauses ∙ get_or_append_left given (clauses_of_steps s.log.items) d k lt in
-    let in' : k < length s.store = omega (arith, ap length q.clauses, length-append given (clauses_of_steps s.log.items), lt) in
+    let e : get_or s.store k d ≡ get_or given k d = ap (λ cs. get_or cs k d) q.clauses ∙ get_or_append_left given (clauses_of_steps (learnt_steps s given)) d k lt in
+    let in' : k < length s.store = omega (arith, ap length q.clauses, length-append given (clauses_of_steps (learnt_steps s given)), lt) in
     let quiet = subst (λ y. IsQuiet t y) e (c.requires.quiet k d in') in
     let below = subst (λ y. AreBelow s.vars y) e (subst (λ w. AreBelow w (get_or s.store k d)) q.same_vars (q.fits.below k d in')) in
     clause_true t s.vars v (no_pair t q.assigned.fresh) c.requires.all (λ n nl. i.values n (omega (arith, nl, c.loop-variable-test.false))) (get_or given k d) below quiet
