@@ -24,8 +24,9 @@ use stk_query::{Cdcl, Decider, MOST_BUDGET, Verdict};
 use stk_terms::{TermId, Terms, input_bits};
 
 /// Looks at the goal that it is asked, whether it is 1 exactly under the maps of the runs that hit the candidate free
-/// of the set, and decides it where there are few input bits. Else it has no answer. A goal that was refuted before
-/// isn't asked again, and so isn't looked at.
+/// of the set, and decides it where there are few input bits. Else it has no answer. A goal that was refuted before, or
+/// is answered by a local search or by a smaller goal, isn't asked, and so isn't looked at; smaller goals, which are
+/// asked with a smaller budget, are decided.
 #[derive(Drop)]
 struct Looking<'a> {
     runs: &'a [Run],
@@ -82,6 +83,9 @@ impl<'a> Decider for Looking<'a> {
         ensures rose { IfOk result (λ v. is_undecided v ≡ true → Rose self.old.decider self.new.decider) }
         ensures later { self.old.decider ≤ self.new.decider }
     {
+        if budget < MOST_BUDGET {
+            return self.decider.ask(terms, goal, budget);
+        }
         let is_right = is_goal_right(terms, goal, self.runs, &self.query)?;
         self.is_right = Some(is_right);
         if input_bits(terms) > 16 {
