@@ -32,8 +32,8 @@ static ROWS: [Row; 2] = [
         ],
     },
     // With the least budget all six reports have a member that a start shows, and two have one more that is open: the
-    // records are a row of `given_up`. The goal of each claim is refuted by the clauses of the whole goal within the same
-    // budget, so none is left.
+    // records are a row of `given_up`. The goal of each claim is refuted by its own clauses within the same budget, so
+    // none is left.
     Row {
         words: &["--bundle", "--budget", "1"],
         input: "int f(unsigned x, unsigned y, unsigned long z, unsigned long w) { unsigned long q = 1 / z + 1 / w; if (z == 0 || (w == 0 && (x + y) * (x - y) != x * x - y * y)) return 1; return q; }",
