@@ -1,13 +1,12 @@
 -- Pairs of types behind others, and the parts of types in front of pairs.
-use Rattle.std.proofs.Common.{◌≡◌, ◌∙◌, ◌&&◌, ◌+◌, ◌<◌, ◌≤◌, ◌++◌, ℕ, Bool, true, false, List, [], ◌∷◌, map, refl, sym, ap, subst, arith, suc, length, drop, get_or, add-one, drop-cons, Result, Ok, Err}
+use Rattle.std.proofs.Common.{◌≡◌, ◌∙◌, ◌&&◌, ◌+◌, ◌<◌, ◌++◌, ℕ, Bool, true, false, List, [], ◌∷◌, map, refl, sym, ap, subst, suc, length, drop, get_or, add-one, drop-cons, Result, Ok, Err}
 use Rattle.std.specs.Prelude.{IfOk}
 use Rattle.std.specs.Borrow.{Bor}
 use Rattle.stk_ctype.specs.declared.ctype.CType.{CType}
 use Rattle.stk_ctype.specs.declared.ctype.Signature.{Signature}
-use Rattle.stk_ctype.specs.Types.{SignatureTree, signature, type_of, row_of, signature_of}
-use Rattle.stk_ctype.specs.Turns.{turns, turns_of_row, turns_of_signature}
+use Rattle.stk_ctype.specs.Types.{type_of, row_of, signature_of}
 use Rattle.stk_compatible.specs.Same.{same, same_row, same_signature, same_truth}
-use Rattle.stk_compatible.specs.Pairs.{are_same, pairs_of, pair_turns}
+use Rattle.stk_compatible.specs.Pairs.{are_same, pairs_of}
 
 and_swap : (p q r : Bool) → (p && (q && r)) ≡ (q && (p && r))
 and_swap true true r = refl
@@ -32,29 +31,16 @@ same_behind (p ∷ ps) l r = ap (λ b. same (type_of p.0.now) (type_of p.1.now) 
 pub pairs_more : (ps qs : List (Bor CType × Bor CType)) (l r : Bor CType) → qs ≡ ps ++ (l, r) ∷ [] → are_same (pairs_of qs) ≡ (same (type_of l.now) (type_of r.now) && are_same (pairs_of ps))
 pairs_more ps qs l r is = ap (λ xs. are_same (pairs_of xs)) is ∙ same_behind ps l r
 
-turns_behind : (ps : List (Bor CType × Bor CType)) (l r : Bor CType) → pair_turns (pairs_of (ps ++ (l, r) ∷ [])) ≡ pair_turns (pairs_of ps) + turns (type_of l.now)
-turns_behind [] l r = omega arith
-turns_behind (p ∷ ps) l r = omega (arith, turns_behind ps l r)
-
-pub turns_more : (ps qs : List (Bor CType × Bor CType)) (l r : Bor CType) → qs ≡ ps ++ (l, r) ∷ [] → pair_turns (pairs_of qs) ≡ pair_turns (pairs_of ps) + turns (type_of l.now)
-turns_more ps qs l r is = ap (λ xs. pair_turns (pairs_of xs)) is ∙ turns_behind ps l r
-
 -- ---- signatures
 pub signatures_same : (f g : Signature) → same_truth f.more g.more ≡ true
     → same_signature (signature_of f) (signature_of g) ≡ (same (type_of f.result) (type_of g.result) && same_row (row_of (map type_of f.params)) (row_of (map type_of g.params)))
 signatures_same f g is = ap (λ b. b && (same (type_of f.result) (type_of g.result) && same_row (row_of (map type_of f.params)) (row_of (map type_of g.params)))) is
-
-pub some_turns : (f : SignatureTree) → 1 ≤ turns_of_signature f
-some_turns (signature r ps more no_return) = omega arith
 
 -- rows whose first types are these
 pub rows_same : (xs ys xt yt : List CType) (x y : CType) (a : Bool) → xs ≡ x ∷ xt → ys ≡ y ∷ yt → (same_row (row_of (map type_of xs)) (row_of (map type_of ys)) && a) ≡ (same_row (row_of (map type_of xt)) (row_of (map type_of yt)) && (same (type_of x) (type_of y) && a))
 rows_same xs ys xt yt x y a left right =
     ap (λ zs. same_row (row_of (map type_of zs)) (row_of (map type_of ys)) && a) left ∙ ap (λ zs. same_row (row_of (map type_of (x ∷ xt))) (row_of (map type_of zs)) && a) right
     ∙ sym (and_turn (same_row (row_of (map type_of xt)) (row_of (map type_of yt))) (same (type_of x) (type_of y)) a)
-
-pub row_turns : (xs xt : List CType) (x : CType) → xs ≡ x ∷ xt → turns_of_row (row_of (map type_of xs)) ≡ turns (type_of x) + turns_of_row (row_of (map type_of xt))
-row_turns xs xt x is = ap (λ zs. turns_of_row (row_of (map type_of zs))) is
 
 -- what is left begins with the element at this place
 pub next_of : {A : Type 0} (xs : List A) (i : ℕ) (d : A) → i < length xs → d ≡ get_or xs i d → drop i xs ≡ d ∷ drop (i + 1) xs
@@ -64,10 +50,6 @@ next_of xs i d h e = rw add-one (drop-cons xs i d h ∙ ap (λ (z : _). z ∷ dr
 pub after_pair : {E : Type 0} (r : Result Bool E) (now mid old same_first same_rest : Bool) → IfOk r (λ b. (b && now) ≡ (same_rest && mid)) → mid ≡ (same_first && old) → IfOk r (λ b. (b && now) ≡ ((same_first && same_rest) && old))
 after_pair (Ok b) now mid old first rest so is = so ∙ ap (λ a. rest && a) is ∙ and_turn rest first old
 after_pair (Err e) now mid old first rest so is = tt
-
-pub after_turns : {E : Type 0} (r : Result Bool E) (now mid old first rest whole : ℕ) → IfOk r (λ b. now ≤ mid + rest) → mid ≡ old + first → whole ≡ first + rest + 2 → IfOk r (λ b. now < old + whole)
-after_turns (Ok b) now mid old first rest whole so is all = omega (arith, so, is, all)
-after_turns (Err e) now mid old first rest whole so is all = tt
 
 pub whole_same : {E : Type 0} (r : Result Bool E) (now old : Bool) (s t : Bool) → s ≡ t → IfOk r (λ b. (b && now) ≡ (s && old)) → IfOk r (λ b. (b && now) ≡ (t && old))
 whole_same r now old s t is so = subst (λ (u : Bool). IfOk r (λ b. (b && now) ≡ (u && old))) is so

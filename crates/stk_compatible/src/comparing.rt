@@ -1,11 +1,10 @@
 //! Whether two types are the same.
 
-ghost use Rattle.std.specs.Prelude.{◌≡◌, ◌&&◌, ◌+◌, ◌<◌, ◌≤◌, map, IfOk};
+ghost use Rattle.std.specs.Prelude.{◌≡◌, ◌&&◌, map, IfOk};
 ghost use Rattle.stk_ctype.specs.declared.kind.IntKind.{IntKind};
 ghost use Rattle.stk_ctype.specs.Types.{type_of, signature_of, row_of};
-ghost use Rattle.stk_ctype.specs.Turns.{turns, turns_of_row, turns_of_signature};
 ghost use Rattle.stk_compatible.specs.Same.{kind_number, same_count, same_truth, same, same_row, same_signature};
-ghost use Rattle.stk_compatible.specs.Pairs.{are_same, pairs_of, pair_turns};
+ghost use Rattle.stk_compatible.specs.Pairs.{are_same, pairs_of};
 
 use std::alloc::Global;
 use stk_base::NoMemory;
@@ -60,8 +59,7 @@ fn add_rows<'a>(
     left: &'a [CType],
     right: &'a [CType],
 ) -> Result<bool, NoMemory>
-    ensures same { IfOk result (λ r. (r && are_same (pairs_of waiting.new.items)) ≡ (same_row (row_of (map type_of left.now)) (row_of (map type_of right.now)) && are_same (pairs_of waiting.old.items))) }
-    ensures fewer { IfOk result (λ r. pair_turns (pairs_of waiting.new.items) ≤ pair_turns (pairs_of waiting.old.items) + turns_of_row (row_of (map type_of left.now))) }
+    ensures { IfOk result (λ r. (r && are_same (pairs_of waiting.new.items)) ≡ (same_row (row_of (map type_of left.now)) (row_of (map type_of right.now)) && are_same (pairs_of waiting.old.items))) }
 {
     let mut others = right;
     for first in left {
@@ -83,8 +81,7 @@ fn add_signatures<'a>(
     left: &'a Signature,
     right: &'a Signature,
 ) -> Result<bool, NoMemory>
-    ensures same { IfOk result (λ r. (r && are_same (pairs_of waiting.new.items)) ≡ (same_signature (signature_of left.now) (signature_of right.now) && are_same (pairs_of waiting.old.items))) }
-    ensures fewer { IfOk result (λ r. pair_turns (pairs_of waiting.new.items) < pair_turns (pairs_of waiting.old.items) + turns_of_signature (signature_of left.now)) }
+    ensures { IfOk result (λ r. (r && are_same (pairs_of waiting.new.items)) ≡ (same_signature (signature_of left.now) (signature_of right.now) && are_same (pairs_of waiting.old.items))) }
 {
     if !same_truth(left.more, right.more) {
         return Ok(false);
@@ -99,22 +96,19 @@ fn add_pair<'a>(
     left: &'a CType,
     right: &'a CType,
 ) -> Result<bool, NoMemory>
-    ensures same { IfOk result (λ r. (r && are_same (pairs_of waiting.new.items)) ≡ (same (type_of left.now) (type_of right.now) && are_same (pairs_of waiting.old.items))) }
-    ensures fewer { IfOk result (λ r. pair_turns (pairs_of waiting.new.items) ≤ pair_turns (pairs_of waiting.old.items) + turns (type_of left.now)) }
+    ensures { IfOk result (λ r. (r && are_same (pairs_of waiting.new.items)) ≡ (same (type_of left.now) (type_of right.now) && are_same (pairs_of waiting.old.items))) }
 {
     waiting.push((left, right))?;
     Ok(true)
 }
 
 // Puts the pairs of parts of two types behind those that wait; false where the types differ by themselves.
-#[tactic(auto, using(crate::proofs::Pairs::some_turns))]
 fn add_parts<'a>(
     waiting: &mut Vec<(&'a CType, &'a CType)>,
     left: &'a CType,
     right: &'a CType,
 ) -> Result<bool, NoMemory>
-    ensures same { IfOk result (λ r. (r && are_same (pairs_of waiting.new.items)) ≡ (same (type_of left.now) (type_of right.now) && are_same (pairs_of waiting.old.items))) }
-    ensures fewer { IfOk result (λ r. pair_turns (pairs_of waiting.new.items) < pair_turns (pairs_of waiting.old.items) + turns (type_of left.now)) }
+    ensures { IfOk result (λ r. (r && are_same (pairs_of waiting.new.items)) ≡ (same (type_of left.now) (type_of right.now) && are_same (pairs_of waiting.old.items))) }
 {
     match (left, right) {
         (CType::Void, CType::Void) => Ok(true),
@@ -132,20 +126,29 @@ fn add_parts<'a>(
     }
 }
 
-// Whether each pair that waits is of the same type.
+/// So many pairs are compared at most. Types are compared as trees, and a few lines of typedef names make trees of more
+/// parts than any memory holds.
+const MOST_PAIRS: u32 = 1 << 24;
+
+// Whether each pair that waits is of the same type. Where more than the most pairs are to be compared, the answer is
+// want of memory.
 fn are_same<'a>(waiting: &mut Vec<(&'a CType, &'a CType)>) -> Result<bool, NoMemory>
     ensures { IfOk result (λ r. r ≡ are_same (pairs_of waiting.old.items)) }
 {
-    while let Some((first, second)) = waiting.pop() {
+    for _ in 0..MOST_PAIRS {
+        let Some((first, second)) = waiting.pop() else {
+            return Ok(true);
+        };
         if !add_parts(waiting, first, second)? {
             return Ok(false);
         }
     }
-    Ok(true)
+    Err(NoMemory)
 }
 
 /// Whether two types are the same, by a list of pairs that are left to compare, so that no nesting of types takes stack
-/// (C11 6.2.7). Whether a function is marked as not returning is no part of its type.
+/// (C11 6.2.7). Whether a function is marked as not returning is no part of its type. `NoMemory` comes also where more
+/// than 2^24 pairs of parts are to be compared.
 pub(crate) fn is_same<'a>(
     alloc: Global,
     left: &'a CType,

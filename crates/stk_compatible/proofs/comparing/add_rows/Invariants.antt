@@ -1,13 +1,10 @@
-use Rattle.std.proofs.Common.{◌≡◌, ◌&&◌, ◌+◌, ◌≤◌, drop, map}
+use Rattle.std.proofs.Common.{◌≡◌, ◌&&◌, drop, map}
 use Rattle.stk_ctype.specs.Types.{type_of, row_of}
-use Rattle.stk_ctype.specs.Turns.{turns_of_row}
 use Rattle.stk_compatible.specs.Same.{same_row}
-use Rattle.stk_compatible.specs.Pairs.{are_same, pairs_of, pair_turns}
+use Rattle.stk_compatible.specs.Pairs.{are_same, pairs_of}
 use Rattle.stk_compatible.proofs.comparing.add_rows.Given as goal
 
 abbrev pub invariant-loop-first : goal.invariant-loop-first
-invariant-loop-first l = record {
-  same : (same_row (row_of (map type_of (drop l.first-index l.left))) (row_of (map type_of l.others)) && are_same (pairs_of l.waiting.items))
-      ≡ (same_row (row_of (map type_of l.left)) (row_of (map type_of l.right)) && are_same (pairs_of l.initial.waiting.items));
-  fewer : pair_turns (pairs_of l.waiting.items) + turns_of_row (row_of (map type_of (drop l.first-index l.left))) ≤ pair_turns (pairs_of l.initial.waiting.items) + turns_of_row (row_of (map type_of l.left));
-}
+invariant-loop-first l =
+    (same_row (row_of (map type_of (drop l.first-index l.left))) (row_of (map type_of l.others)) && are_same (pairs_of l.waiting.items))
+    ≡ (same_row (row_of (map type_of l.left)) (row_of (map type_of l.right)) && are_same (pairs_of l.initial.waiting.items))
