@@ -9,7 +9,7 @@ ghost use Rattle.stk_query.specs.Verdicts.{is_undecided, is_no, IsVerdict, one_m
 
 use crate::enumerate::{are_few, tried};
 use crate::searching::searched;
-use crate::verdict::is_undecided;
+use crate::spent::SpentSearch;
 use crate::{Decider, MOST_BUDGET, Verdict};
 use std::alloc::Global;
 use std::marker::Model;
@@ -18,18 +18,24 @@ use stk_terms::{TermId, Terms};
 
 /// A decider that tries all inputs of at most 16 bits, and else searches by learning from conflicts. Contracts see it
 /// as how many goals it gave up, which stops at the last value of a u64.
+///
+/// It remembers the last search that spent its budget, since candidates often come in pairs with one goal.
 #[derive(Drop)]
 pub struct Cdcl {
     alloc: Global,
     given_up: u64,
+    last: Option<SpentSearch>,
 }
 
 impl Model for Cdcl {
-    ghost use Rattle.std.specs.Prelude.{ℕ};
+    ghost use Rattle.std.specs.Prelude.{ℕ, IfSome};
+    ghost use Rattle.stk_query.specs.Spent.{IsSpent};
 
     ghost Value = { ℕ };
 
     ghost view = { λ c. c.given_up };
+
+    ghost invariant = { λ c. IfSome c.last IsSpent };
 }
 
 impl Cdcl {
@@ -37,7 +43,11 @@ impl Cdcl {
     pub fn new(alloc: Global) -> Cdcl
         ensures { result ≡ 0 }
     {
-        Cdcl { alloc, given_up: 0 }
+        Cdcl {
+            alloc,
+            given_up: 0,
+            last: None,
+        }
     }
 
     /// How many goals were given up, up to the last value of a u64.
@@ -72,8 +82,10 @@ impl Decider for Cdcl {
             let verdict = tried(self.alloc, terms, goal)?;
             return Ok(verdict);
         }
-        let verdict = searched(self.alloc, terms, goal, budget)?;
-        if is_undecided(&verdict) {
+        let verdict = searched(self.alloc, terms, goal, budget, &self.last)?;
+        if let Verdict::Undecided(cnf, log) = &verdict {
+            let search = SpentSearch::new(self.alloc, cnf, budget, log)?;
+            self.last = Some(search);
             self.given_up = self.given_up.saturating_add(1);
         }
         Ok(verdict)

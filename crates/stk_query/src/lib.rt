@@ -5,6 +5,7 @@ mod cdcl;
 mod decider;
 mod enumerate;
 mod searching;
+mod spent;
 mod verdict;
 
 pub use cdcl::Cdcl;

@@ -1,6 +1,4 @@
 // What is said of a goal.
-ghost use Rattle.std.specs.Prelude.{◌≡◌};
-ghost use Rattle.stk_query.specs.Verdicts.{is_undecided};
 
 use stk_clauses::{Cnf, Derivation};
 use stk_terms::Residues;
@@ -16,11 +14,4 @@ pub enum Verdict {
     Refuted(Cnf, Derivation),
     /// The budget was spent: clauses that stand for it, and the log of the search.
     Undecided(Cnf, Derivation),
-}
-
-/// Whether the goal was given up.
-pub(crate) fn is_undecided(verdict: &Verdict) -> bool
-    ensures { result ≡ is_undecided verdict.now }
-{
-    matches!(verdict, Verdict::Undecided(_, _))
 }
