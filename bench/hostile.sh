@@ -15,6 +15,8 @@ limit=${LIMIT:-10}
 work=$(mktemp -d)
 trap 'rm -rf "$work"' EXIT
 memory=2097152
+words=()
+on_refusal=over
 ! grep -q __asan_init "$program" || memory=unlimited
 
 # Prints a text: $1, then $2 for each number from 0 below $3 in the place of each %d, then $4.
@@ -47,7 +49,7 @@ run() {
         ulimit -c 0
         ulimit -t "$((limit + 1))"
         ulimit -v "$memory"
-        exec env time -q -o "$work/time" -f '%U %S %M' timeout "$((20 * limit))" "$program" <"$work/text"
+        exec env time -q -o "$work/time" -f '%U %S %M' timeout "$((20 * limit))" "$program" "${words[@]}" <"$work/text"
     ) >"$work/out" 2>"$work/errors" || status=$?
     # shellcheck disable=SC2046 # These are three numbers.
     set -- $(tail -n 1 "$work/time")
@@ -62,7 +64,8 @@ hostile() {
     run
     case $status in
         [0-6]) verdict=ok ;;
-        7 | 124 | 137 | 152) verdict=over ;;
+        7) verdict=$on_refusal ;;
+        124 | 137 | 152) verdict=over ;;
         *) verdict=crash ;;
     esac
     [ "$verdict" != ok ] || [ "${seconds%.*}" -lt "$limit" ] || verdict=over
@@ -70,6 +73,18 @@ hostile() {
     said=$(tail -n 2 "$work/out" | sed -n -e '1s/.*: skipped: /skipped: /p' -e '$s/, 0 [a-z]*//gp' | paste -sd ' ')
     [ -n "$said" ] || said=$(tail -n 1 "$work/errors")
     printf '%4d %8s s %6d MB  %-5s  %s: %s\n' "$status" "$seconds" "$megabytes" "$verdict" "$1" "$said"
+}
+
+# The same of a text whose types are too large to be compared, which is refused with status 7.
+refused() {
+    on_refusal=ok
+    hostile "$1"
+}
+
+# The same with a budget of $1 learned clauses for each question.
+within() {
+    words=(--budget "$1")
+    hostile "$2"
 }
 
 # --- Declarations ---
@@ -82,11 +97,16 @@ doubling() {
 
 text 'int f(int a' ', int a%d' 65534 ') { return a; }' | hostile 'a definition of 65,535 parameters'
 text 'int f(int a' ', int a%d' 65534 ');' | hostile 'a declaration of 65,535 parameters'
+twice() {
+    doubling "$1" && echo "extern F$1 f;" && echo "extern F$1 f;"
+}
 for lines in 16 20 26 64; do
     doubling "$lines" | hostile "a chain of $lines function types that double"
-    { doubling "$lines" && echo "extern F$lines f;" && echo "extern F$lines f;"; } |
-        hostile "a chain of $lines function types that double, and the last one declared twice"
 done
+for lines in 16 20 26; do
+    twice "$lines" | hostile "a chain of $lines function types that double, and the last one declared twice"
+done
+twice 64 | refused 'a chain of 64 function types that double, and the last one declared twice'
 text 'extern int a' ', a' 99999 ';' | hostile '100,000 declarators of one object'
 text 'extern int f(int)' ', f(int)' 99999 ';' | hostile '100,000 declarators of one function'
 {
@@ -152,7 +172,7 @@ text '' 'int f%d(unsigned char a) { if (100 / a == %d) return a; return 1; }' 90
     hostile '9,000 functions of 8 input bits'
 hard='if ((a + b + %d) * (a - b) != a * a - b * b + %d * (a - b)) s++; '
 text 'int f(unsigned long a, unsigned long b) { int s = 0;' "$hard" 14 'return s; }' |
-    hostile 'the greatest weight: 14 tests that no input meets, of four products each'
+    within 500 'the greatest weight: 14 tests that no input meets, of four products each, with a budget of 500'
 sums='if ((a + %d) + (b - %d) != (a ^ b) + (a & b) + (a & b)) s++; '
 text 'int f(unsigned long a, unsigned long b) { int s = 0;' "$sums" 320 'return s; }' |
     hostile 'the greatest weight: 320 tests that no input meets, of sums'

@@ -128,7 +128,7 @@ fn add_parts<'a>(
 
 /// So many pairs are compared at most. Types are compared as trees, and a few lines of typedef names make trees of more
 /// parts than any memory holds.
-const MOST_PAIRS: u32 = 1 << 24;
+const MOST_PAIRS: u32 = 1 << 29;
 
 // Whether each pair that waits is of the same type. Where more than the most pairs are to be compared, the answer is
 // want of memory.
@@ -148,7 +148,7 @@ fn are_same<'a>(waiting: &mut Vec<(&'a CType, &'a CType)>) -> Result<bool, NoMem
 
 /// Whether two types are the same, by a list of pairs that are left to compare, so that no nesting of types takes stack
 /// (C11 6.2.7). Whether a function is marked as not returning is no part of its type. `NoMemory` comes also where more
-/// than 2^24 pairs of parts are to be compared.
+/// than 2^29 pairs of parts are to be compared.
 pub(crate) fn is_same<'a>(
     alloc: Global,
     left: &'a CType,
