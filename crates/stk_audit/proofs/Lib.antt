@@ -3,5 +3,4 @@ pub mod Lines
 pub mod Settled
 pub mod Turns
 pub mod Arms
-pub mod Same
 pub mod Closing

@@ -16,7 +16,7 @@ use std::alloc::Global;
 use stk_audit_rules::Why;
 use stk_base::NoMemory;
 use stk_check::check;
-use stk_clauses::{Cnf, Lit, Store};
+use stk_clauses::Cnf;
 use stk_numbers::Candidate;
 use stk_proofs::{Text, read_dimacs, read_lrat};
 
@@ -32,35 +32,6 @@ pub(crate) fn claim_of(progress: &Progress) -> (u32, Candidate)
         unreachable!()
     };
     (at, candidate)
-}
-
-/// Whether two clauses have the same literals, in the same order.
-fn same_clause(a: &[Lit], b: &[Lit]) -> bool
-    ensures { IsTrue result ↔ (a.now ≡ b.now) }
-{
-    a == b
-}
-
-/// Whether two stores have the same clauses, in the same order.
-fn same_store(a: &Store, b: &Store) -> bool
-    ensures { IsTrue result ↔ (a.now ≡ b.now) }
-{
-    if a.count() != b.count() {
-        return false;
-    }
-    for id in 0..a.count() {
-        if !same_clause(a.clause(id), b.clause(id)) {
-            return false;
-        }
-    }
-    true
-}
-
-/// Whether two lists of clauses are the same.
-fn same_clauses(a: &Cnf, b: &Cnf) -> bool
-    ensures { IsTrue result ↔ (a.now ≡ b.now) }
-{
-    a.vars == b.vars && same_store(&a.store, &b.store)
 }
 
 /// The line `tried`: the starts of the claim show what they should, and no input map answers its query, which are all
@@ -110,7 +81,7 @@ fn compare(alloc: Global, block: &[u8], own: &Cnf) -> Result<Compared, NoMemory>
 {
     match read_dimacs(alloc, block) {
         Ok(listed) => {
-            if same_clauses(&listed, own) {
+            if listed.is_same(own) {
                 Ok(Compared::Same)
             } else {
                 Ok(Compared::Other)

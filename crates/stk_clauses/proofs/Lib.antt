@@ -3,3 +3,4 @@ pub mod Units
 pub mod Steps
 pub mod Cuts
 pub mod Members
+pub mod Same

@@ -2,6 +2,7 @@
 //! clause and a spent log, for whoever makes clauses, checks them or learns from them.
 #![tactic(auto)]
 
+mod comparing;
 mod derivation;
 mod laws;
 mod literal;

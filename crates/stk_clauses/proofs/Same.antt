@@ -2,6 +2,9 @@
 use Rattle.std.proofs.Common.{◌≡◌, ◌≢◌, ℕ, zero, suc, ◌+◌, ◌<◌, Bool, true, false, List, [], ◌∷◌, length, slice_index_or, nat_lt, refl, sym, ap, ◌∙◌, arith}
 use Rattle.stk_clauses.specs.declared.literal.Lit.{Lit}
 
+pub false_true : ◌≡◌ {A = Bool} false true → ⊥
+false_true e = cc
+
 tail_same : (a b : List (List Lit)) (x y : List Lit) → x ≡ y → a ≡ b → ◌≡◌ {A = List (List Lit)} (x ∷ a) (y ∷ b)
 tail_same a b x y p q = ap (λ z. z ∷ a) p ∙ ap (λ zs. y ∷ zs) q
 

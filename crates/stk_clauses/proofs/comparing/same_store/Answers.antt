@@ -1,7 +1,6 @@
 use Rattle.std.proofs.Common.{sym, ◌∙◌, arith, refl}
-use Rattle.stk_audit_rules.proofs.Claims.{false_true}
-use Rattle.stk_audit.proofs.Same.{all_same, not_same, one_same, same_length}
-use Rattle.stk_audit.proofs.proving.same_store.Goals as goal
+use Rattle.stk_clauses.proofs.Same.{all_same, false_true, not_same, one_same, same_length}
+use Rattle.stk_clauses.proofs.comparing.same_store.Goals as goal
 
 pub returns-then-count : goal.returns-then-count
 returns-then-count c =

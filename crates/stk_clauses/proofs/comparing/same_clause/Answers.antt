@@ -1,7 +1,7 @@
 use Rattle.std.proofs.Common.{◌≡◌, nat_eq, true, sym, ap, ◌∙◌, eqb-true, eq-eqb}
 use Rattle.std.specs.Cmp.Lexicographic.{pointwise_decides}
 use Rattle.stk_clauses.specs.declared.literal.Lit.{Lit}
-use Rattle.stk_audit.proofs.proving.same_clause.Goals as goal
+use Rattle.stk_clauses.proofs.comparing.same_clause.Goals as goal
 
 same_lit : (x y : Lit) → (nat_eq x.0 y.0 ≡ true → x ≡ y) × (x ≡ y → nat_eq x.0 y.0 ≡ true)
 same_lit x y = (λ e. ap (λ n. record { 0 = n }) (eqb-true x.0 y.0 e), λ e. eq-eqb x.0 y.0 (ap (λ (l : Lit). l.0) e))
