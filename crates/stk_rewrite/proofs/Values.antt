@@ -1,6 +1,6 @@
 -- What the rules rest on, about numbers.
 use Rattle.std.proofs.Common.{◌≡◌, ℕ, zero, suc, ◌+◌, ◌-◌, ◌*◌, ◌/◌, ◌%◌, ◌^◌, ◌<◌, ◌≤◌, Bool, true, false, ◌⊎◌, inl, inr, refl, sym, ap, ◌∙◌, arith, nat_eq, nat_lt, bit_and, bit_or, bit_xor, if◌then◌else◌, add_assoc}
-use Rattle.std.proofs.Math.Nat.{mod-eq_of_lt, mod-eq-sub-mod, add-mod-mod, mod-add-mod, add-mod_right, mod_self, div-one}
+use Rattle.std.proofs.Math.Nat.{mod-eq_of_lt, mod-eq-sub-mod, add-mod-mod, mod-add-mod, mod_self, div-one}
 use Rattle.std.proofs.Math.Pow.{mod-mod-pow}
 use Rattle.std.proofs.lemmas.Nat.{field_of, shr-shr, and_mask, and_block, pow-add, or_disjoint, or_lt, le_or_r, xor_block, pow_pos}
 use Rattle.std.proofs.lemmas.Bool.{eqb-true, eq-eqb}
@@ -9,6 +9,17 @@ use Rattle.stk_terms.specs.Values.{bit}
 -- sums of sums
 pub sums : (x c d W : ℕ) → (x + (c + d) % W) % W ≡ ((x + c) % W + d) % W
 sums x c d W = add-mod-mod x (c + d) W ∙ (ap (λ n. n % W) (sym (add_assoc x c d)) ∙ sym (mod-add-mod (x + c) W d))
+
+-- sums whose second parts add up to 0
+pub sums_meet : (x c y d W : ℕ) → (c + d) % W ≡ 0 → (x + y) % W ≡ ((x + c) % W + (y + d) % W) % W
+sums_meet x c y d W h =
+    let e : x + c + (y + d) ≡ x + y + (c + d) = omega arith in
+    let f : x + y + 0 ≡ x + y = omega arith in
+    sym (mod-add-mod (x + c) W ((y + d) % W) ∙ (add-mod-mod (x + c) (y + d) W ∙ (ap (λ n. n % W) e ∙ (sym (add-mod-mod (x + y) (c + d) W) ∙ (ap (λ n. (x + y + n) % W) h ∙ ap (λ n. n % W) f)))))
+
+-- a difference as a sum
+pub difference_sum : (x y W : ℕ) → (x + (W - y) % W) % W ≡ (x + (W - y)) % W
+difference_sum x y W = add-mod-mod x (W - y) W
 
 -- a sum with 0
 pub sum_zero : (x W : ℕ) → x < W → (x + 0) % W ≡ x
@@ -100,12 +111,9 @@ and_ones x w h = and_mask x w ∙ mod-eq_of_lt h
 pub product_one : (x W : ℕ) → x < W → (x * 1) % W ≡ x
 product_one x W h = let e : x * 1 ≡ x = omega arith in ap (λ n. n % W) e ∙ mod-eq_of_lt h
 
--- differences from itself, and with 0
+-- the difference from itself
 pub difference_same : (x W : ℕ) → x < W → (x + (W - x)) % W ≡ 0
 difference_same x W h = let e : x + (W - x) ≡ W = omega arith in ap (λ n. n % W) e ∙ mod_self W
-
-pub difference_zero : (x W : ℕ) → x < W → (x + (W - 0)) % W ≡ x
-difference_zero x W h = let e : x + (W - 0) ≡ x + W = omega arith in ap (λ n. n % W) e ∙ (add-mod_right x W ∙ mod-eq_of_lt h)
 
 -- nothing is above all ones
 pub none_above : (y W : ℕ) → y < W → bit (nat_lt (W - 1 - 0) y) ≡ 0

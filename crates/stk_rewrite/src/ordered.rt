@@ -1,8 +1,10 @@
 //! Differences, quotients, remainders and orders, whose arguments keep their places.
-ghost use Rattle.std.specs.Prelude.{◌≡◌};
+ghost use Rattle.std.specs.Prelude.{◌≡◌, false};
 ghost use Rattle.stk_terms.specs.Fitting.{IsSound};
+ghost use Rattle.stk_terms.specs.Terms.{term_at};
 ghost use Rattle.stk_terms.specs.declared.term.TermOp.TheVariants.{Sub, UDiv, URem, ULt, SLt};
-ghost use Rattle.stk_rewrite.specs.Readings.{ArePair};
+ghost use Rattle.stk_rewrite.specs.Looks.{is_constant};
+ghost use Rattle.stk_rewrite.specs.Readings.{ArePair, IsNumber};
 ghost use Rattle.stk_rewrite.specs.Rights.{Replaces};
 ghost use Rattle.stk_rewrite.specs.declared.right.Right.TheVariants.{Two};
 
@@ -10,9 +12,23 @@ use crate::folding::fold;
 use crate::reading::number;
 use crate::right::Right;
 use crate::signs::reversed;
+use crate::sums::sum_with;
 use stk_terms::{TermId, TermOp, Terms, apply};
 
-// A difference of two terms that aren't one: less 0 it is the term, and from 0 its Neg.
+// A term that is no constant less a constant: the sum with its Neg.
+fn less_by(terms: &Terms, a: TermId, b: TermId, y: u128) -> Right
+    requires sound { IsSound terms.now }
+    requires pair { ArePair terms.now a.0 b.0 }
+    requires plain { is_constant (term_at terms.now a.0).op ≡ false }
+    requires number { IsNumber terms.now b.0 y }
+    ensures { Replaces terms.now (Two Sub a b) result }
+{
+    let width = terms.width(a);
+    let opposite = apply(TermOp::Neg, &[], (width, 0), y, 0, 0);
+    sum_with(terms, a, width, opposite)
+}
+
+// A difference of two terms that aren't one: less a constant it is a sum, and from 0 the Neg.
 fn apart(terms: &Terms, a: TermId, b: TermId) -> Right
     requires sound { IsSound terms.now }
     requires pair { ArePair terms.now a.0 b.0 }
@@ -22,13 +38,7 @@ fn apart(terms: &Terms, a: TermId, b: TermId) -> Right
     match number(terms, b) {
         Some(y) => match number(terms, a) {
             Some(x) => fold(terms, TermOp::Sub, a, b, x, y),
-            None => {
-                if y == 0 {
-                    Right::Old(a)
-                } else {
-                    Right::Two(TermOp::Sub, a, b)
-                }
-            }
+            None => less_by(terms, a, b, y),
         },
         None => match number(terms, a) {
             Some(x) => {

@@ -1,9 +1,10 @@
 //! Sums.
 ghost use Rattle.std.specs.Prelude.{◌≡◌, false};
 ghost use Rattle.stk_terms.specs.Fitting.{IsSound};
+ghost use Rattle.stk_terms.specs.Values.{width_at};
 ghost use Rattle.stk_terms.specs.declared.term.TermOp.TheVariants.{Add};
 ghost use Rattle.stk_rewrite.specs.Looks.{adds_constant};
-ghost use Rattle.stk_rewrite.specs.Readings.{ArePair, IsBeside};
+ghost use Rattle.stk_rewrite.specs.Readings.{ArePair, IsBeside, IsPlain};
 ghost use Rattle.stk_rewrite.specs.Rights.{Replaces};
 ghost use Rattle.stk_rewrite.specs.declared.right.Right.TheVariants.{Two, Last};
 
@@ -26,8 +27,8 @@ fn last_sum(terms: &Terms, a: TermId, width: u8, n: u128) -> Right
     }
 }
 
-// A sum with a constant: constants are added up.
-fn sum_with(terms: &Terms, a: TermId, width: u8, n: u128) -> Right
+/// A sum with a constant, the term being none: constants are added up.
+pub(crate) fn sum_with(terms: &Terms, a: TermId, width: u8, n: u128) -> Right
     requires sound { IsSound terms.now }
     requires beside { IsBeside terms.now a.0 width n }
     ensures { Replaces terms.now (Last Add a width n) result }
@@ -38,6 +39,42 @@ fn sum_with(terms: &Terms, a: TermId, width: u8, n: u128) -> Right
             last_sum(terms, rest, width, total)
         }
         None => last_sum(terms, a, width, n),
+    }
+}
+
+// A sum of two terms that are no constants.
+fn plain_sum(terms: &Terms, a: TermId, b: TermId) -> Right
+    requires sound { IsSound terms.now }
+    requires first { IsPlain terms.now a.0 }
+    requires second { IsPlain terms.now b.0 }
+    requires alike { width_at terms.now a.0 ≡ width_at terms.now b.0 }
+    ensures { Replaces terms.now (Two Add a b) result }
+{
+    Right::Two(TermOp::Add, a, b)
+}
+
+// The same where constants in both that add up to 0 go away.
+fn sum_of_sums(terms: &Terms, a: TermId, b: TermId) -> Right
+    requires sound { IsSound terms.now }
+    requires first { IsPlain terms.now a.0 }
+    requires second { IsPlain terms.now b.0 }
+    requires alike { width_at terms.now a.0 ≡ width_at terms.now b.0 }
+    ensures { Replaces terms.now (Two Add a b) result }
+{
+    match added(terms, a) {
+        Some((x, m)) => match added(terms, b) {
+            Some((y, n)) => {
+                let width = terms.width(a);
+                let total = apply(TermOp::Add, &[], (width, width), m, n, 0);
+                if total == 0 {
+                    plain_sum(terms, x, y)
+                } else {
+                    plain_sum(terms, a, b)
+                }
+            }
+            None => plain_sum(terms, a, b),
+        },
+        None => plain_sum(terms, a, b),
     }
 }
 
@@ -54,7 +91,7 @@ pub(crate) fn sum(terms: &Terms, a: TermId, b: TermId) -> Right
         },
         None => match number(terms, b) {
             Some(y) => sum_with(terms, a, terms.width(a), y),
-            None => Right::Two(TermOp::Add, a, b),
+            None => sum_of_sums(terms, a, b),
         },
     }
 }

@@ -77,7 +77,7 @@ static BESIDE: [(&str, &str); 35] = [
 ];
 
 // Equal arguments, inverted ones, choices, cuts and sums of sums.
-static ALIKE: [(&str, &str); 20] = [
+static ALIKE: [(&str, &str); 22] = [
     ("x x sub", "0"),
     ("x x and", "x"),
     ("x x not and", "0"),
@@ -98,10 +98,12 @@ static ALIKE: [(&str, &str); 20] = [
     ("x 7 add 9 add", "x 16 add"),
     ("x 7 add 9 eq", "x 2 eq"),
     ("x 9 add 7 eq", "x 254 eq"),
+    ("x 7 sub", "x 249 add"),
+    ("x 7 add y 249 add add", "x y add"),
 ];
 
 // Rules one after the other.
-static TOGETHER: [(&str, &str); 14] = [
+static TOGETHER: [(&str, &str); 17] = [
     ("x 200 add 56 add", "x"),
     ("t 1:1 add 0:1 eq", "t"),
     ("t 1:1 add 1:1 eq", "t not"),
@@ -116,6 +118,9 @@ static TOGETHER: [(&str, &str); 14] = [
     ("x y add x y add sub", "0"),
     ("x 3 5 ult 9 y ite and", "x 9 and"),
     ("x 0 mul y add neg", "y neg"),
+    ("x 7 add y 7 sub add", "x y add"),
+    ("x 7 sub 9 add", "x 2 add"),
+    ("x 7 sub 9 eq", "x 16 eq"),
 ];
 
 // Terms that stay as they are.
