@@ -172,7 +172,7 @@ text '' 'int f%d(unsigned char a) { if (100 / a == %d) return a; return 1; }' 90
     hostile '9,000 functions of 8 input bits'
 hard='if ((a + b + %d) * (a - b) != a * a - b * b + %d * (a - b)) s++; '
 text 'int f(unsigned long a, unsigned long b) { int s = 0;' "$hard" 14 'return s; }' |
-    within 500 'the greatest weight: 14 tests that no input meets, of four products each, with a budget of 500'
+    within 100 'the greatest weight: 14 tests that no input meets, of four products each, with a budget of 100'
 sums='if ((a + %d) + (b - %d) != (a ^ b) + (a & b) + (a & b)) s++; '
 text 'int f(unsigned long a, unsigned long b) { int s = 0;' "$sums" 320 'return s; }' |
     hostile 'the greatest weight: 320 tests that no input meets, of sums'
