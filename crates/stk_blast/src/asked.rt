@@ -1,6 +1,6 @@
 //! Whether a table has the inputs and the room that blasting asks for.
 
-ghost use Rattle.std.specs.Prelude.{◌≡◌, ◌↔◌, ℕ, ◌+◌, ◌*◌, ◌^◌, ◌<◌, ◌≤◌, length, sum, IsTrue, IfOk, if◌then◌else◌};
+ghost use Rattle.std.specs.Prelude.{◌≡◌, ◌↔◌, ℕ, ◌+◌, ◌*◌, ◌^◌, ◌<◌, ◌≤◌, length, sum, IsTrue, IfOk};
 ghost use Rattle.stk_gates.specs.Tables.{HasRoom};
 ghost use Rattle.stk_terms.specs.Fitting.{AreBelow};
 ghost use Rattle.stk_terms.specs.Values.{arg_at, widths_of};
@@ -56,14 +56,11 @@ fn width_of(terms: &Terms, args: &[TermId], k: usize) -> u8
     }
 }
 
-/// The bound of a term that is marked, and 0 for any other.
-fn bound_where(terms: &Terms, id: TermId, marked: bool) -> u32
+/// The bound of a term.
+fn bound_for(terms: &Terms, id: TermId) -> u32
     requires { id.0 < length terms.now.terms }
-    ensures { result ≡ (if marked then bound_at terms.now id.0 else 0) }
+    ensures { result ≡ bound_at terms.now id.0 }
 {
-    if !marked {
-        return 0;
-    }
     // For the prover: the terms keep their facts.
     let _ = terms.count();
     let args = terms.args(id);
@@ -74,18 +71,18 @@ fn bound_where(terms: &Terms, id: TermId, marked: bool) -> u32
     )
 }
 
-/// Whether the table has room for the circuit of a term.
+/// Whether the table has room for the circuit of a term. It goes over the term's parts alone.
 pub fn has_room(terms: &Terms, id: TermId, gates: &Gates) -> Result<bool, NoMemory>
     requires { id.0 < length terms.now.terms }
     ensures { IfOk result (λ b. IsTrue b ↔ HasRoom gates.now (cost terms.now id.0)) }
 {
     // For the prover: the terms keep their facts.
     let _ = terms.count();
-    let parts = terms.parts(id)?;
-    let marks = parts.as_slice();
+    let order = terms.order(id)?;
+    let places = order.as_slice();
     let mut left = (1 << 29) - gates.count();
-    for i in 0..marks.len() {
-        let bound = bound_where(terms, TermId(i), marks[i]);
+    for i in 0..places.len() {
+        let bound = bound_for(terms, TermId(places[i]));
         if bound > left {
             return Ok(false);
         }

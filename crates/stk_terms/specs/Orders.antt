@@ -1,6 +1,9 @@
 -- Terms in a row, each behind its arguments.
-use Rattle.std.specs.Prelude.{◌≡◌, ℕ, ◌<◌, ◌≤◌, Bool, true, false, List, length, get_or}
+use Rattle.std.specs.Prelude.{◌≡◌, ◌⊎◌, ℕ, ◌+◌, ◌<◌, ◌≤◌, Bool, true, List, length, get_or, nat_eq}
+use Rattle.std.specs.List.{list_any}
+use Rattle.stk_terms.specs.declared.term.TermId.{TermId}
 use Rattle.stk_terms.specs.Terms.{Stored, term_at, child}
+use Rattle.stk_terms.specs.Parts.{IsPart}
 use Rattle.stk_terms.specs.Values.{number_at}
 
 -- the place i is among the first n of the list
@@ -19,10 +22,30 @@ pub record IsOrder (s : Stored) (n : ℕ) (ps : List ℕ) : Type 0 where
   pub below : (k : ℕ) → k < length ps → get_or ps k 0 < n
   pub behind : (k j : ℕ) → k < length ps → j < length (term_at s (get_or ps k 0)).args → HasBefore ps k (child s (get_or ps k 0) j)
 
--- the marked places below i are in the list, and no others
-pub record AreListed (marks : List Bool) (i : ℕ) (ps : List ℕ) : Type 0 where
-  pub below : (k : ℕ) → k < length ps → get_or ps k 0 < i
-  pub has : (j : ℕ) → j < i → get_or marks j false ≡ true → HasPlace ps j
+-- each of the places is below those behind it
+abbrev pub Rises : List ℕ → Type 0
+Rises ps = (k m : ℕ) → k < m → m < length ps → get_or ps k 0 < get_or ps m 0
+
+-- the list has the places of the parts of the term i, and no others, in ascending order
+pub record AreParts (s : Stored) (i : ℕ) (ps : List ℕ) : Type 0 where
+  pub rise : Rises ps
+  pub all : (j : ℕ) → IsPart s j i → HasPlace ps j
+  pub only : (j : ℕ) → HasPlace ps j → IsPart s j i
+
+-- whether j is the place of one of the arguments
+abbrev pub is_among : List TermId → ℕ → Bool
+is_among args j = list_any (λ a. nat_eq a.0 j) args
+
+-- parts of the term i are in the list in ascending order, and others wait, below those in the list: i is one of them,
+-- with each part in the list so are its arguments, and each of the turns left takes one at most
+pub record AreWaiting (s : Stored) (i turn : ℕ) (waits : ℕ → Bool) (ps : List ℕ) : Type 0 where
+  pub low : (j : ℕ) → waits j ≡ true → j + turn ≤ i
+  pub waiting : (j : ℕ) → waits j ≡ true → IsPart s j i
+  pub below : (j k : ℕ) → waits j ≡ true → k < length ps → j < get_or ps k 0
+  pub rise : Rises ps
+  pub only : (j : ℕ) → HasPlace ps j → IsPart s j i
+  pub goes_on : (j k : ℕ) → HasPlace ps j → k < length (term_at s j).args → (waits (child s j k) ≡ true) ⊎ HasPlace ps (child s j k)
+  pub has : (waits i ≡ true) ⊎ HasPlace ps i
 
 -- the numbers of the terms at the first n places of the list stand at these places
 abbrev pub AreNumbers : Stored → List ℕ → List ℕ → ℕ → List ℕ → Type 0

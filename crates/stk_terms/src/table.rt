@@ -6,12 +6,13 @@ ghost use Rattle.stk_terms.specs.Values.{meaning, meanings, bits_of, width_of, w
 ghost use Rattle.stk_terms.specs.Cost.{total_cost, bound_of};
 ghost use Rattle.stk_terms.specs.Growth.{Keeps};
 ghost use Rattle.stk_terms.specs.Parts.{IsPart, is_part};
-ghost use Rattle.stk_terms.specs.Orders.{IsOrder, AreNumbers};
+ghost use Rattle.stk_terms.specs.Orders.{IsOrder, HasPlace, AreParts, AreNumbers};
 
 use crate::fitting::are_residues;
 use crate::kept;
 use crate::marks::parts;
 use crate::nodes::{evaluate, fits, number, width_of};
+use crate::order::order_of;
 use crate::term::{TermId, TermNode, TermOp};
 use indexmap::IndexSet;
 use smallvec::SmallVec;
@@ -158,6 +159,16 @@ impl Terms {
             id.0,
         )?;
         Ok(List::from_vec(marks))
+    }
+
+    /// What `order_of` gives, in memory of the store's own allocator.
+    pub fn order(&self, id: TermId) -> Result<Vec<usize>, NoMemory>
+        requires { id.0 < length self.now.terms }
+        ensures order { IfOk result (λ r. IsOrder self.now (id.0 + 1) r.items) }
+        ensures has { IfOk result (λ r. HasPlace r.items id.0) }
+        ensures parts { IfOk result (λ r. AreParts self.now id.0 r.items) }
+    {
+        order_of(*self.nodes.allocator(), self, id)
     }
 
     /// The number of a term for residues of the inputs, below 2 to the term's width. It takes one pass over the terms

@@ -1,11 +1,11 @@
-use Rattle.std.proofs.Common.{length, sym, ap, subst, ◌∙◌, if◌then◌else◌}
+use Rattle.std.proofs.Common.{length, sym, ap, subst, ◌∙◌}
 use Rattle.stk_terms.specs.Terms.{term_at}
 use Rattle.stk_terms.specs.Fitting.{AreBelow}
 use Rattle.stk_terms.specs.Values.{arg_at, widths_of}
-use Rattle.stk_terms.specs.Cost.{bound, bound_at}
+use Rattle.stk_terms.specs.Cost.{bound}
 use Rattle.stk_terms.proofs.Reading.{there}
 use Rattle.stk_blast.proofs.Arguments.{args_below}
-use Rattle.stk_blast.proofs.asked.bound_where.Goals as goal
+use Rattle.stk_blast.proofs.asked.bound_for.Goals as goal
 
 pub width_of-requires : goal.width_of-requires
 width_of-requires c =
@@ -28,4 +28,4 @@ returns c =
     let args = c.args-args.ensures (term_at s id) stands in
     let first = c.width_of.ensures ∙ ap (λ l. arg_at 0 (widths_of s) l 0) args in
     let second = c.width_of-2.ensures ∙ ap (λ l. arg_at 0 (widths_of s) l 1) args in
-    c.bound_by.ensures ∙ ((λ j. bound (op j) (first j) (second j)) ∙ sym (ap (λ b. if b then bound_at s id else 0) c.if-not-marked.false))
+    c.bound_by.ensures ∙ (λ j. bound (op j) (first j) (second j))
