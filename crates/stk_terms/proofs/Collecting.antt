@@ -231,6 +231,22 @@ module _ (s : Stored) (sound : IsSound s) (id : ℕ) (h : id < length s.terms) w
     pub has_own : HasPlace ps id
     has_own = are.all id (Whole id refl)
 
+    -- the last one is the term's own
+    pub last_own : (1 ≤ length ps) × ((k : ℕ) → length ps ≡ k + 1 → get_or ps k 0 ≡ id)
+    last_own = (let b = has_own.before in omega (arith, b), λ k e. by k e (nat_lt has_own.at k) refl)
+      where
+        by : (k : ℕ) → length ps ≡ k + 1 → (b : Bool) → nat_lt has_own.at k ≡ b → get_or ps k 0 ≡ id
+        by k e true f =
+            let r = are.rise has_own.at k (ltb-true has_own.at k f) (omega (arith, e)) in
+            let b = part_below s sound (get_or ps k 0) id (place_at k (omega (arith, e))) h in
+            let d = has_own.is in
+            absurd (omega (arith, r, b, d))
+        by k e false f =
+            let g = ltb-false has_own.at k f in
+            let b = has_own.before in
+            let q : k ≡ has_own.at = omega (arith, e, g, b) in
+            ap (λ n. get_or ps n 0) q ∙ has_own.is
+
 -- ascending places that have one are searched with success
 pub not_missing : (ps : List ℕ) (x i : ℕ) → Rises ps → HasPlace ps x → IsBinarySearchResult (λ y. nat_cmp y x) ps (Err i) → ⊥
 not_missing ps x i rise has found = by (nat_lt has.at i) refl
