@@ -49,7 +49,7 @@ most_args (Input k) = omega arith
 most_args _ = omega arith
 
 -- the first three of a list that goes on with nothing
-three : List Edge → List Edge → List Edge → ℕ → List Edge
+abbrev three : List Edge → List Edge → List Edge → ℕ → List Edge
 three x y z zero = x
 three x y z (suc zero) = y
 three x y z (suc (suc zero)) = z

@@ -17,6 +17,14 @@ use stk_base::{List, NoMemory};
 use stk_gates::{Edge, Gates};
 use stk_terms::{TermId, Terms, index_in, order_of};
 
+/// The row at an index.
+fn row_at<'a>(rows: &'a [List<Edge>], index: usize) -> &'a [Edge]
+    requires { index < length rows.now }
+    ensures { result.now ≡ get_or rows.now index [] }
+{
+    rows[index].as_slice()
+}
+
 /// The row of an argument, empty where there is none; the rows are those of the first places of an order.
 fn argument<'a>(
     order: &[usize],
@@ -31,7 +39,7 @@ fn argument<'a>(
     ensures none { length args.now ≤ k → result.now ≡ [] }
 {
     if k < args.len() {
-        rows[index_in(order, args[k].0)].as_slice()
+        row_at(rows, index_in(order, args[k].0))
     } else {
         &[]
     }
@@ -72,7 +80,7 @@ fn row_of(
 
 /// A row whose number is the term's for every input, where the gates of the inputs are one for each bit of the terms'
 /// inputs, in their order, the least bit first. Older edges keep their meanings, and at most as many gates come in as
-/// the term costs, also after `NoMemory`. It goes over the terms up to this one once.
+/// the term costs, also after `NoMemory`. It goes over the parts of the term alone.
 pub fn blast(
     alloc: Global,
     terms: &Terms,
