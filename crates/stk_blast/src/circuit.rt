@@ -26,12 +26,7 @@ fn row_at<'a>(rows: &'a [List<Edge>], index: usize) -> &'a [Edge]
 }
 
 /// The row of an argument, empty where there is none; the rows are those of the first places of an order.
-fn argument<'a>(
-    order: &[usize],
-    rows: &'a [List<Edge>],
-    args: &[TermId],
-    k: usize,
-) -> &'a [Edge]
+fn argument<'a>(order: &[usize], rows: &'a [List<Edge>], args: &[TermId], k: usize) -> &'a [Edge]
     requires rise { Rises order.now }
     requires before { (j : ℕ) → j < length args.now → HasBefore order.now (length rows.now) (nth args.now j) }
     requires few { length rows.now ≤ length order.now }

@@ -1,8 +1,6 @@
-use Rattle.std.proofs.Common.{◌≡◌, ℕ, ◌<◌, List, [], length, get_or, sym, ap, subst, ◌∙◌, arith, rules}
+use Rattle.std.proofs.Common.{length, sym, ◌∙◌, arith}
 use Rattle.stk_terms.specs.Terms.{nth}
-use Rattle.stk_terms.specs.Orders.{HasPlace, HasBefore}
 use Rattle.stk_terms.proofs.Reading.{nth_get}
-use Rattle.stk_blast.specs.Rows.{IsRowOf}
 use Rattle.stk_blast.proofs.Parts.{found_before}
 use Rattle.stk_blast.proofs.circuit.argument.Goals as goal
 
