@@ -1,67 +1,64 @@
--- The rows of the parts of a term, one after the other, and what they cost.
-use Rattle.std.proofs.Common.{◌≡◌, ℕ, zero, suc, ◌+◌, ◌-◌, ◌<◌, ◌≤◌, Bool, true, false, if◌then◌else◌, nat_lt, List, [], ◌∷◌, ◌++◌, length, get_or, refl, sym, ap, subst, ◌∙◌, arith}
+-- The rows of the parts of a term, one after the other.
+use Rattle.std.proofs.Common.{◌≡◌, ℕ, ◌+◌, ◌<◌, ◌≤◌, Bool, true, false, nat_lt, List, [], ◌∷◌, ◌++◌, length, get_or, refl, sym, ap, subst, ◌∙◌, arith}
 use Rattle.std.proofs.lemmas.Bool.{ltb-false, ltb-true}
 use Rattle.std.proofs.lemmas.List.{get_or_append_left}
 use Rattle.std.proofs.Math.Seq.{get_or-append_seam}
 use Rattle.stk_gates.specs.declared.edge.Edge.{Edge}
 use Rattle.stk_gates.specs.Tables.{Table, Extends}
-use Rattle.stk_terms.specs.Terms.{Stored, term_at, child}
+use Rattle.stk_terms.specs.declared.term.TermId.{TermId}
+use Rattle.stk_terms.specs.declared.term.TermOp.{TermOp}
+use Rattle.stk_terms.specs.Terms.{Stored, term_at, nth}
 use Rattle.stk_terms.specs.Fitting.{IsSound}
-use Rattle.stk_terms.specs.Parts.{is_part}
-use Rattle.stk_terms.specs.Cost.{bound_at, weight, cost}
-use Rattle.stk_terms.proofs.Reading.{child_below}
-use Rattle.stk_terms.proofs.Parting.{parts_closed, part_below, reached, has_itself}
-use Rattle.stk_terms.proofs.Weighing.{weight_grows}
-use Rattle.stk_blast.specs.Rows.{IsRow}
-use Rattle.stk_blast.proofs.Arguments.{row_kept}
+use Rattle.stk_terms.specs.Orders.{HasBefore, Rises}
+use Rattle.stk_blast.specs.Rows.{IsRow, IsRowOf}
+use Rattle.stk_blast.proofs.Arguments.{Operation, operation, row_kept}
 
--- what is chosen from n on weighs nothing
-weight_same : (s : Stored) (c : ℕ → Bool) (n d : ℕ) → ((j : ℕ) → n ≤ j → c j ≡ false) → (m : ℕ) → m ≡ n + d → weight s c m ≡ weight s c n
-weight_same s c n zero none m e = ap (weight s c) (let f : m ≡ n = omega arith in f)
-weight_same s c n (suc d) none zero e = absurd (omega arith)
-weight_same s c n (suc d) none (suc m) e =
-    let before = weight_same s c n d none m (omega arith) in
-    let nothing : (if c m then bound_at s m else 0) ≡ 0 = ap (λ b. if b then bound_at s m else 0) (none m (omega arith)) in
-    omega arith
+-- the row of a place
+pub row_is : (t : Table) (s : Stored) (ps : List ℕ) (rows : List (List Edge)) (j : ℕ) (row : List Edge) → ((m : ℕ) → m < length rows → IsRow t s (get_or ps m 0) (get_or rows m [])) → IsRowOf ps rows j row → IsRow t s j row
+row_is t s ps rows j row made r = subst (IsRow t s j) (sym r.is) (subst (λ n. IsRow t s n (get_or rows r.at [])) r.place (made r.at r.before))
 
-module _ (s : Stored) (sound : IsSound s) (id : ℕ) (h : id < length s.terms) where
-  -- the parts up to a place weigh no more than the term
-  pub within : (i : ℕ) → i ≤ id → weight s (is_part s id) i + (if is_part s id i then bound_at s i else 0) ≤ cost s id
-  within i l = weight_grows s (is_part s id) (length s.terms - suc i) (suc i) (length s.terms) (omega arith)
+-- one more row
+pub made_more : (t u : Table) (s : Stored) (ps : List ℕ) (rows items : List (List Edge)) (row : List Edge) (i : ℕ) → items ≡ rows ++ row ∷ [] → length rows ≡ i → Extends t u
+    → ((m : ℕ) → m < i → IsRow t s (get_or ps m 0) (get_or rows m [])) → IsRow u s (get_or ps i 0) row → (m : ℕ) → m < i + 1 → IsRow u s (get_or ps m 0) (get_or items m [])
+made_more t u s ps rows items row i is long x made newest m l = by (nat_lt m i) refl
+  where
+    by : (b : Bool) → nat_lt m i ≡ b → IsRow u s (get_or ps m 0) (get_or items m [])
+    by true e =
+        let below = ltb-true m i e in
+        let same : get_or items m [] ≡ get_or rows m [] = ap (λ l. get_or l m []) is ∙ get_or_append_left rows (row ∷ []) [] m (omega (arith, below, long)) in
+        subst (IsRow u s (get_or ps m 0)) (sym same) (row_kept t u s (get_or ps m 0) (get_or rows m []) x (made m below))
+    by false e =
+        let above = ltb-false m i e in
+        let here : m ≡ i = omega (arith, above, l) in
+        let same : get_or items i [] ≡ row = ap (λ l. get_or l i []) is ∙ (ap (λ n. get_or (rows ++ row ∷ []) n []) (sym long) ∙ get_or-append_seam rows row [] []) in
+        subst (λ n. IsRow u s (get_or ps n 0) (get_or items n [])) (sym here) (subst (IsRow u s (get_or ps i 0)) (sym same) newest)
 
-  -- nothing behind the term is a part
-  none_behind : (j : ℕ) → id + 1 ≤ j → is_part s id j ≡ false
-  none_behind j l = by (is_part s id j) refl
-    where
-      by : (b : Bool) → is_part s id j ≡ b → is_part s id j ≡ false
-      by true e = let below = part_below s sound j id (reached id s id j e) h in absurd (omega arith)
-      by false e = e
+-- a place that is among the first ones stands where it is found
+pub found_before : (ps : List ℕ) (n i j : ℕ) → Rises ps → i < length ps → get_or ps i 0 ≡ j → HasBefore ps n j → n ≤ length ps → i < n
+found_before ps n i j rise within here b few = by (nat_lt i n) refl
+  where
+    by : (t : Bool) → nat_lt i n ≡ t → i < n
+    by true e = ltb-true i n e
+    by false e =
+        let above = ltb-false i n e in
+        let less = rise b.at i (let l = b.before in omega (arith, l, above)) within in
+        let there = b.is in
+        absurd (omega (arith, less, there, here))
 
-  pub whole : weight s (is_part s id) (id + 1) ≡ cost s id
-  whole = sym (weight_same s (is_part s id) (id + 1) (length s.terms - (id + 1)) none_behind (length s.terms) (omega arith))
+-- the row of an argument, where it is given as one of the rows of the first places
+row_given : (t : Table) (s : Stored) (ps : List ℕ) (rows : List (List Edge)) (given args : List TermId) (k : ℕ) (row : List Edge) → given ≡ args → ((m : ℕ) → m < length rows → IsRow t s (get_or ps m 0) (get_or rows m []))
+    → (k < length given → IsRowOf ps rows (nth given k) row) → k < length args → IsRow t s (nth args k) row
+row_given t s ps rows given args k row is made r l = row_is t s ps rows (nth args k) row made (subst (λ gs. k < length gs → IsRowOf ps rows (nth gs k) row) is r l)
 
-  -- the last one
-  pub last : weight s (is_part s id) id + bound_at s id ≤ cost s id
-  last = subst (λ b. weight s (is_part s id) id + (if b then bound_at s id else 0) ≤ cost s id) (has_itself s sound id) (within id (omega arith))
+none_given : (given args : List TermId) (k : ℕ) (row : List Edge) → given ≡ args → (length given ≤ k → row ≡ []) → length args ≤ k → row ≡ []
+none_given given args k row is r = subst (λ gs. length gs ≤ k → row ≡ []) is r
 
-  -- the arguments of a part have their rows
-  pub args_made : (t : Table) (rows : List (List Edge)) (i : ℕ) → i ≤ id → ((j : ℕ) → j < i → is_part s id j ≡ true → IsRow t s j (get_or rows j [])) → is_part s id i ≡ true
-      → (k : ℕ) → k < length (term_at s i).args → IsRow t s (child s i k) (get_or rows (child s i k) [])
-  args_made t rows i l made p k m = made (child s i k) (child_below s sound i k (omega arith) m) ((parts_closed s sound id h).closed i k p m)
-
-  -- one more row
-  pub made_more : (t u : Table) (rows items : List (List Edge)) (row : List Edge) (i : ℕ) → items ≡ rows ++ row ∷ [] → length rows ≡ i → Extends t u
-      → ((j : ℕ) → j < i → is_part s id j ≡ true → IsRow t s j (get_or rows j [])) → (is_part s id i ≡ true → IsRow u s i row)
-      → (j : ℕ) → j < i + 1 → is_part s id j ≡ true → IsRow u s j (get_or items j [])
-  made_more t u rows items row i is long x made newest j l p = by (nat_lt j i) refl
-    where
-      by : (b : Bool) → nat_lt j i ≡ b → IsRow u s j (get_or items j [])
-      by true e =
-          let below = ltb-true j i e in
-          let same : get_or items j [] ≡ get_or rows j [] = ap (λ l. get_or l j []) is ∙ get_or_append_left rows (row ∷ []) [] j (omega arith) in
-          subst (IsRow u s j) (sym same) (row_kept t u s j (get_or rows j []) x (made j below p))
-      by false e =
-          let above = ltb-false j i e in
-          let here : j ≡ i = omega arith in
-          let same : get_or items i [] ≡ row = ap (λ l. get_or l i []) is ∙ (ap (λ n. get_or (rows ++ row ∷ []) n []) (sym long) ∙ get_or-append_seam rows row [] []) in
-          subst (λ n. IsRow u s n (get_or items n [])) (sym here) (subst (IsRow u s i) (sym same) (newest (subst (λ n. is_part s id n ≡ true) here p)))
+-- what a term's operator is given
+pub operation_given : (s : Stored) (sound : IsSound s) (i : ℕ) (h : i < length s.terms) (t : Table) (ps : List ℕ) (rows : List (List Edge)) (given : List TermId) (x y z : List Edge) (inputs : List ℕ) (op : TermOp)
+    → inputs ≡ s.inputs → op ≡ (term_at s i).op → given ≡ (term_at s i).args → ((m : ℕ) → m < length rows → IsRow t s (get_or ps m 0) (get_or rows m []))
+    → (0 < length given → IsRowOf ps rows (nth given 0) x) → (length given ≤ 0 → x ≡ []) → (1 < length given → IsRowOf ps rows (nth given 1) y) → (length given ≤ 1 → y ≡ []) → (2 < length given → IsRowOf ps rows (nth given 2) z) → (length given ≤ 2 → z ≡ [])
+    → Operation t s i inputs op x y z
+operation_given s sound i h t ps rows given x y z inputs op is_inputs is_op is made x_row x_none y_row y_none z_row z_none =
+    let args = (term_at s i).args in
+    operation s sound i h t x y z (row_given t s ps rows given args 0 x is made x_row) (row_given t s ps rows given args 1 y is made y_row) (row_given t s ps rows given args 2 z is made z_row)
+    (none_given given args 0 x is x_none) (none_given given args 1 y is y_none) (none_given given args 2 z is z_none) inputs op is_inputs is_op

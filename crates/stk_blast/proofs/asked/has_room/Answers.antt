@@ -1,4 +1,4 @@
-use Rattle.std.proofs.Common.{◌≡◌, ◌+◌, ◌<◌, ◌≤◌, length, get_or, refl, sym, ap, subst, ◌∙◌, arith}
+use Rattle.std.proofs.Common.{refl, sym, subst, arith}
 use Rattle.stk_terms.specs.Orders.{AreParts}
 use Rattle.stk_terms.proofs.Collecting.{in_order}
 use Rattle.stk_terms.proofs.Counting.{from_first, from_next, from_last, from_within}
