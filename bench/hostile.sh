@@ -16,6 +16,7 @@ work=$(mktemp -d)
 trap 'rm -rf "$work"' EXIT
 memory=2097152
 words=()
+on_answer=ok
 on_refusal=over
 ! grep -q __asan_init "$program" || memory=unlimited
 
@@ -63,7 +64,7 @@ hostile() {
     cat >"$work/text"
     run
     case $status in
-        [0-6]) verdict=ok ;;
+        [0-6]) verdict=$on_answer ;;
         7) verdict=$on_refusal ;;
         124 | 137 | 152) verdict=over ;;
         *) verdict=crash ;;
@@ -75,8 +76,9 @@ hostile() {
     printf '%4d %8s s %6d MB  %-5s  %s: %s\n' "$status" "$seconds" "$megabytes" "$verdict" "$1" "$said"
 }
 
-# The same of a text whose types are too large to be compared, which is refused with status 7.
+# The same of a text whose types are too large to be compared, which is to be refused with status 7.
 refused() {
+    on_answer=over
     on_refusal=ok
     hostile "$1"
 }
