@@ -15,7 +15,7 @@ use crate::operators::operate;
 use std::alloc::Global;
 use stk_base::{List, NoMemory};
 use stk_gates::{Edge, Gates};
-use stk_terms::{TermId, Terms, index_in, order_of};
+use stk_terms::{TermId, Terms, index_in};
 
 /// The row at an index.
 fn row_at<'a>(rows: &'a [List<Edge>], index: usize) -> &'a [Edge]
@@ -94,7 +94,7 @@ pub fn blast(
     // For the prover: the terms and the gates keep their facts.
     let _ = terms.count();
     let _ = gates.count();
-    let parts = order_of(alloc, terms, id)?;
+    let parts = terms.order(id)?;
     let order = parts.as_slice();
     let first_gates = firsts_of(alloc, terms.widths())?;
     let firsts = first_gates.as_slice();

@@ -16,7 +16,7 @@ use std::alloc::Global;
 use stk_base::Sink;
 use stk_cands::{candidates, conditions};
 use stk_claims::{ClaimedFunction, ToldFinding, kinds_of, write_finding_parts};
-use stk_findings::{FunctionTables, Judge, Queries, SearchedFunction, all_maps};
+use stk_findings::{FunctionTables, Judge, Queries, SearchedFunction, SiftedMaps};
 use stk_function_env::Setting;
 use stk_numbers::IntKind;
 use stk_query::Decider;
@@ -98,7 +98,7 @@ fn write_searched<K: Sink, D: Decider>(
         return Ok(one_function());
     }
     if searched.is_narrow() {
-        let mut judge = all_maps(place.alloc, searched)?;
+        let mut judge = SiftedMaps::new(place.alloc, searched)?;
         return write_claims(place, searched, &mut judge, out, decider);
     }
     let mut judge = Queries::new(place.alloc, searched)?;

@@ -1,4 +1,5 @@
 pub mod Narrow
+pub mod Sifting
 pub mod Gathering
 pub mod Answered
 pub mod Wrapped

@@ -1,5 +1,5 @@
 -- Findings of a function whose maps are all tried: they are lawful where queries may be given up too, and have no mark.
-use Rattle.std.proofs.Common.{◌≡◌, ℕ, ◌≤◌, true, List, [], Result, Ok, Err, IfOk, refl, sym, subst, ◌∙◌, arith}
+use Rattle.std.proofs.Common.{◌≡◌, ℕ, ◌≤◌, true, List, [], Result, Ok, Err, IfOk, refl, sym, ◌∙◌, arith}
 use Rattle.std.proofs.lemmas.Bool.{false≢true, le-leb}
 use Rattle.stk_tree.specs.Syntax.{FunctionTree}
 use Rattle.stk_numbers.specs.declared.conditions.Candidate.{Candidate}
@@ -14,8 +14,7 @@ use Rattle.stk_meaning.specs.declared.finding.Phase.TheVariants.{Free, Hit}
 use Rattle.stk_meaning.specs.Findings.{Subject, IsGivenUp, IsMinimal, no_more, member, open_member, no_member, IsLawful}
 use Rattle.stk_hits.specs.PathSubjects.{path_subject}
 use Rattle.stk_hits.proofs.Agreeing.{Agrees, lawful}
-use Rattle.stk_spent_queries.specs.Marks.{open_count, marks, AreCounted}
-use Rattle.stk_spent_queries.proofs.Counting.{counted_none}
+use Rattle.stk_spent_queries.specs.Marks.{open_count, marks}
 use Rattle.stk_findings.specs.Searched.{searched_subject}
 
 -- ---- lawful
@@ -47,15 +46,11 @@ module _ (q : Subject) (all : q.tries_all ≡ true) where
   none_open c (open_member m g) = absurd (none_given_up c _ g)
   none_open c (no_member m never) = none_open c m
 
-  none_marked : (c : Candidate) (x : Finding) → IsLawful q c x → marks x ≡ 0
+  pub none_marked : (c : Candidate) (x : Finding) → IsLawful q c x → marks x ≡ 0
   none_marked c Clear h = refl
   none_marked c (Unstable start needs) h = none_open c h.minimal
   none_marked c (Undecided Free) h = absurd (none_given_up c q.conditions h)
   none_marked c (Undecided Hit) h = absurd (none_given_up c [] h.given_up)
-
-  -- no mark is told by any count
-  pub uncounted : (n : ℕ) (c : Candidate) (x : Finding) → IsLawful q c x → AreCounted n n (marks x)
-  uncounted n c x h = subst (AreCounted n n) (sym (none_marked c x h)) (counted_none n n (omega arith))
 
 -- what is known of a value is known of it otherwise
 pub weaker : {A E : Type 0} (r : Result A E) (P Q : A → Type 0) → ((x : A) → P x → Q x) → IfOk r P → IfOk r Q

@@ -89,12 +89,13 @@ fn is_among(places: &[usize], place: usize) -> bool
     places.contains(&place)
 }
 
-/// What is remembered of the questions of a function: the places of goals that no inputs make 1, and how many cut goals
-/// in a row didn't tell.
+/// What is remembered of the questions of a function: the places of goals that no inputs make 1, how many cut goals in a
+/// row didn't tell, and how many goals were left to the decider itself.
 #[derive(Drop)]
 pub(crate) struct Asked {
     pub(crate) nevers: Vec<usize>,
     pub(crate) misses: u32,
+    pub(crate) left: u32,
 }
 
 /// How many clauses a search may learn for a cut goal.
@@ -167,6 +168,7 @@ pub(crate) fn answered<D: Decider>(
         asked.nevers.push(place)?;
         return Ok(QueryAnswer::Never);
     }
+    asked.left = asked.left.saturating_add(1);
     let answer = decided(alloc, goal, decider, budget)?;
     if is_never(&answer) {
         asked.nevers.push(place)?;

@@ -95,8 +95,14 @@ impl<'a> FunctionGoals<'a> {
             asked: Asked {
                 nevers: Vec::new(alloc),
                 misses: 0,
+                left: 0,
             },
         })
+    }
+
+    /// How many goals were left to a decider, after what is quicker didn't decide them.
+    pub(crate) fn left(&self) -> u32 {
+        self.asked.left
     }
 
     /// Whether some valid input map's path run hits the candidate of the query free of its set. The candidate stands

@@ -1,5 +1,5 @@
-//! The findings of a function, one candidate after the other, whatever the number of its input bits; those of a
-//! function of more than 16 by the goals of its queries, which are asked of a decider.
+//! The findings of a function, one candidate after the other, whatever the number of its input bits: by the goals of its
+//! queries, which are asked of a decider, and of at most 16 input bits by the runs of all input maps too.
 #![tactic(auto)]
 
 mod asking;
@@ -10,7 +10,7 @@ mod numbers;
 mod queries;
 mod questions;
 
-pub use by_maps::all_maps;
+pub use by_maps::SiftedMaps;
 pub use goals::FunctionGoals;
 pub use judge::{Judge, SearchedFunction};
 pub use queries::Queries;

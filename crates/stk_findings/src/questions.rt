@@ -28,6 +28,11 @@ impl<'a> FunctionQuestions<'a> {
     {
         FunctionQuestions { goals, budget }
     }
+
+    /// How many questions were left to a decider, after what is quicker didn't answer them.
+    pub(crate) fn left(&self) -> u32 {
+        self.goals.left()
+    }
 }
 
 impl<'a> Questions for FunctionQuestions<'a> {

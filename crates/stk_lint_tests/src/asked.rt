@@ -52,7 +52,7 @@ struct Row {
     given_up: u64,
 }
 
-static ROWS: [Row; 6] = [
+static ROWS: [Row; 7] = [
     // Known starts hit each of thirty candidates with nothing violated before.
     Row {
         words: &[],
@@ -77,12 +77,21 @@ static ROWS: [Row; 6] = [
         asked: 1,
         given_up: 0,
     },
-    // Of a function of 16 input bits all maps are known, and nothing is asked.
+    // A function of 16 input bits whose candidates are clear: one question finds that no run hits two of them.
+    Row {
+        words: &[],
+        input: "int f(unsigned char a, unsigned char b) { if (a / (b + 1) == 300) return a; return b; }",
+        status: Status::Stable,
+        asked: 1,
+        given_up: 0,
+    },
+    // The same with a report behind clear candidates: one question shows that there is one, and then all maps are known,
+    // and nothing is asked.
     Row {
         words: &[],
         input: "int f(unsigned char a, unsigned char b) { int c = a / b; if (b == 0) return 1; return c; }",
         status: Status::Found,
-        asked: 0,
+        asked: 1,
         given_up: 0,
     },
     // Two candidates that no known start hits, of a function without conditions: the guess is the free query, which is

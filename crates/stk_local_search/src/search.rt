@@ -8,7 +8,7 @@ use crate::inverse::inverse;
 use crate::targets::{Operand, Targets, Wish};
 use std::alloc::Global;
 use stk_base::{List, NoMemory};
-use stk_terms::{Residues, TermId, TermOp, Terms, number_with, order_of};
+use stk_terms::{Residues, TermId, TermOp, Terms, number_with};
 
 /// How many maps are tried at most.
 const MOST_ROUNDS: u32 = 12;
@@ -154,7 +154,7 @@ pub fn likely_residues(
 {
     // For the prover: there are at most as many terms as a usize counts.
     let _count = terms.count();
-    let order = order_of(alloc, terms, goal)?;
+    let order = terms.order(goal)?;
     let mut numbers = vec![in alloc; 0u128; goal.0 + 1]?;
     let mut targets = vec![in alloc; None; goal.0 + 1]?;
     let mut residues = vec![in alloc; 0u64; terms.widths().len()]?;

@@ -8,7 +8,7 @@ ghost use Rattle.stk_goal_clauses.specs.Laws.{IsNever};
 ghost use Rattle.stk_query.specs.Verdicts.{is_undecided, is_no, IsVerdict, one_more};
 
 use crate::enumerate::{are_few, tried};
-use crate::searching::searched;
+use crate::searching::{is_refuted, searched};
 use crate::spent::SpentSearch;
 use crate::{Decider, MOST_BUDGET, Verdict};
 use std::alloc::Global;
@@ -16,8 +16,8 @@ use std::marker::Model;
 use stk_base::NoMemory;
 use stk_terms::{TermId, Terms};
 
-/// A decider that tries all inputs of at most 16 bits, and else searches by learning from conflicts. Contracts see it
-/// as how many goals it gave up, which stops at the last value of a u64.
+/// A decider that tries all inputs of at most 16 bits, unless a short search shows that none will do, and else searches
+/// by learning from conflicts. Contracts see it as how many goals it gave up, which stops at the last value of a u64.
 ///
 /// It remembers the last search that spent its budget, since candidates often come in pairs with one goal.
 #[derive(Drop)]
@@ -79,6 +79,9 @@ impl Decider for Cdcl {
         ensures kept { OnErr result (self.new ≡ self.old) }
     {
         if are_few(terms) {
+            if is_refuted(self.alloc, terms, goal, budget)? {
+                return Ok(Verdict::Tried);
+            }
             let verdict = tried(self.alloc, terms, goal)?;
             return Ok(verdict);
         }

@@ -1,12 +1,12 @@
 // Goals that become clauses.
-ghost use Rattle.std.specs.Prelude.{◌≡◌, ◌+◌, ◌<◌, ◌≤◌, ◌^◌, false, length, sum, slice_index_or, IfOk, IfSome, MatchOption};
+ghost use Rattle.std.specs.Prelude.{◌≡◌, ◌+◌, ◌<◌, ◌≤◌, ◌^◌, false, true, length, sum, slice_index_or, IfOk, IfSome, MatchOption};
 ghost use Rattle.std.specs.List.{All};
 ghost use Rattle.stk_clauses.specs.Literals.{AreBelow, Satisfies};
 ghost use Rattle.stk_clauses.specs.Derivations.{IsRefutation};
 ghost use Rattle.stk_terms.specs.Values.{width_at};
 ghost use Rattle.stk_terms.specs.Cost.{cost};
 ghost use Rattle.stk_goal_clauses.specs.Standing.{StandsForGoal};
-ghost use Rattle.stk_goal_clauses.specs.Laws.{MakesOne};
+ghost use Rattle.stk_goal_clauses.specs.Laws.{MakesOne, IsNever};
 ghost use Rattle.stk_query.specs.Spent.{IsSpent};
 ghost use Rattle.stk_query.specs.Verdicts.{IsVerdict};
 
@@ -18,7 +18,7 @@ use stk_check::check;
 use stk_clauses::{Cnf, Derivation};
 use stk_goal_clauses::{clauses_for, residues_from};
 use stk_solver::{Answer, solve};
-use stk_terms::{Residues, TermId, Terms};
+use stk_terms::{Residues, TermId, Terms, input_bits};
 
 /// The inputs that values which satisfy the clauses of a goal are.
 fn start_of(
@@ -55,6 +55,40 @@ fn accepted(
         Ok(Some(derivation))
     } else {
         Ok(None)
+    }
+}
+
+// Of inputs of so many bits or fewer all are tried at once.
+const QUICK_BITS: u32 = 12;
+
+// How many clauses a search may learn in front of a trial of all inputs.
+const FEW_CLAUSES: u32 = 50;
+
+/// Whether a short search refutes the clauses of a goal, so that no inputs make it 1. Where inputs have so few bits that
+/// trying all of them takes no longer, nothing is searched.
+pub(crate) fn is_refuted(
+    alloc: Global,
+    terms: &Terms,
+    goal: TermId,
+    budget: u32,
+) -> Result<bool, NoMemory>
+    requires exists { goal.0 < length terms.now.terms }
+    requires one { width_at terms.now goal.0 ≡ 1 }
+    requires most { budget ≤ MOST_BUDGET }
+    requires room { sum terms.now.inputs + cost terms.now goal.0 < 2 ^ 29 }
+    ensures { IfOk result (λ b. b ≡ true → IsNever terms.now goal.0) }
+{
+    if input_bits(terms) <= QUICK_BITS {
+        return Ok(false);
+    }
+    let cnf = clauses_for(alloc, terms, goal)?;
+    let answer = solve(alloc, &cnf, budget.min(FEW_CLAUSES))?;
+    match answer {
+        Answer::Refuted(derivation) => {
+            let found = accepted(alloc, &cnf, derivation)?;
+            Ok(found.is_some())
+        }
+        Answer::Satisfied(_) | Answer::Spent(_) => Ok(false),
     }
 }
 

@@ -8,7 +8,7 @@ use stk_terms::Residues;
 pub enum Verdict {
     /// These inputs make the goal 1.
     Satisfied(Residues),
-    /// All inputs were tried, and none make it 1.
+    /// The inputs have at most 16 bits, and none make it 1.
     Tried,
     /// No inputs make it 1: the derivation refutes clauses that stand for it.
     Refuted(Cnf, Derivation),

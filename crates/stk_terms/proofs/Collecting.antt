@@ -9,10 +9,21 @@ use Rattle.std.proofs.lemmas.Bool.{eqb-true, eq-eqb, ltb-true, ltb-false}
 use Rattle.stk_terms.specs.declared.term.TermId.{TermId}
 use Rattle.stk_terms.specs.Terms.{Stored, term_at, nth, child}
 use Rattle.stk_terms.specs.Fitting.{IsSound}
-use Rattle.stk_terms.specs.Orders.{HasBefore, HasPlace, IsOrder, Rises, AreParts, AreWaiting, is_among}
+use Rattle.stk_terms.specs.Orders.{HasBefore, HasPlace, IsOrder, Rises, AreParts, is_among}
 use Rattle.stk_terms.specs.Parts.{IsPart, Whole, Within}
 use Rattle.stk_terms.proofs.Parting.{or_first, or_second, or_cases, goes_on, part_below}
 use Rattle.stk_terms.proofs.Reading.{child_below}
+
+-- parts of the term i are in the list in ascending order, and others wait, below those in the list: i is one of them,
+-- with each part in the list so are its arguments, and each of the turns left takes one at most
+pub record AreWaiting (s : Stored) (i turn : ℕ) (waits : ℕ → Bool) (ps : List ℕ) : Type 0 where
+  pub low : (j : ℕ) → waits j ≡ true → j + turn ≤ i
+  pub waiting : (j : ℕ) → waits j ≡ true → IsPart s j i
+  pub below : (j k : ℕ) → waits j ≡ true → k < length ps → j < get_or ps k 0
+  pub rise : Rises ps
+  pub only : (j : ℕ) → HasPlace ps j → IsPart s j i
+  pub goes_on : (j k : ℕ) → HasPlace ps j → k < length (term_at s j).args → (waits (child s j k) ≡ true) ⊎ HasPlace ps (child s j k)
+  pub has : (waits i ≡ true) ⊎ HasPlace ps i
 
 false_or : (b : Bool) → b ≡ false → b ≡ true → ⊥
 false_or b h k = cc

@@ -1,5 +1,5 @@
 -- Terms in a row, each behind its arguments.
-use Rattle.std.specs.Prelude.{◌≡◌, ◌⊎◌, ℕ, ◌+◌, ◌<◌, ◌≤◌, Bool, true, List, length, get_or, nat_eq}
+use Rattle.std.specs.Prelude.{◌≡◌, ℕ, ◌<◌, ◌≤◌, Bool, List, length, get_or, nat_eq}
 use Rattle.std.specs.List.{list_any}
 use Rattle.stk_terms.specs.declared.term.TermId.{TermId}
 use Rattle.stk_terms.specs.Terms.{Stored, term_at, child}
@@ -35,17 +35,6 @@ pub record AreParts (s : Stored) (i : ℕ) (ps : List ℕ) : Type 0 where
 -- whether j is the place of one of the arguments
 abbrev pub is_among : List TermId → ℕ → Bool
 is_among args j = list_any (λ a. nat_eq a.0 j) args
-
--- parts of the term i are in the list in ascending order, and others wait, below those in the list: i is one of them,
--- with each part in the list so are its arguments, and each of the turns left takes one at most
-pub record AreWaiting (s : Stored) (i turn : ℕ) (waits : ℕ → Bool) (ps : List ℕ) : Type 0 where
-  pub low : (j : ℕ) → waits j ≡ true → j + turn ≤ i
-  pub waiting : (j : ℕ) → waits j ≡ true → IsPart s j i
-  pub below : (j k : ℕ) → waits j ≡ true → k < length ps → j < get_or ps k 0
-  pub rise : Rises ps
-  pub only : (j : ℕ) → HasPlace ps j → IsPart s j i
-  pub goes_on : (j k : ℕ) → HasPlace ps j → k < length (term_at s j).args → (waits (child s j k) ≡ true) ⊎ HasPlace ps (child s j k)
-  pub has : (waits i ≡ true) ⊎ HasPlace ps i
 
 -- the numbers of the terms at the first n places of the list stand at these places
 abbrev pub AreNumbers : Stored → List ℕ → List ℕ → ℕ → List ℕ → Type 0

@@ -5,7 +5,6 @@ ghost use Rattle.stk_terms.specs.Values.{number_at};
 ghost use Rattle.stk_terms.specs.Ordered.{bits_in, residues_at, IsFirst};
 ghost use Rattle.stk_terms.specs.Orders.{IsOrder, HasPlace};
 
-use crate::order::order_of;
 use crate::{Residues, TermId, Terms};
 use std::alloc::Global;
 use stk_base::{List, NoMemory};
@@ -123,7 +122,7 @@ pub fn first_that(alloc: Global, terms: &Terms, goal: TermId) -> Result<Option<R
 {
     // For the prover: there are at most as many terms as a usize counts.
     let _count = terms.count();
-    let order = order_of(alloc, terms, goal)?;
+    let order = terms.order(goal)?;
     let mut numbers = vec![in alloc; 0u128; goal.0 + 1]?;
     let mut residues = Vec::with_capacity(alloc, terms.widths().len())?;
     if is_found(terms, goal, &order, &mut numbers, &mut residues)? {

@@ -15,6 +15,6 @@ mod term;
 pub use enumerate::{first_that, input_bits, number_with};
 pub use enumerate_laws::each_has_its_number;
 pub use operators::apply;
-pub use order::{index_in, order_of};
+pub use order::index_in;
 pub use table::{Residues, Terms};
 pub use term::{TermId, TermOp};

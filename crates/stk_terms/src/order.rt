@@ -42,7 +42,7 @@ fn parts_down(alloc: Global, terms: &Terms, id: TermId) -> Result<Vec<usize>, No
 
 /// The places of a term's parts, its own among them, in ascending order, so that each is behind those of its
 /// arguments. It goes over the parts alone.
-pub fn order_of(alloc: Global, terms: &Terms, id: TermId) -> Result<Vec<usize>, NoMemory>
+pub(crate) fn order_of(alloc: Global, terms: &Terms, id: TermId) -> Result<Vec<usize>, NoMemory>
     requires { id.0 < length terms.now.terms }
     ensures order { IfOk result (λ r. IsOrder terms.now (id.0 + 1) r.items) }
     ensures has { IfOk result (λ r. HasPlace r.items id.0) }

@@ -21,7 +21,7 @@ use crate::LintedFile;
 use crate::lines::{Told, write_finding};
 use stk_base::Sink;
 use stk_cands::{candidates, conditions};
-use stk_findings::{FunctionTables, Judge, Queries, SearchedFunction, all_maps};
+use stk_findings::{FunctionTables, Judge, Queries, SearchedFunction, SiftedMaps};
 use stk_function_env::Setting;
 use stk_function_types::function_visits;
 use stk_query::{Decider, MOST_BUDGET};
@@ -82,7 +82,7 @@ fn write_searched<K: Sink, D: Decider>(
         return Ok(one_function());
     }
     if searched.is_narrow() {
-        let mut judge = all_maps(file.alloc, searched)?;
+        let mut judge = SiftedMaps::new(file.alloc, searched)?;
         return write_findings(file, told, searched, &mut judge, out, decider);
     }
     let mut judge = Queries::new(file.alloc, searched)?;

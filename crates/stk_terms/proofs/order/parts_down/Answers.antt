@@ -5,9 +5,8 @@ use Rattle.std.specs.List.{list_any}
 use Rattle.std.specs.Ordering.{nat_cmp}
 use Rattle.std.proofs.lemmas.List.{reverse-append}
 use Rattle.stk_terms.specs.Terms.{term_at}
-use Rattle.stk_terms.specs.Orders.{AreWaiting}
 use Rattle.stk_terms.proofs.Reading.{there}
-use Rattle.stk_terms.proofs.Collecting.{begins, goes_down, ends, ends_late, none_wait}
+use Rattle.stk_terms.proofs.Collecting.{AreWaiting, begins, goes_down, ends, ends_late, none_wait}
 use Rattle.stk_terms.proofs.order.parts_down.Goals as goal
 
 pub loop-turn-init : goal.loop-turn-init

@@ -1,7 +1,7 @@
 use Rattle.std.proofs.Common.{reverse}
 use Rattle.std.specs.BTreeSet.{contains}
 use Rattle.std.specs.Ordering.{nat_cmp}
-use Rattle.stk_terms.specs.Orders.{AreWaiting}
+use Rattle.stk_terms.proofs.Collecting.{AreWaiting}
 use Rattle.stk_terms.proofs.order.parts_down.Given as goal
 
 -- the parts so far, and those that wait

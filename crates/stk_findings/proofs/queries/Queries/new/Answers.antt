@@ -1,11 +1,8 @@
-use Rattle.std.proofs.Common.{sym, subst}
-use Rattle.stk_tree.specs.Syntax.{FunctionTree}
-use Rattle.stk_tree.specs.View.{view_function}
-use Rattle.stk_goals.specs.Rows.{Tables}
-use Rattle.stk_goals.specs.FunctionTables.{AreTablesOf}
+use Rattle.stk_findings.specs.Telling.{CanAsk, CanTellByQueries}
+use Rattle.stk_findings.proofs.Narrow.{weaker}
 use Rattle.stk_findings.proofs.queries.Queries.new.Goals as goal
 
-pub begin-requires : goal.begin-requires
-begin-requires c =
-    subst (λ (t : Tables). AreTablesOf (view_function c.new-function.result.f.now) t) (sym c.new-function.ensures.tables)
-    (subst (λ (f : FunctionTree). AreTablesOf f c.args.searched.now.tables.now) (sym c.new-function.ensures.f) c.requires.known.typed.tables)
+pub returns : goal.returns
+returns c =
+    let s = c.args.searched.now in
+    weaker c.begun.result (λ q. CanAsk q s) (λ q. CanTellByQueries q s) (λ q h. record { wide = c.requires.wide; asks = h }) c.begun.ensures
