@@ -9,11 +9,12 @@ ghost use Rattle.stk_query.specs.Verdicts.{is_undecided, is_no, IsVerdict, one_m
 
 use crate::enumerate::{are_few, tried};
 use crate::searching::{is_refuted, searched};
-use crate::spent::SpentSearch;
+use crate::spent::{SpentSearch, log_of};
 use crate::{Decider, MOST_BUDGET, Verdict};
 use std::alloc::Global;
 use std::marker::Model;
 use stk_base::NoMemory;
+use stk_goal_clauses::clauses_for;
 use stk_terms::{TermId, Terms};
 
 /// A decider that tries all inputs of at most 16 bits, unless a short search shows that none will do, and else searches
@@ -56,6 +57,28 @@ impl Cdcl {
     {
         self.given_up
     }
+
+    // The verdict on a goal whose inputs have more than 16 bits. Clauses that are those of the last search which spent
+    // this budget aren't searched again: they have the same log. What can't be remembered for want of memory isn't.
+    fn verdict_on(&mut self, terms: &Terms, goal: TermId, budget: u32) -> Result<Verdict, NoMemory>
+        requires exists { goal.0 < length terms.now.terms }
+        requires one { width_at terms.now goal.0 ≡ 1 }
+        requires most { budget ≤ MOST_BUDGET }
+        requires room { sum terms.now.inputs + cost terms.now goal.0 < 2 ^ 29 }
+        requires wide { 16 < sum terms.now.inputs }
+        ensures verdict { IfOk result (IsVerdict terms.now goal.0 budget) }
+        ensures kept { self.new ≡ self.old }
+    {
+        let cnf = clauses_for(self.alloc, terms, goal)?;
+        if let Some(log) = log_of(self.alloc, &self.last, &cnf, budget)? {
+            return Ok(Verdict::Undecided(cnf, log));
+        }
+        let verdict = searched(self.alloc, terms, goal, cnf, budget)?;
+        if let Verdict::Undecided(cnf, log) = &verdict {
+            self.last = SpentSearch::new(self.alloc, cnf, budget, log).ok();
+        }
+        Ok(verdict)
+    }
 }
 
 impl Decider for Cdcl {
@@ -85,10 +108,8 @@ impl Decider for Cdcl {
             let verdict = tried(self.alloc, terms, goal)?;
             return Ok(verdict);
         }
-        let verdict = searched(self.alloc, terms, goal, budget, &self.last)?;
-        if let Verdict::Undecided(cnf, log) = &verdict {
-            let search = SpentSearch::new(self.alloc, cnf, budget, log)?;
-            self.last = Some(search);
+        let verdict = self.verdict_on(terms, goal, budget)?;
+        if let Verdict::Undecided(..) = &verdict {
             self.given_up = self.given_up.saturating_add(1);
         }
         Ok(verdict)

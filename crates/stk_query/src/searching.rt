@@ -1,16 +1,14 @@
 // Goals that become clauses.
-ghost use Rattle.std.specs.Prelude.{◌≡◌, ◌+◌, ◌<◌, ◌≤◌, ◌^◌, false, true, length, sum, slice_index_or, IfOk, IfSome, MatchOption};
+ghost use Rattle.std.specs.Prelude.{◌≡◌, ◌+◌, ◌<◌, ◌≤◌, ◌^◌, false, true, length, sum, slice_index_or, IfOk, MatchOption};
 ghost use Rattle.std.specs.List.{All};
 ghost use Rattle.stk_clauses.specs.Literals.{AreBelow, Satisfies};
 ghost use Rattle.stk_clauses.specs.Derivations.{IsRefutation};
 ghost use Rattle.stk_terms.specs.Values.{width_at};
 ghost use Rattle.stk_terms.specs.Cost.{cost};
-ghost use Rattle.stk_goal_clauses.specs.Standing.{StandsForGoal};
+ghost use Rattle.stk_goal_clauses.specs.Standing.{StandsForGoal, IsWithinBound};
 ghost use Rattle.stk_goal_clauses.specs.Laws.{MakesOne, IsNever};
-ghost use Rattle.stk_query.specs.Spent.{IsSpent};
 ghost use Rattle.stk_query.specs.Verdicts.{IsVerdict};
 
-use crate::spent::{SpentSearch, log_of};
 use crate::{MOST_BUDGET, Verdict};
 use std::alloc::Global;
 use stk_base::{Bits, NoMemory};
@@ -92,28 +90,23 @@ pub(crate) fn is_refuted(
     }
 }
 
-/// The verdict on a goal whose inputs have more than 16 bits: its clauses are searched, and a refutation is passed to
-/// `check` before it is answered. Clauses that are those of the last search which spent this budget aren't searched
-/// again: they have the same log.
+/// The verdict on a goal whose inputs have more than 16 bits, by a search of clauses that stand for it: a refutation is
+/// passed to `check` before it is answered.
 pub(crate) fn searched(
     alloc: Global,
     terms: &Terms,
     goal: TermId,
+    cnf: Cnf,
     budget: u32,
-    last: &Option<SpentSearch>,
 ) -> Result<Verdict, NoMemory>
     requires exists { goal.0 < length terms.now.terms }
-    requires one { width_at terms.now goal.0 ≡ 1 }
     requires most { budget ≤ MOST_BUDGET }
     requires room { sum terms.now.inputs + cost terms.now goal.0 < 2 ^ 29 }
     requires wide { 16 < sum terms.now.inputs }
-    requires last { IfSome last.now IsSpent }
+    requires stands { StandsForGoal terms.now goal.0 cnf }
+    requires within { IsWithinBound terms.now goal.0 cnf }
     ensures { IfOk result (IsVerdict terms.now goal.0 budget) }
 {
-    let cnf = clauses_for(alloc, terms, goal)?;
-    if let Some(log) = log_of(alloc, last, &cnf, budget)? {
-        return Ok(Verdict::Undecided(cnf, log));
-    }
     match solve(alloc, &cnf, budget)? {
         Answer::Satisfied(values) => {
             let residues = start_of(alloc, terms, goal, &cnf, &values)?;
