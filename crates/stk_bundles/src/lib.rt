@@ -8,4 +8,3 @@ mod functions;
 mod units;
 
 pub use bundle::{BundledFile, write_bundle};
-pub use units::write_unit_part;

@@ -81,7 +81,7 @@ impl<K: Sink, D: Decider> UnitVisitor<K, D> for ClaimVisitor {
 /// A claim is written before the next candidate is judged, which no clause says. Where the writing stops, the sink took
 /// nothing, or some prefix of the claims of the function's first candidates. `WriteFault` comes only where the sink
 /// counted a fault; the only other refusal is want of memory.
-pub fn write_unit_part<K: Sink, D: Decider>(
+pub(crate) fn write_unit_part<K: Sink, D: Decider>(
     unit: &VisitedUnit,
     names: &mut Names,
     budget: u32,

@@ -85,7 +85,7 @@ fn decided<D: Decider>(
 /// of it: in a function of at most 16 input bits, that all maps were tried. Else the claim's own goal is asked of the
 /// decider, and its answer is a clause list that stands for it with a derivation that refutes this, or that it was
 /// given up, as the decider counts. The only refusal is want of memory.
-pub fn closing_of<D: Decider>(
+pub(crate) fn closing_of<D: Decider>(
     function: &ClaimedFunction,
     report: &Report,
     decider: &mut D,

@@ -6,7 +6,7 @@ mod function;
 mod parts;
 mod writing;
 
-pub use closing::{Closing, closing_of};
+pub use closing::Closing;
 pub use function::{ClaimedFunction, Report, ToldFinding};
 pub use stk_goals::kinds_of;
 pub use writing::{write_finding_parts, write_lines};

@@ -15,5 +15,5 @@ mod symbols;
 mod tags;
 mod units;
 
-pub use symbols::{SymbolSort, sort_of};
+pub use symbols::SymbolSort;
 pub use units::declare;

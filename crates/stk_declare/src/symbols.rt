@@ -58,7 +58,7 @@ fn sort_by_tail(t: &Tailed, ty: &CType) -> SymbolSort
 
 /// What a declarator declares, behind a storage word, with what follows its name and the type that its base and stars
 /// name.
-pub fn sort_of(word: Option<Storage>, t: &Tailed, ty: &CType) -> SymbolSort
+pub(crate) fn sort_of(word: Option<Storage>, t: &Tailed, ty: &CType) -> SymbolSort
     ensures { (s : TailShape) → IsShape s t.now → result ≡ sort_of word s (type_of ty.now) }
 {
     match word {
