@@ -1,291 +1,263 @@
 //! Texts with their tokens and places, worked out by hand from the classes and the line markers.
-use std::test::Fail;
-use stk_base::{Class, Place, Span};
-use stk_lex::{Places, Token, lex, place};
+ghost use Rattle.std.specs.Prelude.{◌≤◌, length};
 
-const W: Class = Class::Word;
+use crate::reading_texts::tokens;
+use crate::tables::{BEFORE, Says, add, add_number, add_span, check};
+use std::alloc::Global;
+use stk_base::{Class, MOST_BYTES, Place};
+use stk_lex::{Places, Token, place};
 
-const N: Class = Class::Number;
+// Each text, with the class, the beginning and the end of each of its tokens: W is a word, N a number, C a character,
+// T a text, M a punctuator, S a stray byte or an open quote.
+static TABLE: &str = "
+| -- white space, words and numbers
+| =>
+| \x20\t\n\r\x0b\x0c =>
+| int_9 _x => W0-5 W6-8
+| 9x_y => N0-4
+| .5 => N0-2
+| ..5 => M0-1 N1-3
+| a.5.b => W0-1 N1-5
+| 0x1e+2 => N0-6
+| 1e+ => N0-3
+| 1e+-2 => N0-3 M3-4 N4-5
+| 0x1.p-4P+ => N0-9
+| 1f+2 => N0-2 M2-3 N3-4
+| x+++y 0x1e+2 'a => W0-1 M1-3 M3-4 W4-5 N6-12 S13-15
+| a\r\nb\r\n => W0-1 W3-4
+| -- characters, texts and open quotes
+| L'a' => C0-4
+| u'b'U'c' => C0-4 C4-8
+| u8\"x\" => T0-5
+| u8'x' => W0-2 C2-5
+| U\"x\"u\"\" => T0-4 T4-7
+| uL\"a\" => W0-2 T2-5
+| L 'a' => W0-1 C2-5
+| L\"a => W0-1 S1-3
+| ' => S0-1
+| '' => C0-2
+| '\\'' => C0-4
+| '\\ => S0-2
+| '\\' => S0-3
+| \"a\\\"b\" => T0-6
+| \"\\\\\"x => T0-4 W4-5
+| \"a\nb\" => S0-2 W3-4 S4-5
+| \"\\\n\" => S0-2 S3-4
+| 'a\r\nb => S0-3 W4-5
+| 'a\"b' \"it's\" => C0-5 T6-12
+| '/*\n*/ => S0-3 M4-5 M5-6
+| -- punctuators, digraphs and other bytes
+| >>= => M0-3
+| <<=<<< => M0-3 M3-5 M5-6
+| ... => M0-3
+| .. => M0-1 M1-2
+| .... => M0-3 M3-4
+| ->- => M0-2 M2-3
+| ->* => M0-2 M2-3
+| !==&&& => M0-2 M2-3 M3-5 M5-6
+| [a](b){} => M0-1 W1-2 M2-3 M3-4 W4-5 M5-6 M6-7 M7-8
+| %:%: => S0-4
+| %:% => S0-2 M2-3
+| <: => S0-2
+| <:: => S0-2 M2-3
+| <::> => S0-2 S2-4
+| <%%>%= => S0-2 S2-4 M4-6
+| @ => S0-1
+| a$b => W0-1 S1-2 W2-3
+| \\ => S0-1
+| \0` => S0-1 S1-2
+| -- comments
+| a/*b*/c => W0-1 W6-7
+| /**/ =>
+| /***/x => W5-6
+| /*/ => S0-3
+| /*/ */x => W6-7
+| a /* b\nc => W0-1 S2-8
+| a// => W0-1
+| a // b\nc => W0-1 W7-8
+| // /*\nx => W6-7
+| /* \"*/ \"x\" => T7-10
+| \"/*\"x*/ => T0-4 W4-5 M5-6 M6-7
+| /*\n# 1\n*/x => W9-10
+| -- directive lines
+| # =>
+| # 3 \"f.c\"\nint => W10-13
+| \x20\t\r\x0b\x0c# x\ny => W9-10
+| /* */ # 1 => S6-7 N8-9
+| a # x\nb => W0-1 S2-3 W4-5 W6-7
+| x##y => W0-1 S1-2 S2-3 W3-4
+| # /* x\ny */ => W7-8 M9-10 M10-11
+| #define A \\\nb => W12-13";
 
-const C: Class = Class::Character;
+/// The letter of a class, with a blank before it.
+fn letter(class: Class) -> &'static [u8] {
+    match class {
+        Class::Word => b" W",
+        Class::Number => b" N",
+        Class::Character => b" C",
+        Class::Text => b" T",
+        Class::Punctuator => b" M",
+        Class::Stray => b" S",
+    }
+}
 
-const T: Class = Class::Text;
+struct Tokens;
 
-const M: Class = Class::Punctuator;
+impl Says for Tokens {
+    fn say(alloc: Global, text: &str, out: &mut Vec<u8>) {
+        add_cut(alloc, text.as_bytes(), out)
+    }
+}
 
-const S: Class = Class::Stray;
+/// Adds the tokens of a text.
+fn add_cut(alloc: Global, text: &[u8], out: &mut Vec<u8>) {
+    match tokens(alloc, text) {
+        Ok(tokens) => add_tokens(tokens.as_slice(), out),
+        Err(_) => add(out, b" no memory"),
+    }
+}
 
-type Row = (&'static [u8], &'static [(Class, u32, u32)]);
-
-// Each text, with the class, the beginning and the end of each of its tokens.
-static TABLE: [Row; 74] = [
-    // white space, words and numbers
-    (b"", &[]),
-    (b" \t\n\r\x0b\x0c", &[]),
-    (b"int_9 _x", &[(W, 0, 5), (W, 6, 8)]),
-    (b"9x_y", &[(N, 0, 4)]),
-    (b".5", &[(N, 0, 2)]),
-    (b"..5", &[(M, 0, 1), (N, 1, 3)]),
-    (b"a.5.b", &[(W, 0, 1), (N, 1, 5)]),
-    (b"0x1e+2", &[(N, 0, 6)]),
-    (b"1e+", &[(N, 0, 3)]),
-    (b"1e+-2", &[(N, 0, 3), (M, 3, 4), (N, 4, 5)]),
-    (b"0x1.p-4P+", &[(N, 0, 9)]),
-    (b"1f+2", &[(N, 0, 2), (M, 2, 3), (N, 3, 4)]),
-    (
-        b"x+++y 0x1e+2 'a",
-        &[
-            (W, 0, 1),
-            (M, 1, 3),
-            (M, 3, 4),
-            (W, 4, 5),
-            (N, 6, 12),
-            (S, 13, 15),
-        ],
-    ),
-    (b"a\r\nb\r\n", &[(W, 0, 1), (W, 3, 4)]),
-    // characters, texts and open quotes
-    (b"L'a'", &[(C, 0, 4)]),
-    (b"u'b'U'c'", &[(C, 0, 4), (C, 4, 8)]),
-    (b"u8\"x\"", &[(T, 0, 5)]),
-    (b"u8'x'", &[(W, 0, 2), (C, 2, 5)]),
-    (b"U\"x\"u\"\"", &[(T, 0, 4), (T, 4, 7)]),
-    (b"uL\"a\"", &[(W, 0, 2), (T, 2, 5)]),
-    (b"L 'a'", &[(W, 0, 1), (C, 2, 5)]),
-    (b"L\"a", &[(W, 0, 1), (S, 1, 3)]),
-    (b"'", &[(S, 0, 1)]),
-    (b"''", &[(C, 0, 2)]),
-    (b"'\\''", &[(C, 0, 4)]),
-    (b"'\\", &[(S, 0, 2)]),
-    (b"'\\'", &[(S, 0, 3)]),
-    (b"\"a\\\"b\"", &[(T, 0, 6)]),
-    (b"\"\\\\\"x", &[(T, 0, 4), (W, 4, 5)]),
-    (b"\"a\nb\"", &[(S, 0, 2), (W, 3, 4), (S, 4, 5)]),
-    (b"\"\\\n\"", &[(S, 0, 2), (S, 3, 4)]),
-    (b"'a\r\nb", &[(S, 0, 3), (W, 4, 5)]),
-    (b"'a\"b' \"it's\"", &[(C, 0, 5), (T, 6, 12)]),
-    (b"'/*\n*/", &[(S, 0, 3), (M, 4, 5), (M, 5, 6)]),
-    // punctuators, digraphs and other bytes
-    (b">>=", &[(M, 0, 3)]),
-    (b"<<=<<<", &[(M, 0, 3), (M, 3, 5), (M, 5, 6)]),
-    (b"...", &[(M, 0, 3)]),
-    (b"..", &[(M, 0, 1), (M, 1, 2)]),
-    (b"....", &[(M, 0, 3), (M, 3, 4)]),
-    (b"->-", &[(M, 0, 2), (M, 2, 3)]),
-    (b"->*", &[(M, 0, 2), (M, 2, 3)]),
-    (b"!==&&&", &[(M, 0, 2), (M, 2, 3), (M, 3, 5), (M, 5, 6)]),
-    (
-        b"[a](b){}",
-        &[
-            (M, 0, 1),
-            (W, 1, 2),
-            (M, 2, 3),
-            (M, 3, 4),
-            (W, 4, 5),
-            (M, 5, 6),
-            (M, 6, 7),
-            (M, 7, 8),
-        ],
-    ),
-    (b"%:%:", &[(S, 0, 4)]),
-    (b"%:%", &[(S, 0, 2), (M, 2, 3)]),
-    (b"<:", &[(S, 0, 2)]),
-    (b"<::", &[(S, 0, 2), (M, 2, 3)]),
-    (b"<::>", &[(S, 0, 2), (S, 2, 4)]),
-    (b"<%%>%=", &[(S, 0, 2), (S, 2, 4), (M, 4, 6)]),
-    (b"@", &[(S, 0, 1)]),
-    (b"a$b", &[(W, 0, 1), (S, 1, 2), (W, 2, 3)]),
-    (b"\\", &[(S, 0, 1)]),
-    (b"\0`", &[(S, 0, 1), (S, 1, 2)]),
-    (b"\x80\xc3\xff", &[(S, 0, 1), (S, 1, 2), (S, 2, 3)]),
-    // comments
-    (b"a/*b*/c", &[(W, 0, 1), (W, 6, 7)]),
-    (b"/**/", &[]),
-    (b"/***/x", &[(W, 5, 6)]),
-    (b"/*/", &[(S, 0, 3)]),
-    (b"/*/ */x", &[(W, 6, 7)]),
-    (b"a /* b\nc", &[(W, 0, 1), (S, 2, 8)]),
-    (b"a//", &[(W, 0, 1)]),
-    (b"a // b\nc", &[(W, 0, 1), (W, 7, 8)]),
-    (b"// /*\nx", &[(W, 6, 7)]),
-    (b"/* \"*/ \"x\"", &[(T, 7, 10)]),
-    (b"\"/*\"x*/", &[(T, 0, 4), (W, 4, 5), (M, 5, 6), (M, 6, 7)]),
-    (b"/*\n# 1\n*/x", &[(W, 9, 10)]),
-    // directive lines
-    (b"#", &[]),
-    (b"# 3 \"f.c\"\nint", &[(W, 10, 13)]),
-    (b" \t\r\x0b\x0c# x\ny", &[(W, 9, 10)]),
-    (b"/* */ # 1", &[(S, 6, 7), (N, 8, 9)]),
-    (b"a # x\nb", &[(W, 0, 1), (S, 2, 3), (W, 4, 5), (W, 6, 7)]),
-    (b"x##y", &[(W, 0, 1), (S, 1, 2), (S, 2, 3), (W, 3, 4)]),
-    (b"# /* x\ny */", &[(W, 7, 8), (M, 9, 10), (M, 10, 11)]),
-    (b"#define A \\\nb", &[(W, 12, 13)]),
-];
+fn add_tokens(tokens: &[Token], out: &mut Vec<u8>) {
+    for token in tokens {
+        add_span(out, letter(token.class), token.span);
+    }
+}
 
 #[test]
-fn cuts_texts(rt: HostRuntime) -> Result<(), Fail> {
-    for &(text, wanted) in &TABLE {
-        assert!(rt; text.len() <= 16_777_216);
-        let tokens = lex(rt.alloc(), text)?;
-        assert_eq!(rt; tokens.len(), wanted.len());
-        for (token, (class, from, to)) in tokens.iter().zip(wanted) {
-            let span = Span {
-                from: *from,
-                to: *to,
-            };
-            assert!(rt;
-                *token
-                    == Token {
-                        class: *class,
-                        span
-                    }
-            );
+fn cuts_texts(rt: HostRuntime) {
+    check::<Tokens>(&rt, rt.alloc(), TABLE, BEFORE, 73);
+}
+
+/// Whether bytes that are no characters are tokens of one byte each.
+fn cut_bytes(alloc: Global) -> bool {
+    let mut out = Vec::new(alloc);
+    add_cut(alloc, b"\x80\xc3\xff", &mut out);
+    out.as_slice() == b" S0-1 S1-2 S2-3".as_slice()
+}
+
+#[test]
+fn cuts_other_bytes(rt: HostRuntime) {
+    assert!(rt; cut_bytes(rt.alloc()));
+}
+
+// Each text, with `^` before the byte whose place is asked for, the span of the file's name there, and the line and the
+// column.
+static PLACES: &str = "
+| -- no marker
+| ^ => none 1:1
+| int x;\n^y => none 2:1
+| int x;\ny^ => none 2:2
+| -- one, and places on its own line
+| # 5 \"a.c\"\n^x y => 5-8 5:1
+| # 5 \"a.c\"\nx ^y => 5-8 5:3
+| # 5 \"a.c\"^\nx y => none 1:10
+| # 5 ^\"a.c\"\nx y => none 1:5
+| # 5 \"a.c\"^ => none 1:10
+| -- several
+| # 5 \"a\"\n^x\n# 70 \"bc\"\ny\n\nz => 5-6 5:1
+| # 5 \"a\"\nx\n^# 70 \"bc\"\ny\n\nz => 5-6 6:1
+| # 5 \"a\"\nx\n# 70 \"bc^\"\ny\n\nz => 5-6 6:9
+| # 5 \"a\"\nx\n# 70 \"bc\"\n^y\n\nz => 16-18 70:1
+| # 5 \"a\"\nx\n# 70 \"bc\"\ny\n\n^z => 16-18 72:1
+| # 5 \"a\"\nx\n# 70 \"bc\"\ny\n\nz^ => 16-18 72:2
+| -- in a comment, behind a token, and lines of a comment
+| /*\n# 5 \"a\"\n*/^x => none 3:3
+| x # 5 \"a\"\n^y => none 2:1
+| # 5 \"a\"\n/*\n*/^x => 5-6 6:3
+| -- names
+| # 1 \"a\\\"b\"\n^x => 5-9 1:1
+| # 3 \"\"\n^x => 5-5 3:1
+| # 5 \"a\n^x => none 2:1
+| # 5 a\n^x => none 2:1
+| -- numbers
+| # 0 \"a\"\n^x => 5-6 0:1
+| # 999999999 \"f\"\n\n^x => 13-14 1000000000:1
+| # 1000000000 \"f\"\n^x => none 2:1
+| # \"a\"\n^x => none 2:1
+| -- spaces, and what stands behind the name
+| #5 \"a\"\n^x => none 2:1
+| # 5\"a\"\n^x => none 2:1
+| #line 5 \"a\"\n^x => none 2:1
+|  #\t5 \t\"a\" 1 3\n^x => 7-8 5:1
+| # 5 \"a\"\r\n^x\r\ny => 5-6 5:1
+| # 5 \"a\"\r\nx\r\n^y => 5-6 6:1";
+
+/// Adds a place.
+fn add_place(at: &Place, out: &mut Vec<u8>) {
+    match at.file {
+        Some(span) => add_span(out, b" ", span),
+        None => add(out, b" none"),
+    }
+    add_number(out, b" ", at.line);
+    add_number(out, b":", at.column);
+}
+
+/// Adds the place of a byte, and whether the table of places says another one.
+fn add_places(alloc: Global, text: &[u8], at: usize, out: &mut Vec<u8>) {
+    if text.len() as u64 > MOST_BYTES || at > text.len() {
+        return;
+    }
+    let found = place(text, at);
+    add_place(&found, out);
+    match Places::new(alloc, text) {
+        Ok(places) => add_other(&places, at, &found, out),
+        Err(_) => add(out, b" no memory"),
+    }
+}
+
+/// Adds the place that a table of places says of a byte, where it is another one.
+fn add_other(places: &Places, at: usize, found: &Place, out: &mut Vec<u8>)
+    requires { at ≤ length places.now }
+{
+    let other = places.place(at);
+    if other != *found {
+        add_place(&other, out);
+    }
+}
+
+struct Placed;
+
+impl Says for Placed {
+    fn say(alloc: Global, text: &str, out: &mut Vec<u8>) {
+        let mut whole = Vec::new(alloc);
+        let mut at = 0;
+        for byte in text.as_bytes() {
+            if *byte == b'^' {
+                at = whole.len();
+            } else {
+                add(&mut whole, &[*byte]);
+            }
         }
+        add_places(alloc, whole.as_slice(), at, out)
     }
-    Ok(())
-}
-
-type PlaceRow = (&'static [u8], usize, Option<Span>, u32, u32);
-
-// Each text, with a place in it, and the file, the line and the column there.
-static PLACES: [PlaceRow; 31] = [
-    // no marker
-    (b"", 0, None, 1, 1),
-    (b"int x;\ny", 7, None, 2, 1),
-    (b"int x;\ny", 8, None, 2, 2),
-    // one, and places on its own line
-    (b"# 5 \"a.c\"\nx y", 10, Some(Span { from: 5, to: 8 }), 5, 1),
-    (b"# 5 \"a.c\"\nx y", 12, Some(Span { from: 5, to: 8 }), 5, 3),
-    (b"# 5 \"a.c\"\nx y", 9, None, 1, 10),
-    (b"# 5 \"a.c\"\nx y", 4, None, 1, 5),
-    (b"# 5 \"a.c\"", 9, None, 1, 10),
-    // several
-    (
-        b"# 5 \"a\"\nx\n# 70 \"bc\"\ny\n\nz",
-        8,
-        Some(Span { from: 5, to: 6 }),
-        5,
-        1,
-    ),
-    (
-        b"# 5 \"a\"\nx\n# 70 \"bc\"\ny\n\nz",
-        10,
-        Some(Span { from: 5, to: 6 }),
-        6,
-        1,
-    ),
-    (
-        b"# 5 \"a\"\nx\n# 70 \"bc\"\ny\n\nz",
-        18,
-        Some(Span { from: 5, to: 6 }),
-        6,
-        9,
-    ),
-    (
-        b"# 5 \"a\"\nx\n# 70 \"bc\"\ny\n\nz",
-        20,
-        Some(Span { from: 16, to: 18 }),
-        70,
-        1,
-    ),
-    (
-        b"# 5 \"a\"\nx\n# 70 \"bc\"\ny\n\nz",
-        23,
-        Some(Span { from: 16, to: 18 }),
-        72,
-        1,
-    ),
-    (
-        b"# 5 \"a\"\nx\n# 70 \"bc\"\ny\n\nz",
-        24,
-        Some(Span { from: 16, to: 18 }),
-        72,
-        2,
-    ),
-    // in a comment, behind a token, and lines of a comment
-    (b"/*\n# 5 \"a\"\n*/x", 13, None, 3, 3),
-    (b"x # 5 \"a\"\ny", 10, None, 2, 1),
-    (
-        b"# 5 \"a\"\n/*\n*/x",
-        13,
-        Some(Span { from: 5, to: 6 }),
-        6,
-        3,
-    ),
-    // names
-    (
-        b"# 1 \"a\\\"b\"\nx",
-        11,
-        Some(Span { from: 5, to: 9 }),
-        1,
-        1,
-    ),
-    (b"# 3 \"\"\nx", 7, Some(Span { from: 5, to: 5 }), 3, 1),
-    (b"# 5 \"a\nx", 7, None, 2, 1),
-    (b"# 5 a\nx", 6, None, 2, 1),
-    // numbers
-    (b"# 0 \"a\"\nx", 8, Some(Span { from: 5, to: 6 }), 0, 1),
-    (
-        b"# 999999999 \"f\"\n\nx",
-        17,
-        Some(Span { from: 13, to: 14 }),
-        1_000_000_000,
-        1,
-    ),
-    (b"# 1000000000 \"f\"\nx", 17, None, 2, 1),
-    (b"# \"a\"\nx", 6, None, 2, 1),
-    // spaces, and what stands behind the name
-    (b"#5 \"a\"\nx", 7, None, 2, 1),
-    (b"# 5\"a\"\nx", 7, None, 2, 1),
-    (b"#line 5 \"a\"\nx", 12, None, 2, 1),
-    (
-        b" #\t5 \t\"a\" 1 3\nx",
-        14,
-        Some(Span { from: 7, to: 8 }),
-        5,
-        1,
-    ),
-    (
-        b"# 5 \"a\"\r\nx\r\ny",
-        9,
-        Some(Span { from: 5, to: 6 }),
-        5,
-        1,
-    ),
-    (
-        b"# 5 \"a\"\r\nx\r\ny",
-        12,
-        Some(Span { from: 5, to: 6 }),
-        6,
-        1,
-    ),
-];
-
-#[test]
-fn finds_places(rt: HostRuntime) -> Result<(), Fail> {
-    for &(text, at, file, line, column) in &PLACES {
-        assert!(rt; text.len() <= 16_777_216);
-        assert!(rt; at <= text.len());
-        let wanted = Place { file, line, column };
-        assert!(rt; place(text, at) == wanted, "{at} {line} {column}");
-        let places = Places::new(rt.alloc(), text)?;
-        assert!(rt; places.place(at) == wanted, "{at} {line} {column}");
-    }
-    Ok(())
 }
 
 #[test]
-fn finds_places_of_a_long_text(rt: HostRuntime) -> Result<(), Fail> {
-    let mut text = Vec::new(rt.alloc());
+fn finds_places(rt: HostRuntime) {
+    check::<Placed>(&rt, rt.alloc(), PLACES, BEFORE, 31);
+}
+
+/// 400 times the same two lines.
+fn long_text(alloc: Global) -> Vec<u8> {
+    let mut text = Vec::new(alloc);
     for _ in 0..400 {
-        text.extend_from_slice(b"# 5 \"a\"\nx\n")?;
+        add(&mut text, b"# 5 \"a\"\nx\n");
     }
-    assert_eq!(rt; text.len(), 4000);
-    let places = Places::new(rt.alloc(), &text)?;
-    for (at, from, line) in [(3998, 3995, 5), (1008, 1005, 5), (1010, 1005, 6)] {
-        let file = Some(Span { from, to: from + 1 });
-        let column = 1;
-        assert!(rt; places.place(at) == Place { file, line, column }, "{at}");
-    }
-    Ok(())
+    text
+}
+
+/// Whether a byte of the long text has this place.
+fn is_in_long_text(alloc: Global, at: usize, wanted: &[u8]) -> bool {
+    let text = long_text(alloc);
+    let mut out = Vec::new(alloc);
+    add_places(alloc, text.as_slice(), at, &mut out);
+    out.as_slice() == wanted
+}
+
+#[test]
+fn finds_places_of_a_long_text(rt: HostRuntime) {
+    assert!(rt; long_text(rt.alloc()).len() == 4000);
+    assert!(rt; is_in_long_text(rt.alloc(), 3998, b" 3995-3996 5:1"));
+    assert!(rt; is_in_long_text(rt.alloc(), 1008, b" 1005-1006 5:1"));
+    assert!(rt; is_in_long_text(rt.alloc(), 1010, b" 1005-1006 6:1"));
 }

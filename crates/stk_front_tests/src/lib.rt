@@ -17,4 +17,6 @@ mod reading_statements;
 #[cfg(test)]
 mod reading_texts;
 #[cfg(test)]
+mod tables;
+#[cfg(test)]
 mod units;

@@ -1,120 +1,118 @@
 //! Texts of expressions with the trees that they are, worked out by hand from the levels of C11 6.5.
-use crate::reading_texts::{add, names, tokens};
+use crate::reading_texts::{names, tokens};
+use crate::tables::{EACH_LINE, Says, add, add_number, add_span, check};
 use std::alloc::Global;
-use std::test::Fail;
-use stk_base::{NoMemory, Span};
+use stk_base::{Boxed, Span};
 use stk_expr::{Parse, expr};
-use stk_lex::{Token, lex};
+use stk_lex::Token;
 use stk_tree::{
     AssignOp, BaseForm, BinaryOp, Dimension, Expr, ExprForm, Fixed, Node, StepOp, TypeName,
     UnaryOp, spelling,
 };
 
-type Row = (&'static str, u8, &'static str);
+// Each level that is asked for, with a text and the shape of its tree: each operator before its operands, in braces, or
+// `no tree`. `T` is a typedef name, and all other words aren't.
+static TABLE: &str = r#"
+-- leaves
+17: a => a
+17: 10 => 10
+17: 'x' => 'x'
+17: "x" => "x"
+17: "x" "y" L"z" => "x""y"L"z"
+1: "x" a => no tree
+17: (a) => (a)
+17: ((a, b)) => (({, a b}))
+1: T => no tree
+1: int => no tree
+1: while => no tree
+1: () => no tree
+1: => no tree
+1: a b => no tree
+1: @ => no tree
+-- levels against their neighbours
+1: a - b - c => {- {- a b} c}
+1: a - (b - c) => {- a ({- b c})}
+1: a = b = c => {= a {= b c}}
+1: a += b *= c => {+= a {*= b c}}
+1: a ? b : c ? d : e => {? a b {? c d e}}
+1: a ? b, c : d => {? a {, b c} d}
+1: a ? b = c : d => {? a {= b c} d}
+1: a ? b : c = d => no tree
+1: a ? b => no tree
+1: a ? b ? c : d : e => {? a {? b c d} e}
+1: a, b, c => {, {, a b} c}
+1: a = b, c => {, {= a b} c}
+1: a || b && c => {|| a {&& b c}}
+1: a && b || c => {|| {&& a b} c}
+1: a && b | c => {&& a {| b c}}
+1: a | b ^ c => {| a {^ b c}}
+1: a ^ b & c => {^ a {& b c}}
+1: a & b == c => {& a {== b c}}
+1: a == b < c => {== a {< b c}}
+1: a != b >= c => {!= a {>= b c}}
+1: a < b << c => {< a {<< b c}}
+1: a << b + c => {<< a {+ b c}}
+1: a >> b >> c => {>> {>> a b} c}
+1: a + b * c => {+ a {* b c}}
+1: a * b + c => {+ {* a b} c}
+1: a / b % c => {% {/ a b} c}
+1: a * -b => {* a {- b}}
+1: a + b = c => no tree
+1: -a = b => {= {- a} b}
+1: (T) a = b => no tree
+1: a ? b : c || d => {? a b {|| c d}}
+1: a || b ? c : d => {? {|| a b} c d}
+1: a = b ? c : d => {= a {? b c d}}
+4: a ? b : c => no tree
+13: a + b => no tree
+13: a * b => {* a b}
+16: -a => no tree
+17: a[b] => no tree
+-- casts and sizes
+1: (T) x => {T x}
+1: (T)(x) => {T (x)}
+1: (x)(y) => {() (x) y}
+1: (T) + x => {T {+ x}}
+1: (x) + y => {+ (x) y}
+1: (T) x + y => {+ {T x} y}
+1: (T)(int) x => {T {int x}}
+1: (unsigned long int **) x => {unsigned long int** x}
+1: (struct T *) x => {struct T* x}
+1: (enum e) x => {enum e x}
+1: (T T) x => no tree
+1: (int T) x => no tree
+1: (struct s {int a;}) x => no tree
+1: (T *[3][]) x => {T*[3][] x}
+1: (T [a, b]) x => no tree
+1: (T [a ? b : c]) x => {T[{? a b c}] x}
+15: (T) x => no tree
+1: (T) => no tree
+1: sizeof (T) => {sizeof T}
+1: sizeof (x) => {sizeof (x)}
+1: sizeof x[1] => {sizeof {[] x 1}}
+1: sizeof (T) x => no tree
+1: sizeof (T[3]) * 2 => {* {sizeof T[3]} 2}
+1: sizeof (T) + 1 => {+ {sizeof T} 1}
+1: sizeof sizeof a => {sizeof {sizeof a}}
+-- operators before and behind their operands
+1: -a++ => {- {.++ a}}
+1: *p++ => {* {.++ p}}
+1: &*p => {& {* p}}
+1: - -a-- => {- {- {.-- a}}}
+1: ++a++ => {++ {.++ a}}
+1: ++-a => {++ {- a}}
+1: --(T)a => no tree
+1: !~+a => {! {~ {+ a}}}
+1: f() => {() f}
+1: f(a, b = c)(d) => {() {() f a {= b c}} d}
+1: f((a, b)) => {() f ({, a b})}
+1: f(a b) => no tree
+1: a.b->T[d] => {[] {-> {. a b} T} d}
+1: a.1 => no tree
+"#;
 
-// Each text, the level that is asked for, and the shape of the tree: each operator before its operands, in braces. An
-// empty shape is no tree. `T` is a typedef name, and all other words aren't.
-static TABLE: [Row; 92] = [
-    // leaves
-    ("a", 17, "a"),
-    ("10", 17, "10"),
-    ("'x'", 17, "'x'"),
-    ("\"x\"", 17, "\"x\""),
-    ("\"x\" \"y\" L\"z\"", 17, "\"x\"\"y\"L\"z\""),
-    ("\"x\" a", 1, ""),
-    ("(a)", 17, "(a)"),
-    ("((a, b))", 17, "(({, a b}))"),
-    ("T", 1, ""),
-    ("int", 1, ""),
-    ("while", 1, ""),
-    ("()", 1, ""),
-    ("", 1, ""),
-    ("a b", 1, ""),
-    ("@", 1, ""),
-    // levels against their neighbours
-    ("a - b - c", 1, "{- {- a b} c}"),
-    ("a - (b - c)", 1, "{- a ({- b c})}"),
-    ("a = b = c", 1, "{= a {= b c}}"),
-    ("a += b *= c", 1, "{+= a {*= b c}}"),
-    ("a ? b : c ? d : e", 1, "{? a b {? c d e}}"),
-    ("a ? b, c : d", 1, "{? a {, b c} d}"),
-    ("a ? b = c : d", 1, "{? a {= b c} d}"),
-    ("a ? b : c = d", 1, ""),
-    ("a ? b", 1, ""),
-    ("a ? b ? c : d : e", 1, "{? a {? b c d} e}"),
-    ("a, b, c", 1, "{, {, a b} c}"),
-    ("a = b, c", 1, "{, {= a b} c}"),
-    ("a || b && c", 1, "{|| a {&& b c}}"),
-    ("a && b || c", 1, "{|| {&& a b} c}"),
-    ("a && b | c", 1, "{&& a {| b c}}"),
-    ("a | b ^ c", 1, "{| a {^ b c}}"),
-    ("a ^ b & c", 1, "{^ a {& b c}}"),
-    ("a & b == c", 1, "{& a {== b c}}"),
-    ("a == b < c", 1, "{== a {< b c}}"),
-    ("a != b >= c", 1, "{!= a {>= b c}}"),
-    ("a < b << c", 1, "{< a {<< b c}}"),
-    ("a << b + c", 1, "{<< a {+ b c}}"),
-    ("a >> b >> c", 1, "{>> {>> a b} c}"),
-    ("a + b * c", 1, "{+ a {* b c}}"),
-    ("a * b + c", 1, "{+ {* a b} c}"),
-    ("a / b % c", 1, "{% {/ a b} c}"),
-    ("a * -b", 1, "{* a {- b}}"),
-    ("a + b = c", 1, ""),
-    ("-a = b", 1, "{= {- a} b}"),
-    ("(T) a = b", 1, ""),
-    ("a ? b : c || d", 1, "{? a b {|| c d}}"),
-    ("a || b ? c : d", 1, "{? {|| a b} c d}"),
-    ("a = b ? c : d", 1, "{= a {? b c d}}"),
-    ("a ? b : c", 4, ""),
-    ("a + b", 13, ""),
-    ("a * b", 13, "{* a b}"),
-    ("-a", 16, ""),
-    ("a[b]", 17, ""),
-    // casts and sizes
-    ("(T) x", 1, "{T x}"),
-    ("(T)(x)", 1, "{T (x)}"),
-    ("(x)(y)", 1, "{() (x) y}"),
-    ("(T) + x", 1, "{T {+ x}}"),
-    ("(x) + y", 1, "{+ (x) y}"),
-    ("(T) x + y", 1, "{+ {T x} y}"),
-    ("(T)(int) x", 1, "{T {int x}}"),
-    ("(unsigned long int **) x", 1, "{unsigned long int** x}"),
-    ("(struct T *) x", 1, "{struct T* x}"),
-    ("(enum e) x", 1, "{enum e x}"),
-    ("(T T) x", 1, ""),
-    ("(int T) x", 1, ""),
-    ("(struct s {int a;}) x", 1, ""),
-    ("(T *[3][]) x", 1, "{T*[3][] x}"),
-    ("(T [a, b]) x", 1, ""),
-    ("(T [a ? b : c]) x", 1, "{T[{? a b c}] x}"),
-    ("(T) x", 15, ""),
-    ("(T)", 1, ""),
-    ("sizeof (T)", 1, "{sizeof T}"),
-    ("sizeof (x)", 1, "{sizeof (x)}"),
-    ("sizeof x[1]", 1, "{sizeof {[] x 1}}"),
-    ("sizeof (T) x", 1, ""),
-    ("sizeof (T[3]) * 2", 1, "{* {sizeof T[3]} 2}"),
-    ("sizeof (T) + 1", 1, "{+ {sizeof T} 1}"),
-    ("sizeof sizeof a", 1, "{sizeof {sizeof a}}"),
-    // operators before and behind their operands
-    ("-a++", 1, "{- {.++ a}}"),
-    ("*p++", 1, "{* {.++ p}}"),
-    ("&*p", 1, "{& {* p}}"),
-    ("- -a--", 1, "{- {- {.-- a}}}"),
-    ("++a++", 1, "{++ {.++ a}}"),
-    ("++-a", 1, "{++ {- a}}"),
-    ("--(T)a", 1, ""),
-    ("!~+a", 1, "{! {~ {+ a}}}"),
-    ("f()", 1, "{() f}"),
-    ("f(a, b = c)(d)", 1, "{() {() f a {= b c}} d}"),
-    ("f((a, b))", 1, "{() f ({, a b})}"),
-    ("f(a b)", 1, ""),
-    ("a.b->T[d]", 1, "{[] {-> {. a b} T} d}"),
-    ("a.1", 1, ""),
-];
-
-fn binary_punctuator(op: BinaryOp) -> Fixed {
-    match op {
+fn binary_text(op: BinaryOp) -> &'static [u8] {
+    spelling(match op {
         BinaryOp::Comma => Fixed::Comma,
         BinaryOp::OrElse => Fixed::OrOr,
         BinaryOp::AndAlso => Fixed::AndAnd,
@@ -134,11 +132,11 @@ fn binary_punctuator(op: BinaryOp) -> Fixed {
         BinaryOp::Mul => Fixed::Star,
         BinaryOp::Div => Fixed::Slash,
         BinaryOp::Rem => Fixed::Percent,
-    }
+    })
 }
 
-fn assign_punctuator(op: AssignOp) -> Fixed {
-    match op {
+fn assign_text(op: AssignOp) -> &'static [u8] {
+    spelling(match op {
         AssignOp::Plain => Fixed::Assign,
         AssignOp::Mul => Fixed::StarAssign,
         AssignOp::Div => Fixed::SlashAssign,
@@ -150,18 +148,18 @@ fn assign_punctuator(op: AssignOp) -> Fixed {
         AssignOp::And => Fixed::AmpersandAssign,
         AssignOp::Xor => Fixed::CaretAssign,
         AssignOp::Or => Fixed::PipeAssign,
-    }
+    })
 }
 
-fn unary_punctuator(op: UnaryOp) -> Fixed {
-    match op {
+fn unary_text(op: UnaryOp) -> &'static [u8] {
+    spelling(match op {
         UnaryOp::Address => Fixed::Ampersand,
         UnaryOp::Deref => Fixed::Star,
         UnaryOp::Plus => Fixed::Plus,
         UnaryOp::Minus => Fixed::Minus,
         UnaryOp::Flip => Fixed::Tilde,
         UnaryOp::Not => Fixed::Exclamation,
-    }
+    })
 }
 
 fn step_text(op: StepOp) -> &'static [u8] {
@@ -170,6 +168,12 @@ fn step_text(op: StepOp) -> &'static [u8] {
         StepOp::DecBefore => b"--",
         StepOp::IncAfter => b".++",
         StepOp::DecAfter => b".--",
+    }
+}
+
+fn add_texts(bytes: &[u8], parts: &[Span], out: &mut Vec<u8>) {
+    for part in parts {
+        add(out, part.text(bytes));
     }
 }
 
@@ -196,12 +200,26 @@ fn base_shape(bytes: &[u8], form: &BaseForm, out: &mut Vec<u8>) {
     }
 }
 
+/// The operator of a node that is told in braces.
+fn operator(form: &ExprForm) -> &'static [u8] {
+    match form {
+        ExprForm::Index(_, _) => b"[]",
+        ExprForm::Call(_, _) => b"()",
+        ExprForm::Dot(_, _) => b".",
+        ExprForm::Arrow(_, _) => b"->",
+        ExprForm::Step(op, _) => step_text(*op),
+        ExprForm::Unary(op, _) => unary_text(*op),
+        ExprForm::SizeExpr(_) | ExprForm::SizeName(_) => b"sizeof",
+        ExprForm::Binary(op, _, _) => binary_text(*op),
+        ExprForm::Choice(_, _, _) => b"?",
+        ExprForm::Assign(op, _, _) => assign_text(*op),
+        _ => b"",
+    }
+}
+
 /// A type name: its base, its `*`, and the shapes of its sizes.
 #[cycle(shape)]
 fn type_shape(bytes: &[u8], name: &TypeName, room: u32, out: &mut Vec<u8>) {
-    if room == 0 {
-        return;
-    }
     base_shape(bytes, &name.base.form, out);
     for _ in 0..name.stars {
         add(out, b"*");
@@ -209,25 +227,56 @@ fn type_shape(bytes: &[u8], name: &TypeName, room: u32, out: &mut Vec<u8>) {
     for part in name.arrays.as_slice() {
         add(out, b"[");
         if let Dimension::Sized(size) = part {
-            shape(bytes, size, room - 1, out);
+            shape(bytes, size, room, out);
         }
         add(out, b"]");
     }
 }
 
-/// A node in braces: its operator, and the shapes of its operands.
+/// An operand behind a blank.
 #[cycle(shape)]
-fn node_shape(bytes: &[u8], punctuator: &[u8], operands: &[&Expr], room: u32, out: &mut Vec<u8>) {
-    if room == 0 {
-        return;
+fn add_operand(bytes: &[u8], e: &Expr, room: u32, out: &mut Vec<u8>) {
+    add(out, b" ");
+    shape(bytes, e, room, out)
+}
+
+/// The operands of a node that is told in braces.
+#[cycle(shape)]
+fn add_operands(bytes: &[u8], form: &ExprForm, room: u32, out: &mut Vec<u8>) {
+    match form {
+        ExprForm::Index(x, y) | ExprForm::Binary(_, x, y) | ExprForm::Assign(_, x, y) => {
+            add_operand(bytes, x.get(), room, out);
+            add_operand(bytes, y.get(), room, out)
+        }
+        ExprForm::Call(f, list) => {
+            add_operand(bytes, f.get(), room, out);
+            for argument in list.as_slice() {
+                add_operand(bytes, argument, room, out);
+            }
+        }
+        ExprForm::Dot(x, at) | ExprForm::Arrow(x, at) => {
+            add_operand(bytes, x.get(), room, out);
+            add(out, b" ");
+            add(out, at.text(bytes))
+        }
+        ExprForm::Step(_, x) | ExprForm::Unary(_, x) | ExprForm::SizeExpr(x) => {
+            add_operand(bytes, x.get(), room, out)
+        }
+        ExprForm::SizeName(y) => {
+            add(out, b" ");
+            type_shape(bytes, y, room, out)
+        }
+        ExprForm::Cast(y, x) => {
+            type_shape(bytes, y, room, out);
+            add_operand(bytes, x.get(), room, out)
+        }
+        ExprForm::Choice(x, y, z) => {
+            add_operand(bytes, x.get(), room, out);
+            add_operand(bytes, y.get(), room, out);
+            add_operand(bytes, z.get(), room, out)
+        }
+        _ => {}
     }
-    add(out, b"{");
-    add(out, punctuator);
-    for operand in operands {
-        add(out, b" ");
-        shape(bytes, operand, room - 1, out);
-    }
-    add(out, b"}")
 }
 
 /// What a tree is, as far as `room` goes.
@@ -236,232 +285,215 @@ fn shape(bytes: &[u8], e: &Expr, room: u32, out: &mut Vec<u8>) {
     if room == 0 {
         return;
     }
-    let inner = room - 1;
     match &e.form {
         ExprForm::Name(at) | ExprForm::Number(at) | ExprForm::Character(at) => {
             add(out, at.text(bytes))
         }
-        ExprForm::Text(parts) => {
-            for part in parts.as_slice() {
-                add(out, part.text(bytes));
-            }
-        }
+        ExprForm::Text(parts) => add_texts(bytes, parts.as_slice(), out),
         ExprForm::Paren(x) => {
             add(out, b"(");
-            shape(bytes, x.get(), inner, out);
+            shape(bytes, x.get(), room - 1, out);
             add(out, b")")
         }
-        ExprForm::Index(x, y) => node_shape(bytes, b"[]", &[x.get(), y.get()], inner, out),
-        ExprForm::Call(f, list) => {
-            add(out, b"{() ");
-            shape(bytes, f.get(), inner, out);
-            for argument in list.as_slice() {
-                add(out, b" ");
-                shape(bytes, argument, inner, out);
-            }
-            add(out, b"}")
-        }
-        ExprForm::Dot(x, at) => member_shape(bytes, b"{. ", x.get(), at.text(bytes), inner, out),
-        ExprForm::Arrow(x, at) => member_shape(bytes, b"{-> ", x.get(), at.text(bytes), inner, out),
-        ExprForm::Step(op, x) => node_shape(bytes, step_text(*op), &[x.get()], inner, out),
-        ExprForm::Unary(op, x) => {
-            node_shape(
-                bytes,
-                spelling(unary_punctuator(*op)),
-                &[x.get()],
-                inner,
-                out,
-            )
-        }
-        ExprForm::SizeExpr(x) => node_shape(bytes, b"sizeof", &[x.get()], inner, out),
-        ExprForm::SizeName(y) => {
-            add(out, b"{sizeof ");
-            type_shape(bytes, y, inner, out);
-            add(out, b"}")
-        }
-        ExprForm::Cast(y, x) => {
+        form => {
             add(out, b"{");
-            type_shape(bytes, y, inner, out);
-            add(out, b" ");
-            shape(bytes, x.get(), inner, out);
+            add(out, operator(form));
+            add_operands(bytes, form, room - 1, out);
             add(out, b"}")
         }
-        ExprForm::Binary(op, x, y) => {
-            let punctuator = spelling(binary_punctuator(*op));
-            node_shape(bytes, punctuator, &[x.get(), y.get()], inner, out)
-        }
-        ExprForm::Choice(x, y, z) => {
-            node_shape(bytes, b"?", &[x.get(), y.get(), z.get()], inner, out)
-        }
-        ExprForm::Assign(op, x, y) => {
-            let punctuator = spelling(assign_punctuator(*op));
-            node_shape(bytes, punctuator, &[x.get(), y.get()], inner, out)
-        }
     }
 }
 
-#[cycle(shape)]
-fn member_shape(
-    bytes: &[u8],
-    punctuator: &[u8],
-    e: &Expr,
-    member: &[u8],
-    room: u32,
-    out: &mut Vec<u8>,
-) {
-    if room == 0 {
-        return;
-    }
-    add(out, punctuator);
-    shape(bytes, e, room - 1, out);
-    add(out, b" ");
-    add(out, member);
-    add(out, b"}")
+/// What is asked of some tokens: the tree of a level that begins at a place, told by its shape or by its nodes.
+#[derive(Clone, Copy)]
+struct Asked {
+    at: usize,
+    level: u8,
+    nodes: bool,
 }
 
-/// The shape of the tree that some tokens are, from the place `at` on, and where it ends; nothing where there is none.
-fn read(
+/// The tree that is asked for, and where it ends.
+fn tree_at(
     alloc: Global,
     bytes: &[u8],
     list: &[Token],
-    at: usize,
-    level: u8,
-) -> Result<(Vec<u8>, usize), NoMemory> {
-    let names = names(alloc)?;
-    let mut out = Vec::new(alloc);
+    asked: Asked,
+) -> Result<(Boxed<Expr>, usize), Parse> {
+    let Asked { at, level, .. } = asked;
     if at > list.len() || list.len() > 16_777_216 || level == 0 || level > 17 {
-        return Ok((out, 0));
+        return Err(Parse::NoTree);
     }
-    match expr(alloc, bytes, list, &names, at, level) {
-        Ok((tree, end)) => {
-            shape(bytes, &tree, 900, &mut out);
-            Ok((out, end))
+    let names = names(alloc)?;
+    let (tree, end) = expr(alloc, bytes, list, &names, at, level)?;
+    Ok((Boxed::new(alloc, tree)?, end))
+}
+
+fn add_node(node: &Node, out: &mut Vec<u8>) {
+    add_number(out, b" ", node.number);
+    add_span(out, b":", node.span);
+}
+
+/// The numbers and the spans of the nodes of a sum of a name and a cast name, from the left to the right, each parent
+/// behind its children.
+fn add_nodes(tree: &Expr, out: &mut Vec<u8>) {
+    if let ExprForm::Binary(_, left, right) = &tree.form {
+        add_node(&left.get().node, out);
+        if let ExprForm::Cast(target, operand) = &right.get().form {
+            add_node(&target.base.node, out);
+            add_node(&target.node, out);
+            add_node(&operand.get().node, out);
         }
-        Err(Parse::NoTree) => Ok((out, 0)),
-        Err(Parse::NoMemory) => Err(NoMemory),
+        add_node(&right.get().node, out);
+    }
+    add_node(&tree.node, out);
+}
+
+/// Adds what the tree is that is asked for, and says where it ends; nothing where there is no tree.
+fn add_tree(
+    alloc: Global,
+    bytes: &[u8],
+    list: &[Token],
+    asked: Asked,
+    out: &mut Vec<u8>,
+) -> Option<usize> {
+    match tree_at(alloc, bytes, list, asked) {
+        Ok((tree, end)) => {
+            if asked.nodes {
+                add_nodes(tree.get(), out);
+            } else {
+                shape(bytes, tree.get(), 900, out);
+            }
+            Some(end)
+        }
+        Err(Parse::NoTree) => {
+            add(out, b"no tree");
+            None
+        }
+        Err(Parse::NoMemory) => {
+            add(out, b"no memory");
+            None
+        }
     }
 }
 
-/// Whether a text has a tree of this shape, from the place `at` on, that ends at the place `to`; no shape is no tree.
-fn has_shape(
-    alloc: Global,
-    text: &str,
-    at: usize,
-    level: u8,
-    wanted: &str,
-    to: usize,
-) -> Result<bool, NoMemory> {
-    let list = tokens(alloc, text.as_bytes())?;
-    let (shape, end) = read(alloc, text.as_bytes(), list.as_slice(), at, level)?;
-    Ok(shape.as_slice() == wanted.as_bytes() && end == to)
+/// Adds what the tree is that is asked for, and where it ends, if it isn't where the text ends.
+fn add_asked(alloc: Global, bytes: &[u8], asked: Asked, out: &mut Vec<u8>) {
+    match tokens(alloc, bytes) {
+        Ok(list) => match add_tree(alloc, bytes, list.as_slice(), asked, out) {
+            Some(end) if end != list.len() => {
+                add_number(out, b" to ", u32::try_from(end).unwrap_or(u32::MAX))
+            }
+            Some(_) | None => {}
+        },
+        Err(_) => add(out, b"no memory"),
+    }
 }
 
-/// Whether a whole text has a tree of this shape.
-fn is_whole(alloc: Global, text: &str, level: u8, wanted: &str) -> Result<bool, NoMemory> {
-    let list = tokens(alloc, text.as_bytes())?;
-    let to = if wanted.is_empty() { 0 } else { list.len() };
-    has_shape(alloc, text, 0, level, wanted, to)
+struct Shapes;
+
+impl Says for Shapes {
+    fn say(alloc: Global, text: &str, out: &mut Vec<u8>) {
+        add(out, b" ");
+        match asked_of(text) {
+            Some((asked, text)) => add_asked(alloc, text.as_bytes(), asked, out),
+            None => add(out, b"no level"),
+        }
+    }
 }
 
-/// Whether an operand behind so many punctuators, with as many right parentheses behind it, is read to the place `to`.
-fn is_nested(alloc: Global, count: usize, punctuator: &str, to: usize) -> Result<bool, NoMemory> {
+/// The level that is asked for, with the place behind a blank if it isn't the first one, and the text behind its `:`.
+fn asked_of(row: &str) -> Option<(Asked, &str)> {
+    let (asked, behind) = row.split_once(':')?;
+    let text = behind.strip_prefix(' ').unwrap_or(behind);
+    let (level, at) = asked.split_once(' ').unwrap_or((asked, "0"));
+    match (level.parse::<u8>(), at.parse::<usize>()) {
+        (Ok(level), Ok(at)) => Some((
+            Asked {
+                at,
+                level,
+                nodes: false,
+            },
+            text,
+        )),
+        _ => None,
+    }
+}
+
+#[test]
+fn reads_the_table(rt: HostRuntime) {
+    check::<Shapes>(&rt, rt.alloc(), TABLE, EACH_LINE, 92);
+}
+
+/// An operand behind so many punctuators, with as many right parentheses behind it.
+fn nested(alloc: Global, count: usize, punctuator: &str) -> Vec<u8> {
     let mut text = Vec::new(alloc);
     for _ in 0..count {
-        text.extend_from_slice(punctuator.as_bytes())?;
+        add(&mut text, punctuator.as_bytes());
     }
-    text.push(b'a')?;
+    let _ = text.push(b'a');
     for _ in 0..count {
-        text.push(b')')?;
+        let _ = text.push(b')');
     }
-    if text.len() > 16_777_216 {
-        return Ok(false);
-    }
-    let list = lex(alloc, text.as_slice())?;
-    let (_, end) = read(alloc, text.as_slice(), list.as_slice(), 0, 1)?;
-    Ok(end == to)
+    text
 }
 
-/// The nodes of a sum of a name and a cast name, from the left to the right, each parent behind its children.
-fn nodes_of(alloc: Global, tree: &Expr) -> Result<Vec<Node>, NoMemory> {
-    let mut nodes = Vec::new(alloc);
-    if let ExprForm::Binary(_, left, right) = &tree.form {
-        nodes.push(left.get().node)?;
-        if let ExprForm::Cast(target, operand) = &right.get().form {
-            nodes.extend_from_slice(&[target.base.node, target.node, operand.get().node])?;
-        }
-        nodes.push(right.get().node)?;
-    }
-    nodes.push(tree.node)?;
-    Ok(nodes)
+/// Whether this is said of an operand in so many punctuators.
+fn is_nested(alloc: Global, count: usize, punctuator: &str, wanted: &[u8]) -> bool {
+    let text = nested(alloc, count, punctuator);
+    let asked = Asked {
+        at: 0,
+        level: 1,
+        nodes: true,
+    };
+    let mut out = Vec::new(alloc);
+    add_asked(alloc, text.as_slice(), asked, &mut out);
+    out.as_slice() == wanted
 }
 
-/// The nodes of the expression that begins with the second token of a text, which is such a sum.
-fn second_nodes(alloc: Global, text: &str) -> Result<Vec<Node>, NoMemory> {
-    let list = tokens(alloc, text.as_bytes())?;
-    let names = names(alloc)?;
-    if list.len() < 2 || list.len() > 16_777_216 {
-        return Ok(Vec::new(alloc));
-    }
-    match expr(alloc, text.as_bytes(), list.as_slice(), &names, 1, 1) {
-        Ok((tree, _)) => nodes_of(alloc, &tree),
-        Err(_) => Ok(Vec::new(alloc)),
-    }
-}
+// A level, a place and a text, and the shape of what stands there and where it ends, if that isn't where the text ends.
+static PLACES: &str = r#"
+1 0: a, b => {, a b}
+2 0: a, b => a to 1
+2 2: a, b => b
+1 1: a, b => no tree
+1 3: a, b => no tree
+2 2: x = y); z => y to 3
+1 2: a ? b : c => b to 3
+2 2: f(a[1]) } => {[] a 1} to 6
+"#;
 
-fn unnumbered(from: u32, to: u32) -> Node {
-    Node {
-        number: 0,
-        span: Span { from, to },
-    }
+#[test]
+fn ends_before_a_stop(rt: HostRuntime) {
+    check::<Shapes>(&rt, rt.alloc(), PLACES, EACH_LINE, 8);
 }
 
 #[test]
-fn reads_the_table(rt: HostRuntime) -> Result<(), Fail> {
-    for &(text, level, wanted) in &TABLE {
-        assert!(rt; is_whole(rt.alloc(), text, level, wanted)?, "{text}");
-    }
-    Ok(())
+fn stops_at_the_greatest_height(rt: HostRuntime) {
+    assert!(rt; is_nested(rt.alloc(), 399, "(", b" 0:0-799"));
+    assert!(rt; is_nested(rt.alloc(), 400, "(", b"no tree"));
+    assert!(rt; is_nested(rt.alloc(), 200_000, "(", b"no tree"));
+    assert!(rt; is_nested(rt.alloc(), 200_000, "sizeof ", b"no tree"));
 }
 
-// A text, a place and a level, and the shape of what stands there and where it ends.
-static PLACES: [(&str, usize, u8, &str, usize); 8] = [
-    ("a, b", 0, 1, "{, a b}", 3),
-    ("a, b", 0, 2, "a", 1),
-    ("a, b", 2, 2, "b", 3),
-    ("a, b", 1, 1, "", 0),
-    ("a, b", 3, 1, "", 0),
-    ("x = y); z", 2, 2, "y", 3),
-    ("a ? b : c", 2, 1, "b", 3),
-    ("f(a[1]) }", 2, 2, "{[] a 1}", 6),
-];
+struct Nodes;
 
-#[test]
-fn ends_before_a_stop(rt: HostRuntime) -> Result<(), Fail> {
-    for &(text, at, level, wanted, to) in &PLACES {
-        assert!(rt;
-            has_shape(rt.alloc(), text, at, level, wanted, to)?,
-            "{text}"
-        );
+impl Says for Nodes {
+    fn say(alloc: Global, text: &str, out: &mut Vec<u8>) {
+        let asked = Asked {
+            at: 1,
+            level: 1,
+            nodes: true,
+        };
+        add_asked(alloc, text.as_bytes(), asked, out)
     }
-    Ok(())
 }
 
-#[test]
-fn stops_at_the_greatest_height(rt: HostRuntime) -> Result<(), Fail> {
-    assert!(rt; is_nested(rt.alloc(), 399, "(", 799)?);
-    assert!(rt; is_nested(rt.alloc(), 400, "(", 0)?);
-    assert!(rt; is_nested(rt.alloc(), 200_000, "(", 0)?);
-    assert!(rt; is_nested(rt.alloc(), 200_000, "sizeof ", 0)?);
-    Ok(())
-}
+// The nodes of the expression that begins with the second token.
+static NODES: &str = "
+( a  + (T)b ) => 0:2-3 0:8-9 0:8-9 0:10-11 0:7-11 0:2-11 to 7
+";
 
 #[test]
-fn sets_the_span_of_each_node(rt: HostRuntime) -> Result<(), Fail> {
-    let nodes = second_nodes(rt.alloc(), "( a  + (T)b )")?;
-    let wanted = [(2, 3), (8, 9), (8, 9), (10, 11), (7, 11), (2, 11)];
-    assert!(rt; nodes.len() == wanted.len());
-    for (node, (from, to)) in nodes.iter().zip(wanted.iter()) {
-        assert!(rt; *node == unnumbered(*from, *to));
-    }
-    Ok(())
+fn sets_the_span_of_each_node(rt: HostRuntime) {
+    check::<Nodes>(&rt, rt.alloc(), NODES, EACH_LINE, 1);
 }

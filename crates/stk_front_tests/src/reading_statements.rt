@@ -1,113 +1,93 @@
 //! Texts of units with the trees that they are, worked out by hand from C11 6.8 and 6.9.
-use crate::reading_texts::{add, names, tokens};
+use crate::reading_texts::{names, tokens};
+use crate::tables::{EACH_LINE, Says, add, check};
 use std::alloc::Global;
-use std::test::Fail;
-use stk_base::{NoMemory, Span};
+use stk_base::{Boxed, Span};
 use stk_expr::Parse;
 use stk_stmt::{head, unit};
 use stk_tree::{Declaration, Expr, Label, Part, Section, Start, Stmt, StmtForm, Unit};
 
-type Row = (&'static str, &'static str);
+// Functions, and their shapes: expressions and declarators as they stand in the text, each statement and
+// section in brackets, or `no tree`. `T` is a typedef name, and all other words aren't.
+static BODIES: &str = r#"
+int f() {} => f()[{}]
+int f() { ; } => f()[{[;]}]
+int f() { a = 1; b; } => f()[{[a = 1;][b;]}]
+int f() { int x = 1, y; x; } => f()[{(x = 1,y)[x;]}]
+int f() { T x; T * y; } => f()[{(x)(* y)}]
+int f() { a * b; } => f()[{[a * b;]}]
+int f() { static int x; } => f()[{(x)}]
+int f() { x; int y; } => f()[{[x;](y)}]
+int f() { { int x; } { } } => f()[{[{(x)}][{}]}]
+int f() { if (a) b; } => f()[{[if a[b;]]}]
+int f() { if (a) b; else c; } => f()[{[if a[b;] else [c;]]}]
+int f() { if (a) if (b) ; else ; } => f()[{[if a[if b[;] else [;]]]}]
+int f() { if (a) if (b) ; else ; else ; } => f()[{[if a[if b[;] else [;]] else [;]]}]
+int f() { if (a) while (b) if (c) ; else ; } => f()[{[if a[while b[if c[;] else [;]]]]}]
+int f() { if (a) { if (b) ; } else ; } => f()[{[if a[{[if b[;]]}] else [;]]}]
+int f() { while (a, b) c; } => f()[{[while a, b[c;]]}]
+int f() { do a; while (b); } => f()[{[do [a;] b]}]
+int f() { do { } while (b) ; c; } => f()[{[do [{}] b][c;]}]
+int f() { for (;;) ; } => f()[{[for |||[;]]}]
+int f() { for (a = 0; a < b; a++) c; } => f()[{[for a = 0|a < b|a++|[c;]]}]
+int f() { for (int i = 0, j; i; ) { } } => f()[{[for (i = 0,j)|i||[{}]]}]
+int f() { break; continue; return; return a, b; } => f()[{[break][continue][return][return a, b]}]
+int f() { switch (a) { } } => f()[{[switch a{}]}]
+int f() { switch (a) { case 1: case 2: b; break; default: } } => f()[{[switch a{[1:2:[b;][break]][default:]}]}]
+int f() { switch (a) { default: { int x; } case b ? 1 : 2: ; } } => f()[{[switch a{[default:[{(x)}]][b ? 1 : 2:[;]]}]}]
+int f() { switch (a) case 1: b; } => no tree
+int f() { switch (a) { b; case 1: c; } } => no tree
+int f() { switch (a) { int x; case 1: c; } } => no tree
+int f() { switch (a) { case 1: int x; } } => no tree
+int f() { switch (a) { case 1: { case 2: b; } } } => no tree
+int f() { switch (a) { case b = 1: c; } } => no tree
+int f() { case 1: a; } => no tree
+int f() { else ; } => no tree
+int f() { if (a) else ; } => no tree
+int f() { if a ; } => no tree
+int f() { do a; while (b) } => no tree
+int f() { for (a; b) ; } => no tree
+int f() { a b; } => no tree
+int f() { goto a; a: ; } => no tree
+int f() { typedef int t; } => no tree
+int f() { struct s { int a; } x; } => no tree
+int f() { int f(int); } => no tree
+int f() { int; } => no tree
+int f() { a; } ; => no tree
+"#;
 
-// The body of a function, and its shape: expressions and declarators as they stand in the text, each statement and
-// section in brackets. An empty shape is no tree. `T` is a typedef name, and all other words aren't.
-static BODIES: [Row; 44] = [
-    ("{}", "[{}]"),
-    ("{ ; }", "[{[;]}]"),
-    ("{ a = 1; b; }", "[{[a = 1;][b;]}]"),
-    ("{ int x = 1, y; x; }", "[{(x = 1,y)[x;]}]"),
-    ("{ T x; T * y; }", "[{(x)(* y)}]"),
-    ("{ a * b; }", "[{[a * b;]}]"),
-    ("{ static int x; }", "[{(x)}]"),
-    ("{ x; int y; }", "[{[x;](y)}]"),
-    ("{ { int x; } { } }", "[{[{(x)}][{}]}]"),
-    ("{ if (a) b; }", "[{[if a[b;]]}]"),
-    ("{ if (a) b; else c; }", "[{[if a[b;] else [c;]]}]"),
-    ("{ if (a) if (b) ; else ; }", "[{[if a[if b[;] else [;]]]}]"),
-    (
-        "{ if (a) if (b) ; else ; else ; }",
-        "[{[if a[if b[;] else [;]] else [;]]}]",
-    ),
-    (
-        "{ if (a) while (b) if (c) ; else ; }",
-        "[{[if a[while b[if c[;] else [;]]]]}]",
-    ),
-    (
-        "{ if (a) { if (b) ; } else ; }",
-        "[{[if a[{[if b[;]]}] else [;]]}]",
-    ),
-    ("{ while (a, b) c; }", "[{[while a, b[c;]]}]"),
-    ("{ do a; while (b); }", "[{[do [a;] b]}]"),
-    ("{ do { } while (b) ; c; }", "[{[do [{}] b][c;]}]"),
-    ("{ for (;;) ; }", "[{[for |||[;]]}]"),
-    (
-        "{ for (a = 0; a < b; a++) c; }",
-        "[{[for a = 0|a < b|a++|[c;]]}]",
-    ),
-    (
-        "{ for (int i = 0, j; i; ) { } }",
-        "[{[for (i = 0,j)|i||[{}]]}]",
-    ),
-    (
-        "{ break; continue; return; return a, b; }",
-        "[{[break][continue][return][return a, b]}]",
-    ),
-    ("{ switch (a) { } }", "[{[switch a{}]}]"),
-    (
-        "{ switch (a) { case 1: case 2: b; break; default: } }",
-        "[{[switch a{[1:2:[b;][break]][default:]}]}]",
-    ),
-    (
-        "{ switch (a) { default: { int x; } case b ? 1 : 2: ; } }",
-        "[{[switch a{[default:[{(x)}]][b ? 1 : 2:[;]]}]}]",
-    ),
-    ("{ switch (a) case 1: b; }", ""),
-    ("{ switch (a) { b; case 1: c; } }", ""),
-    ("{ switch (a) { int x; case 1: c; } }", ""),
-    ("{ switch (a) { case 1: int x; } }", ""),
-    ("{ switch (a) { case 1: { case 2: b; } } }", ""),
-    ("{ switch (a) { case b = 1: c; } }", ""),
-    ("{ case 1: a; }", ""),
-    ("{ else ; }", ""),
-    ("{ if (a) else ; }", ""),
-    ("{ if a ; }", ""),
-    ("{ do a; while (b) }", ""),
-    ("{ for (a; b) ; }", ""),
-    ("{ a b; }", ""),
-    ("{ goto a; a: ; }", ""),
-    ("{ typedef int t; }", ""),
-    ("{ struct s { int a; } x; }", ""),
-    ("{ int f(int); }", ""),
-    ("{ int; }", ""),
-    ("{ a; } ;", ""),
-];
+// Units with their shapes.
+static UNITS: &str = r#"
+; => ;
+int x; => (x)
+int; => ()
+typedef int t, *u; => (t,*u)
+int f(void), g(int a, ...); => (f(void),g(int a, ...))
+struct s { int a; struct s *next; } x = { .a = 1, }; => (x = { .a = 1, })
+enum e { A, B = 2, }; => ()
+T x; => (x)
+T T; => no tree
+int f(int a) { return a; } => f(int a)[{[return a]}]
+static T *f() { } => *f()[{}]
+int f { } => no tree
+int f(void);; => no tree
+; ; => no tree
+=> no tree
+int x => no tree
+x; => no tree
+int f(void) { } x => no tree
+int f(void) { => no tree
+int x = 1, f(void) { } => no tree
+"#;
 
-// Units that are no functions, and fronts of functions, with their shapes.
-static UNITS: [Row; 20] = [
-    (";", ";"),
-    ("int x;", "(x)"),
-    ("int;", "()"),
-    ("typedef int t, *u;", "(t,*u)"),
-    ("int f(void), g(int a, ...);", "(f(void),g(int a, ...))"),
-    (
-        "struct s { int a; struct s *next; } x = { .a = 1, };",
-        "(x = { .a = 1, })",
-    ),
-    ("enum e { A, B = 2, };", "()"),
-    ("T x;", "(x)"),
-    ("T T;", ""),
-    ("int f(int a) { return a; }", "f(int a)[{[return a]}]"),
-    ("static T *f() { }", "*f()[{}]"),
-    ("int f { }", ""),
-    ("int f(void);;", ""),
-    ("; ;", ""),
-    ("", ""),
-    ("int x", ""),
-    ("x;", ""),
-    ("int f(void) { } x", ""),
-    ("int f(void) {", ""),
-    ("int x = 1, f(void) { }", ""),
-];
+// Fronts of functions with their shapes.
+static HEADS: &str = r#"
+int f(int a) => (f(int a))
+static int f() { } => no tree
+=> no tree
+int x; => no tree
+int => ()
+"#;
 
 /// The text of an expression that may be missing.
 fn add_expression(out: &mut Vec<u8>, bytes: &[u8], value: &Option<Expr>) {
@@ -253,130 +233,120 @@ fn add_unit(out: &mut Vec<u8>, bytes: &[u8], unit: &Unit) {
     }
 }
 
-/// The shape of the unit that a text is; nothing where it is none.
-fn shape(alloc: Global, text: &[u8], headed: bool) -> Result<Vec<u8>, NoMemory> {
+/// The unit that some tokens are, or the front of a function.
+fn tree_of(alloc: Global, text: &[u8], headed: bool) -> Result<Boxed<Unit>, Parse> {
     let list = tokens(alloc, text)?;
     let names = names(alloc)?;
-    let mut out = Vec::new(alloc);
     if list.len() >= 16_777_215 {
-        return Ok(out);
+        return Err(Parse::NoTree);
     }
-    let found = if headed {
+    if headed {
         head(alloc, text, list.as_slice(), &names)
     } else {
         unit(alloc, text, list.as_slice(), &names)
-    };
-    match found {
-        Ok(tree) => {
-            add_unit(&mut out, text, tree.get());
-            Ok(out)
-        }
-        Err(Parse::NoTree) => Ok(out),
-        Err(Parse::NoMemory) => Err(NoMemory),
     }
 }
 
-/// `int f()` with a body.
-fn with_body(alloc: Global, body: &str) -> Result<Vec<u8>, NoMemory> {
-    let mut text = Vec::new(alloc);
-    add(&mut text, b"int f() ");
-    add(&mut text, body.as_bytes());
-    Ok(text)
+/// Adds the shape of the unit that a text is.
+fn add_shape(alloc: Global, text: &[u8], headed: bool, out: &mut Vec<u8>) {
+    match tree_of(alloc, text, headed) {
+        Ok(tree) => add_unit(out, text, tree.get()),
+        Err(Parse::NoTree) => add(out, b"no tree"),
+        Err(Parse::NoMemory) => add(out, b"no memory"),
+    }
 }
 
-/// Whether a body has this shape.
-fn has_body(alloc: Global, body: &str, wanted: &str) -> Result<bool, NoMemory> {
-    let text = with_body(alloc, body)?;
-    let found = shape(alloc, text.as_slice(), false)?;
-    if wanted.is_empty() {
-        return Ok(found.is_empty());
+struct Units;
+
+impl Says for Units {
+    fn say(alloc: Global, text: &str, out: &mut Vec<u8>) {
+        add(out, b" ");
+        add_shape(alloc, text.as_bytes(), false, out)
     }
-    let mut whole = Vec::new(alloc);
-    add(&mut whole, b"f()");
-    add(&mut whole, wanted.as_bytes());
-    Ok(found.as_slice() == whole.as_slice())
+}
+
+struct Heads;
+
+impl Says for Heads {
+    fn say(alloc: Global, text: &str, out: &mut Vec<u8>) {
+        add(out, b" ");
+        add_shape(alloc, text.as_bytes(), true, out)
+    }
 }
 
 #[test]
-fn reads_statements(rt: HostRuntime) -> Result<(), Fail> {
-    for &(body, wanted) in &BODIES {
-        assert!(rt; has_body(rt.alloc(), body, wanted)?, "{body}");
-    }
-    Ok(())
+fn reads_statements(rt: HostRuntime) {
+    check::<Units>(&rt, rt.alloc(), BODIES, EACH_LINE, 44);
 }
 
 #[test]
-fn reads_units(rt: HostRuntime) -> Result<(), Fail> {
-    for &(text, wanted) in &UNITS {
-        let found = shape(rt.alloc(), text.as_bytes(), false)?;
-        assert!(rt; found.as_slice() == wanted.as_bytes(), "{text}");
-    }
-    Ok(())
+fn reads_units(rt: HostRuntime) {
+    check::<Units>(&rt, rt.alloc(), UNITS, EACH_LINE, 20);
 }
 
 #[test]
-fn reads_heads(rt: HostRuntime) -> Result<(), Fail> {
-    let rows = [
-        ("int f(int a)", "(f(int a))"),
-        ("static int f() { }", ""),
-        ("", ""),
-        ("int x;", ""),
-        ("int", "()"),
-    ];
-    for (text, wanted) in rows {
-        let found = shape(rt.alloc(), text.as_bytes(), true)?;
-        assert!(rt; found.as_slice() == wanted.as_bytes(), "{text}");
-    }
-    Ok(())
+fn reads_heads(rt: HostRuntime) {
+    check::<Heads>(&rt, rt.alloc(), HEADS, EACH_LINE, 5);
 }
 
-/// Whether a function whose body returns a name in so many parentheses is read.
-fn is_read(alloc: Global, count: usize) -> Result<bool, NoMemory> {
+/// A function whose body returns a name in so many parentheses.
+fn nested(alloc: Global, count: usize) -> Vec<u8> {
     let mut text = Vec::new(alloc);
     add(&mut text, b"int f(int x) { return ");
     for _ in 0..count {
-        text.push(b'(')?;
+        let _ = text.push(b'(');
     }
-    text.push(b'x')?;
+    let _ = text.push(b'x');
     for _ in 0..count {
-        text.push(b')')?;
+        let _ = text.push(b')');
     }
     add(&mut text, b"; }");
-    let found = shape(alloc, text.as_slice(), false)?;
-    Ok(!found.is_empty())
+    text
+}
+
+/// Whether such a function is read; nothing where there is no memory.
+fn is_read(alloc: Global, count: usize) -> Option<bool> {
+    let text = nested(alloc, count);
+    match tree_of(alloc, text.as_slice(), false) {
+        Ok(_) => Some(true),
+        Err(Parse::NoTree) => Some(false),
+        Err(Parse::NoMemory) => None,
+    }
 }
 
 #[test]
-fn stops_at_the_greatest_height(rt: HostRuntime) -> Result<(), Fail> {
-    assert!(rt; is_read(rt.alloc(), 396)?);
-    assert!(rt; !is_read(rt.alloc(), 397)?);
-    assert!(rt; !is_read(rt.alloc(), 200_000)?);
-    Ok(())
+fn stops_at_the_greatest_height(rt: HostRuntime) {
+    assert!(rt; is_read(rt.alloc(), 396) == Some(true));
+    assert!(rt; is_read(rt.alloc(), 397) == Some(false));
+    assert!(rt; is_read(rt.alloc(), 200_000) == Some(false));
 }
 
 /// The number and the span of the whole unit.
-fn last_node(alloc: Global, text: &[u8]) -> Result<(u32, Span), NoMemory> {
-    let list = tokens(alloc, text)?;
-    let names = names(alloc)?;
-    let none = Span { from: 0, to: 0 };
-    if list.len() > 16_777_216 {
-        return Ok((0, none));
+fn last_node(unit: &Unit) -> (u32, Span) {
+    match unit {
+        Unit::Empty(node) | Unit::Declares(node, _) | Unit::Defines(node, _) => {
+            (node.number, node.span)
+        }
     }
-    match unit(alloc, text, list.as_slice(), &names) {
-        Ok(tree) => match tree.get() {
-            Unit::Empty(node) | Unit::Declares(node, _) | Unit::Defines(node, _) => {
-                Ok((node.number, node.span))
-            }
-        },
-        Err(_) => Ok((0, none)),
+}
+
+/// Whether the last node of a unit has this number and this span.
+fn ends_with(alloc: Global, text: &[u8], number: u32, span: Span) -> bool {
+    match tree_of(alloc, text, false) {
+        Ok(tree) => last_node(tree.get()) == (number, span),
+        Err(_) => false,
     }
 }
 
 #[test]
-fn numbers_the_nodes(rt: HostRuntime) -> Result<(), Fail> {
-    let text = b" int f(unsigned char x) { return x; } ";
-    let (number, span) = last_node(rt.alloc(), text)?;
-    assert!(rt; number == 8);
-    assert!(rt; span == Span { from: 1, to: 37 });
-    Ok(())
+fn numbers_the_nodes(rt: HostRuntime) {
+    let span = Span { from: 1, to: 37 };
+    assert!(rt;
+        ends_with(
+            rt.alloc(),
+            b" int f(unsigned char x) { return x; } ",
+            8,
+            span
+        )
+    );
 }
