@@ -1,8 +1,10 @@
 // Terms, and the first inputs that make them 1.
+ghost use Rattle.stk_terms.specs.Fitting.{AreWidths};
+
 use std::alloc::Global;
 use std::test::Fail;
 use stk_base::{List, NoMemory};
-use stk_terms::{TermId, TermOp, Terms, first_that, input_bits};
+use stk_terms::{Residues, TermId, TermOp, Terms, first_that, input_bits};
 
 /// A term: its operators with their arguments, each by its place; the last one is the goal. Of the inputs those that
 /// are found first, or none.
@@ -98,27 +100,42 @@ pub(crate) fn goal_of(
     Ok(made.pop())
 }
 
+/// The numbers of two residues; none of fewer or more.
+fn both(residues: &Residues) -> Option<(u64, u64)> {
+    let numbers = residues.numbers.as_slice();
+    if numbers.len() != 2 {
+        return None;
+    }
+    Some((numbers[0], numbers[1]))
+}
+
 /// The first two inputs that make the goal 1, if some do; and whether it could be tried.
+fn found(
+    alloc: Global,
+    terms: &mut Terms,
+    steps: &[(TermOp, &[usize])],
+) -> Result<(bool, Option<(u64, u64)>), NoMemory> {
+    let Some(goal) = goal_of(alloc, terms, steps)? else {
+        return Ok((false, None));
+    };
+    if goal.0 >= terms.count() || input_bits(terms) > 16 {
+        return Ok((false, None));
+    }
+    let Some(residues) = first_that(alloc, terms, goal)? else {
+        return Ok((true, None));
+    };
+    let numbers = both(&residues);
+    Ok((numbers.is_some(), numbers))
+}
+
+/// As `found`, in a store of its own over two inputs of 8 bits.
 fn tried(
     alloc: Global,
     steps: &[(TermOp, &[usize])],
 ) -> Result<(bool, Option<(u64, u64)>), NoMemory> {
     let widths = vec![in alloc; 8, 8]?;
     let mut terms = Terms::new(alloc, List::from_vec(widths));
-    let Some(goal) = goal_of(alloc, &mut terms, steps)? else {
-        return Ok((false, None));
-    };
-    if goal.0 >= terms.count() || input_bits(&terms) > 16 {
-        return Ok((false, None));
-    }
-    let Some(residues) = first_that(alloc, &terms, goal)? else {
-        return Ok((true, None));
-    };
-    let numbers = residues.numbers.as_slice();
-    if numbers.len() != 2 {
-        return Ok((false, None));
-    }
-    Ok((true, Some((numbers[0], numbers[1]))))
+    found(alloc, &mut terms, steps)
 }
 
 #[test]
@@ -132,16 +149,21 @@ fn the_first_inputs_are_found(rt: HostRuntime) -> Result<(), Fail> {
     Ok(())
 }
 
+/// The input bits of a store over inputs of these widths.
+fn bits_of(alloc: Global, widths: List<u8>) -> u32
+    requires { AreWidths widths }
+{
+    let terms = Terms::new(alloc, widths);
+    input_bits(&terms)
+}
+
 #[test]
 fn inputs_of_seventeen_bits_are_too_many(rt: HostRuntime) -> Result<(), Fail> {
     let widths = vec![in rt.alloc(); 8, 9]?;
-    let terms = Terms::new(rt.alloc(), List::from_vec(widths));
-    assert_eq!(rt; input_bits(&terms), 17);
+    assert_eq!(rt; bits_of(rt.alloc(), List::from_vec(widths)), 17);
     let widths = vec![in rt.alloc(); 64, 64]?;
-    let terms = Terms::new(rt.alloc(), List::from_vec(widths));
-    assert_eq!(rt; input_bits(&terms), 17);
+    assert_eq!(rt; bits_of(rt.alloc(), List::from_vec(widths)), 17);
     let widths = vec![in rt.alloc(); 16]?;
-    let terms = Terms::new(rt.alloc(), List::from_vec(widths));
-    assert_eq!(rt; input_bits(&terms), 16);
+    assert_eq!(rt; bits_of(rt.alloc(), List::from_vec(widths)), 16);
     Ok(())
 }

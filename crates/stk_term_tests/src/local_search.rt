@@ -1,4 +1,6 @@
 // Inputs that a local search finds.
+ghost use Rattle.stk_terms.specs.Fitting.{AreWidths};
+
 use crate::enumerate::{TABLE, goal_of};
 use std::alloc::Global;
 use std::test::Fail;
@@ -10,7 +12,7 @@ use stk_terms::{TermOp, Terms};
 type Steps = &'static [(TermOp, &'static [usize])];
 
 /// Whether inputs are found that make the last of these terms 1, if they can be made.
-fn searched(alloc: Global, terms: &mut Terms, steps: Steps) -> Result<Option<bool>, NoMemory> {
+fn searched_in(alloc: Global, terms: &mut Terms, steps: Steps) -> Result<Option<bool>, NoMemory> {
     let Some(goal) = goal_of(alloc, terms, steps)? else {
         return Ok(None);
     };
@@ -21,13 +23,20 @@ fn searched(alloc: Global, terms: &mut Terms, steps: Steps) -> Result<Option<boo
     Ok(Some(found.is_some()))
 }
 
+/// As `searched_in`, in a store of its own over inputs of these widths.
+fn searched(alloc: Global, widths: List<u8>, steps: Steps) -> Result<Option<bool>, NoMemory>
+    requires { AreWidths widths }
+{
+    let mut terms = Terms::new(alloc, widths);
+    searched_in(alloc, &mut terms, steps)
+}
+
 #[test]
 fn what_few_bits_have_is_found(rt: HostRuntime) -> Result<(), Fail> {
     let mut number = 0u32;
     for case in &TABLE {
         let widths = vec![in rt.alloc(); 8, 8]?;
-        let mut terms = Terms::new(rt.alloc(), List::from_vec(widths));
-        let answer = searched(rt.alloc(), &mut terms, case.steps);
+        let answer = searched(rt.alloc(), List::from_vec(widths), case.steps);
         assert!(rt; answer == Ok(Some(case.found.is_some())), "{number}");
         number = number.wrapping_add(1);
     }
@@ -98,8 +107,7 @@ fn likely_inputs_of_many_bits_are_found(rt: HostRuntime) -> Result<(), Fail> {
     let mut number = 0u32;
     for (steps, is_found) in &WIDE {
         let widths = vec![in rt.alloc(); 32, 32, 32, 32]?;
-        let mut terms = Terms::new(rt.alloc(), List::from_vec(widths));
-        let answer = searched(rt.alloc(), &mut terms, *steps);
+        let answer = searched(rt.alloc(), List::from_vec(widths), *steps);
         assert!(rt; answer == Ok(Some(*is_found)), "{number}");
         number = number.wrapping_add(1);
     }

@@ -4,7 +4,7 @@ use std::alloc::Global;
 use std::process::Abort;
 use std::test::Fail;
 use stk_base::{List, NoMemory};
-use stk_terms::{Residues, TermOp, Terms};
+use stk_terms::{Residues, TermId, TermOp, Terms};
 
 // For each operator of two operands its values at width 4, one hexadecimal digit for each pair, the first operand in
 // front. They were computed with Python's integers.
@@ -369,6 +369,29 @@ static ONES: [(TermOp, u8, u128, u8, u128); 24] = [
     (TermOp::SignExt(9), 8, 0x7f, 9, 0x7f),
 ];
 
+// The number of a term over no inputs.
+fn number(rt: &impl Abort, alloc: Global, terms: &Terms, id: TermId) -> Result<u128, NoMemory> {
+    let none = Residues {
+        numbers: List::empty(alloc),
+    };
+    assert!(rt; id.0 < terms.count());
+    assert!(rt; terms.has_residues(&none));
+    terms.value(id, &none)
+}
+
+// The term of an operator over two constants of a width.
+fn over_two(
+    rt: &impl Abort,
+    terms: &mut Terms,
+    op: TermOp,
+    size: u8,
+    pair: (u128, u128),
+) -> Result<TermId, NoMemory> {
+    let first = made(rt, terms, TermOp::Constant(size, pair.0), &[])?;
+    let second = made(rt, terms, TermOp::Constant(size, pair.1), &[])?;
+    made(rt, terms, op, &[first, second])
+}
+
 // The number of an operator over two constants of a width.
 fn of_two(
     rt: &impl Abort,
@@ -379,15 +402,31 @@ fn of_two(
     y: u128,
 ) -> Result<u128, NoMemory> {
     let mut terms = Terms::new(alloc, List::empty(alloc));
-    let first = made(rt, &mut terms, TermOp::Constant(size, x), &[])?;
-    let second = made(rt, &mut terms, TermOp::Constant(size, y), &[])?;
-    let id = made(rt, &mut terms, op, &[first, second])?;
-    let none = Residues {
-        numbers: List::empty(alloc),
-    };
+    let id = over_two(rt, &mut terms, op, size, (x, y))?;
+    number(rt, alloc, &terms, id)
+}
+
+// The term of an operator over one constant.
+fn over_one(
+    rt: &impl Abort,
+    terms: &mut Terms,
+    op: TermOp,
+    size: u8,
+    x: u128,
+) -> Result<TermId, NoMemory> {
+    let first = made(rt, terms, TermOp::Constant(size, x), &[])?;
+    made(rt, terms, op, &[first])
+}
+
+// The width and the number of a term over no inputs.
+fn width_and_number(
+    rt: &impl Abort,
+    alloc: Global,
+    terms: &Terms,
+    id: TermId,
+) -> Result<(u8, u128), NoMemory> {
     assert!(rt; id.0 < terms.count());
-    assert!(rt; terms.has_residues(&none));
-    terms.value(id, &none)
+    Ok((terms.width(id), number(rt, alloc, terms, id)?))
 }
 
 // The width and the number of an operator over one constant.
@@ -399,15 +438,8 @@ fn of_one(
     x: u128,
 ) -> Result<(u8, u128), NoMemory> {
     let mut terms = Terms::new(alloc, List::empty(alloc));
-    let first = made(rt, &mut terms, TermOp::Constant(size, x), &[])?;
-    let id = made(rt, &mut terms, op, &[first])?;
-    let none = Residues {
-        numbers: List::empty(alloc),
-    };
-    assert!(rt; id.0 < terms.count());
-    assert!(rt; terms.has_residues(&none));
-    let number = terms.value(id, &none)?;
-    Ok((terms.width(id), number))
+    let id = over_one(rt, &mut terms, op, size, x)?;
+    width_and_number(rt, alloc, &terms, id)
 }
 
 // The number of a hexadecimal digit.

@@ -92,26 +92,60 @@ fn number(
     terms.value(id, &residues)
 }
 
-// Whether the last term of a random store keeps its values.
-fn keeps_values(rt: &impl Abort, alloc: Global, first: u64) -> Result<bool, NoMemory> {
-    let mut terms = three_inputs(alloc)?;
+// Makes the three inputs.
+fn make_inputs(rt: &impl Abort, terms: &mut Terms) -> Result<(), NoMemory> {
     for key in 0..3u32 {
-        let _ = made(rt, &mut terms, TermOp::Input(key), &[])?;
+        let _ = made(rt, terms, TermOp::Input(key), &[])?;
     }
+    Ok(())
+}
+
+// Makes random terms, and gives the last number that was drawn for them.
+fn make_some(alloc: Global, terms: &mut Terms, first: u64) -> Result<u64, NoMemory> {
     let mut seed = first;
     for _ in 0..60u32 {
         seed = next(seed);
-        attempt(alloc, &mut terms, seed)?;
+        attempt(alloc, terms, seed)?;
     }
-    let last = TermId(terms.count().saturating_sub(1));
-    let became = simplified(rt, alloc, &mut terms, last)?;
+    Ok(seed)
+}
+
+// Whether two terms have the same numbers for random residues.
+fn are_alike(
+    rt: &impl Abort,
+    alloc: Global,
+    terms: &Terms,
+    pair: (TermId, TermId),
+    first: u64,
+) -> Result<bool, NoMemory> {
+    let mut seed = first;
     for _ in 0..8u32 {
         seed = next(seed);
-        if number(rt, alloc, &terms, last, seed)? != number(rt, alloc, &terms, became, seed)? {
+        if number(rt, alloc, terms, pair.0, seed)? != number(rt, alloc, terms, pair.1, seed)? {
             return Ok(false);
         }
     }
     Ok(true)
+}
+
+// Whether the last one of random terms keeps its values.
+fn last_keeps_values(
+    rt: &impl Abort,
+    alloc: Global,
+    terms: &mut Terms,
+    first: u64,
+) -> Result<bool, NoMemory> {
+    make_inputs(rt, terms)?;
+    let seed = make_some(alloc, terms, first)?;
+    let last = TermId(terms.count().saturating_sub(1));
+    let became = simplified(rt, alloc, terms, last)?;
+    are_alike(rt, alloc, terms, (last, became), seed)
+}
+
+// Whether the last term of a random store keeps its values.
+fn keeps_values(rt: &impl Abort, alloc: Global, first: u64) -> Result<bool, NoMemory> {
+    let mut terms = three_inputs(alloc)?;
+    last_keeps_values(rt, alloc, &mut terms, first)
 }
 
 #[test]

@@ -151,42 +151,58 @@ static KEPT: [&str; 24] = [
     "x y 5 add add",
 ];
 
+// Words without numbers, with their operators and how many arguments these have.
+static WORDS: [(&str, TermOp, usize); 21] = [
+    ("x", TermOp::Input(0), 0),
+    ("y", TermOp::Input(1), 0),
+    ("t", TermOp::Input(2), 0),
+    ("not", TermOp::Not, 1),
+    ("neg", TermOp::Neg, 1),
+    ("and", TermOp::And, 2),
+    ("or", TermOp::Or, 2),
+    ("xor", TermOp::Xor, 2),
+    ("add", TermOp::Add, 2),
+    ("sub", TermOp::Sub, 2),
+    ("mul", TermOp::Mul, 2),
+    ("udiv", TermOp::UDiv, 2),
+    ("urem", TermOp::URem, 2),
+    ("shl", TermOp::Shl, 2),
+    ("lshr", TermOp::LShr, 2),
+    ("ashr", TermOp::AShr, 2),
+    ("eq", TermOp::Eq, 2),
+    ("ult", TermOp::ULt, 2),
+    ("slt", TermOp::SLt, 2),
+    ("concat", TermOp::Concat, 2),
+    ("ite", TermOp::Ite, 3),
+];
+
+// The operator of a word with the numbers behind it, and how many arguments it has.
+fn with_numbers(name: &str, first: u8, second: u8) -> (TermOp, usize) {
+    if name == "bits" {
+        return (TermOp::Extract(first, second), 1);
+    }
+    if name == "zeros" {
+        return (TermOp::ZeroExt(first), 1);
+    }
+    if name == "signs" {
+        return (TermOp::SignExt(first), 1);
+    }
+    let number = name.parse::<u128>().unwrap_or(0);
+    (TermOp::Constant(first, number), 0)
+}
+
 // The operator of a word, and how many arguments it has.
 fn operator(word: &str) -> (TermOp, usize) {
     let mut parts = word.split(':');
     let name = parts.next().unwrap_or("");
+    for (known, op, count) in &WORDS {
+        if *known == name {
+            return (*op, *count);
+        }
+    }
     let first = parts.next().unwrap_or("8").parse::<u8>().unwrap_or(0);
     let second = parts.next().unwrap_or("0").parse::<u8>().unwrap_or(0);
-    match name.as_bytes() {
-        b"x" => (TermOp::Input(0), 0),
-        b"y" => (TermOp::Input(1), 0),
-        b"t" => (TermOp::Input(2), 0),
-        b"not" => (TermOp::Not, 1),
-        b"neg" => (TermOp::Neg, 1),
-        b"and" => (TermOp::And, 2),
-        b"or" => (TermOp::Or, 2),
-        b"xor" => (TermOp::Xor, 2),
-        b"add" => (TermOp::Add, 2),
-        b"sub" => (TermOp::Sub, 2),
-        b"mul" => (TermOp::Mul, 2),
-        b"udiv" => (TermOp::UDiv, 2),
-        b"urem" => (TermOp::URem, 2),
-        b"shl" => (TermOp::Shl, 2),
-        b"lshr" => (TermOp::LShr, 2),
-        b"ashr" => (TermOp::AShr, 2),
-        b"eq" => (TermOp::Eq, 2),
-        b"ult" => (TermOp::ULt, 2),
-        b"slt" => (TermOp::SLt, 2),
-        b"concat" => (TermOp::Concat, 2),
-        b"ite" => (TermOp::Ite, 3),
-        b"bits" => (TermOp::Extract(first, second), 1),
-        b"zeros" => (TermOp::ZeroExt(first), 1),
-        b"signs" => (TermOp::SignExt(first), 1),
-        _ => (
-            TermOp::Constant(first, name.parse::<u128>().unwrap_or(0)),
-            0,
-        ),
-    }
+    with_numbers(name, first, second)
 }
 
 // Makes the term of a word over the last terms of the stack, and puts it in their place.
@@ -217,6 +233,20 @@ fn term(rt: &impl Abort, alloc: Global, terms: &mut Terms, text: &str) -> Result
 }
 
 // What a term becomes, and the term that is wanted.
+fn both_in(
+    rt: &impl Abort,
+    alloc: Global,
+    terms: &mut Terms,
+    left: &str,
+    right: &str,
+) -> Result<(TermId, TermId), NoMemory> {
+    let given = term(rt, alloc, terms, left)?;
+    let wanted = term(rt, alloc, terms, right)?;
+    let became = simplified(rt, alloc, terms, given)?;
+    Ok((became, wanted))
+}
+
+// As `both_in`, in a store of its own.
 fn both(
     rt: &impl Abort,
     alloc: Global,
@@ -224,10 +254,7 @@ fn both(
     right: &str,
 ) -> Result<(TermId, TermId), NoMemory> {
     let mut terms = three_inputs(alloc)?;
-    let given = term(rt, alloc, &mut terms, left)?;
-    let wanted = term(rt, alloc, &mut terms, right)?;
-    let became = simplified(rt, alloc, &mut terms, given)?;
-    Ok((became, wanted))
+    both_in(rt, alloc, &mut terms, left, right)
 }
 
 // Each term becomes the other one of its row.
@@ -282,12 +309,17 @@ fn long_sum(rt: &impl Abort, terms: &mut Terms) -> Result<TermId, NoMemory> {
     Ok(sum)
 }
 
+// The long sum becomes a sum of one constant.
+fn long_sum_is_short(rt: &impl Abort, alloc: Global, terms: &mut Terms) -> Result<(), Fail> {
+    let sum = long_sum(rt, terms)?;
+    let became = simplified(rt, alloc, terms, sum)?;
+    let wanted = term(rt, alloc, terms, "x 64 add")?;
+    assert_eq!(rt; became, wanted);
+    Ok(())
+}
+
 #[test]
 fn a_million_ones_are_one_constant(rt: HostRuntime) -> Result<(), Fail> {
     let mut terms = three_inputs(rt.alloc())?;
-    let sum = long_sum(&rt, &mut terms)?;
-    let became = simplified(&rt, rt.alloc(), &mut terms, sum)?;
-    let wanted = term(&rt, rt.alloc(), &mut terms, "x 64 add")?;
-    assert_eq!(rt; became, wanted);
-    Ok(())
+    long_sum_is_short(&rt, rt.alloc(), &mut terms)
 }

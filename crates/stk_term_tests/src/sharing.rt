@@ -54,38 +54,38 @@ static NOT_MADE: [(TermOp, &[TermId]); 6] = [
     (TermOp::Extract(1, 8), &[TermId(0)]),
 ];
 
+// Makes the terms of the table.
+fn make_all(rt: &impl Abort, terms: &mut Terms) -> Result<(), NoMemory> {
+    for (op, args, place) in &MADE {
+        assert_eq!(rt; made(rt, terms, *op, args)?, TermId(*place));
+    }
+    Ok(())
+}
+
 // The store with the terms of the table.
 fn all_made(rt: &impl Abort, alloc: Global) -> Result<Terms, NoMemory> {
     let widths = vec![in alloc; 8, 64]?;
     let mut terms = Terms::new(alloc, List::from_vec(widths));
-    for (op, args, place) in &MADE {
-        assert_eq!(rt; made(rt, &mut terms, *op, args)?, TermId(*place));
-    }
+    make_all(rt, &mut terms)?;
     Ok(terms)
 }
 
-#[test]
-fn values_of_terms(rt: HostRuntime) -> Result<(), Fail> {
-    let terms = all_made(&rt, rt.alloc())?;
-    let numbers = vec![in rt.alloc(); 200, 100]?;
-    let residues = Residues {
-        numbers: List::from_vec(numbers),
-    };
+// The terms have their widths and their numbers.
+fn have_values(rt: &impl Abort, terms: &Terms, residues: &Residues) -> Result<(), Fail> {
     for (place, width, value) in &VALUES {
         let id = TermId(*place);
         assert!(rt; id.0 < terms.count());
-        assert!(rt; terms.has_residues(&residues));
+        assert!(rt; terms.has_residues(residues));
         assert_eq!(rt;
-            (terms.width(id), terms.value(id, &residues)?),
+            (terms.width(id), terms.value(id, residues)?),
             (*width, *value)
         );
     }
     Ok(())
 }
 
-#[test]
-fn parts_of_terms(rt: HostRuntime) -> Result<(), Fail> {
-    let terms = all_made(&rt, rt.alloc())?;
+// The terms depend on their parts.
+fn have_parts(rt: &impl Abort, terms: &Terms) -> Result<(), Fail> {
     for (place, parts) in &PARTS {
         let id = TermId(*place);
         assert!(rt; id.0 < terms.count());
@@ -94,19 +94,50 @@ fn parts_of_terms(rt: HostRuntime) -> Result<(), Fail> {
     Ok(())
 }
 
-#[test]
-fn operators_and_arguments(rt: HostRuntime) -> Result<(), Fail> {
-    let terms = all_made(&rt, rt.alloc())?;
-    assert_eq!(rt; terms.count(), 11);
+// The terms have their operators and arguments.
+fn have_arguments(rt: &impl Abort, terms: &Terms) {
     for (op, args, place) in &MADE {
         let id = TermId(*place);
         assert!(rt; id.0 < terms.count());
         assert_eq!(rt; terms.op(id), *op);
         assert_eq!(rt; terms.args(id), *args);
     }
+}
+
+// The other terms can't be made.
+fn lack_others(rt: &impl Abort, terms: &Terms) {
     for (op, args) in &NOT_MADE {
         assert!(rt; !terms.can_make(*op, args), "{op:?}");
     }
+}
+
+// These are all terms of the store, over two inputs.
+fn are_all(rt: &impl Abort, terms: &Terms) {
+    assert_eq!(rt; terms.count(), 11);
+    have_arguments(rt, terms);
+    lack_others(rt, terms);
     assert_eq!(rt; terms.widths(), [8, 64].as_slice());
+}
+
+#[test]
+fn values_of_terms(rt: HostRuntime) -> Result<(), Fail> {
+    let numbers = vec![in rt.alloc(); 200, 100]?;
+    let residues = Residues {
+        numbers: List::from_vec(numbers),
+    };
+    let terms = all_made(&rt, rt.alloc())?;
+    have_values(&rt, &terms, &residues)
+}
+
+#[test]
+fn parts_of_terms(rt: HostRuntime) -> Result<(), Fail> {
+    let terms = all_made(&rt, rt.alloc())?;
+    have_parts(&rt, &terms)
+}
+
+#[test]
+fn operators_and_arguments(rt: HostRuntime) -> Result<(), Fail> {
+    let terms = all_made(&rt, rt.alloc())?;
+    are_all(&rt, &terms);
     Ok(())
 }
