@@ -1,7 +1,7 @@
 //! Each circuit over all pairs of 4-bit numbers, and over the ends of rows of 1, 64 and 128 bits.
 
-ghost use Rattle.std.specs.Prelude.{◌≡◌, ℕ, ◌+◌, ◌*◌, ◌^◌, ◌<◌, ◌≤◌, [], ◌∷◌, length, IfOk};
-ghost use Rattle.stk_gates.specs.Tables.{HasRoom};
+ghost use Rattle.std.specs.Prelude.{◌≡◌, ℕ, ◌+◌, ◌*◌, ◌^◌, ◌<◌, ◌≤◌, [], ◌∷◌, length, IfOk, IfSome};
+ghost use Rattle.stk_gates.specs.Tables.{HasRoom, gate_count};
 ghost use Rattle.stk_arith.specs.Rows.{AreEdges};
 
 use crate::edge_rows::{are_edges, bits_of, edges_from, number};
@@ -121,31 +121,80 @@ fn expected(call: Call, width: u32, x: u128, y: u128) -> u128
     }
 }
 
-/// Whether a call agrees with plain arithmetic on these pairs of numbers.
+/// The row of a call over the first gates, in two rows of so many bits; none if these aren't in the table.
+fn row_of(
+    alloc: Global,
+    gates: &mut Gates,
+    call: Call,
+    width: u32,
+) -> Result<Option<List<Edge>>, NoMemory>
+    requires some { 0 < width }
+    requires few { width ≤ 128 }
+    requires room { gate_count gates.old ≤ 1000 }
+    ensures edges { IfOk result (λ found. IfSome found (AreEdges gates.new)) }
+{
+    let a = edges_from(alloc, 1, width)?;
+    let b = edges_from(alloc, 1 + width, width)?;
+    if a.len() != width as usize || b.len() != a.len() {
+        return Ok(None);
+    }
+    if !are_edges(gates, &a) || !are_edges(gates, &b) {
+        return Ok(None);
+    }
+    let row = circuit(alloc, gates, call, &a, &b)?;
+    Ok(Some(row))
+}
+
+/// The number of a row for two numbers of this width; none if these don't have a bit for each input.
+fn number_for(
+    alloc: Global,
+    gates: &Gates,
+    row: &[Edge],
+    width: u32,
+    pair: (u128, u128),
+) -> Result<Option<u128>, NoMemory>
+    requires few { width ≤ 128 }
+    requires row { AreEdges gates.now row.now }
+{
+    let (x, y) = pair;
+    let bits = bits_of(alloc, x, y, width)?;
+    if bits.bits.len() != gates.inputs() as usize {
+        return Ok(None);
+    }
+    Ok(Some(number(gates, row, &bits)?))
+}
+
+/// Whether a call over the inputs of a table agrees with plain arithmetic on these pairs of numbers.
+fn agrees_in(
+    alloc: Global,
+    gates: &mut Gates,
+    call: Call,
+    width: u32,
+    pairs: &[(u128, u128)],
+) -> Result<bool, NoMemory>
+    requires some { 0 < width }
+    requires few { width ≤ 128 }
+    requires room { gate_count gates.old ≤ 1000 }
+{
+    let Some(row) = row_of(alloc, gates, call, width)? else {
+        return Ok(false);
+    };
+    for (x, y) in pairs {
+        let number = number_for(alloc, gates, row.as_slice(), width, (*x, *y))?;
+        if number != Some(expected(call, width, *x, *y)) {
+            return Ok(false);
+        }
+    }
+    Ok(true)
+}
+
+/// As `agrees_in`, in a table of its own.
 fn agrees(alloc: Global, call: Call, width: u32, pairs: &[(u128, u128)]) -> Result<bool, NoMemory>
     requires some { 0 < width }
     requires few { width ≤ 128 }
 {
     let mut gates = Gates::new(alloc, 2 * width);
-    let a = edges_from(alloc, 1, width)?;
-    let b = edges_from(alloc, 1 + width, width)?;
-    if a.len() != width as usize || b.len() != a.len() {
-        return Ok(false);
-    }
-    if !are_edges(&gates, &a) || !are_edges(&gates, &b) {
-        return Ok(false);
-    }
-    let row = circuit(alloc, &mut gates, call, &a, &b)?;
-    for (x, y) in pairs {
-        let bits = bits_of(alloc, *x, *y, width)?;
-        if bits.bits.len() != gates.inputs() as usize {
-            return Ok(false);
-        }
-        if number(&gates, row.as_slice(), &bits)? != expected(call, width, *x, *y) {
-            return Ok(false);
-        }
-    }
-    Ok(true)
+    agrees_in(alloc, &mut gates, call, width, pairs)
 }
 
 /// All pairs of 4-bit numbers.

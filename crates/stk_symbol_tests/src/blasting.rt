@@ -1,6 +1,6 @@
 //! Terms over two inputs of four bits, one for each operator.
 
-ghost use Rattle.std.specs.Prelude.{◌≡◌, ◌<◌, length};
+ghost use Rattle.std.specs.Prelude.{◌≡◌, ◌<◌, length, IfOk, IfSome};
 ghost use Rattle.stk_arith.specs.Rows.{AreEdges};
 
 use std::alloc::Global;
@@ -107,18 +107,20 @@ fn is_alike(
     Ok(number == value)
 }
 
-// Whether the circuit of a term is its value for all inputs.
-fn is_blasted(alloc: Global, terms: &Terms, id: TermId) -> Result<bool, NoMemory>
-    requires { id.0 < length terms.now.terms }
+// Whether the row and the term have the same number for all inputs.
+fn are_alike(
+    alloc: Global,
+    terms: &Terms,
+    id: TermId,
+    gates: &Gates,
+    row: &[Edge],
+) -> Result<bool, NoMemory>
+    requires exists { id.0 < length terms.now.terms }
+    requires row { AreEdges gates.now row.now }
 {
-    let mut gates = Gates::new(alloc, 8);
-    if !has_inputs(terms, &gates) || !has_room(terms, id, &gates)? {
-        return Ok(false);
-    }
-    let row = blast(alloc, terms, id, &mut gates)?;
     for x in 0..16u64 {
         for y in 0..16u64 {
-            if !is_alike(alloc, terms, id, &gates, row.as_slice(), (x, y))? {
+            if !is_alike(alloc, terms, id, gates, row, (x, y))? {
                 return Ok(false);
             }
         }
@@ -126,16 +128,61 @@ fn is_blasted(alloc: Global, terms: &Terms, id: TermId) -> Result<bool, NoMemory
     Ok(row.len() == terms.width(id) as usize)
 }
 
+// The row of a term; none where the table hasn't the inputs or the room.
+fn blasted(
+    alloc: Global,
+    terms: &Terms,
+    id: TermId,
+    gates: &mut Gates,
+) -> Result<Option<List<Edge>>, NoMemory>
+    requires { id.0 < length terms.now.terms }
+    ensures { IfOk result (λ found. IfSome found (AreEdges gates.new)) }
+{
+    if !has_inputs(terms, gates) || !has_room(terms, id, gates)? {
+        return Ok(None);
+    }
+    let row = blast(alloc, terms, id, gates)?;
+    Ok(Some(row))
+}
+
+// Whether the circuit of a term is its value for all inputs.
+fn is_blasted_in(
+    alloc: Global,
+    terms: &Terms,
+    id: TermId,
+    gates: &mut Gates,
+) -> Result<bool, NoMemory>
+    requires { id.0 < length terms.now.terms }
+{
+    match blasted(alloc, terms, id, gates)? {
+        None => Ok(false),
+        Some(row) => are_alike(alloc, terms, id, gates, row.as_slice()),
+    }
+}
+
+// As `is_blasted_in`, in a table of its own.
+fn is_blasted(alloc: Global, terms: &Terms, id: TermId) -> Result<bool, NoMemory>
+    requires { id.0 < length terms.now.terms }
+{
+    let mut gates = Gates::new(alloc, 8);
+    is_blasted_in(alloc, terms, id, &mut gates)
+}
+
+// The circuits of the terms of the table are their values.
+fn all_are_blasted(rt: &impl Abort, alloc: Global, terms: &mut Terms) -> Result<(), Fail> {
+    for (op, args) in &TERMS {
+        let id = made(rt, terms, *op, args)?;
+        assert!(rt; id.0 < terms.count());
+        assert!(rt; is_blasted(alloc, terms, id)?, "{op:?}");
+    }
+    Ok(())
+}
+
 #[test]
 fn each_operator(rt: HostRuntime) -> Result<(), Fail> {
     let widths = vec![in rt.alloc(); 4, 4]?;
     let mut terms = Terms::new(rt.alloc(), List::from_vec(widths));
-    for (op, args) in &TERMS {
-        let id = made(&rt, &mut terms, *op, args)?;
-        assert!(rt; id.0 < terms.count());
-        assert!(rt; is_blasted(rt.alloc(), &terms, id)?, "{op:?}");
-    }
-    Ok(())
+    all_are_blasted(&rt, rt.alloc(), &mut terms)
 }
 
 // The row of a term without inputs.
@@ -143,11 +190,7 @@ fn constant(alloc: Global, terms: &Terms, id: TermId) -> Result<Option<List<Edge
     requires { id.0 < length terms.now.terms }
 {
     let mut gates = Gates::new(alloc, 0);
-    if !has_inputs(terms, &gates) || !has_room(terms, id, &gates)? {
-        return Ok(None);
-    }
-    let row = blast(alloc, terms, id, &mut gates)?;
-    Ok(Some(row))
+    blasted(alloc, terms, id, &mut gates)
 }
 
 const F: Edge = Edge::FALSE;
@@ -156,14 +199,19 @@ const T: Edge = Edge::TRUE;
 
 static SUM: [Edge; 8] = [F, F, T, T, F, T, F, F];
 
+// 200 and 100 are 44 in eight bits.
+fn sum_is_blasted(rt: &impl Abort, alloc: Global, terms: &mut Terms) -> Result<(), Fail> {
+    let x = made(rt, terms, TermOp::Constant(8, 200), &[])?;
+    let y = made(rt, terms, TermOp::Constant(8, 100), &[])?;
+    let id = made(rt, terms, TermOp::Add, &[x, y])?;
+    assert!(rt; id.0 < terms.count());
+    let row = constant(alloc, terms, id)?;
+    assert!(rt; row.is_some_and(|r| r.as_slice() == SUM.as_slice()));
+    Ok(())
+}
+
 #[test]
 fn a_sum_of_constants(rt: HostRuntime) -> Result<(), Fail> {
     let mut terms = Terms::new(rt.alloc(), List::empty(rt.alloc()));
-    let x = made(&rt, &mut terms, TermOp::Constant(8, 200), &[])?;
-    let y = made(&rt, &mut terms, TermOp::Constant(8, 100), &[])?;
-    let id = made(&rt, &mut terms, TermOp::Add, &[x, y])?;
-    assert!(rt; id.0 < terms.count());
-    let row = constant(rt.alloc(), &terms, id)?;
-    assert!(rt; row.is_some_and(|r| r.as_slice() == SUM.as_slice()));
-    Ok(())
+    sum_is_blasted(&rt, rt.alloc(), &mut terms)
 }

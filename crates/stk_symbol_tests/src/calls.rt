@@ -244,6 +244,20 @@ fn number(
     values.terms().value(id, &residues)
 }
 
+// The number of a term for two numbers, if there is a term.
+fn number_if_made(
+    rt: &impl Abort,
+    alloc: Global,
+    values: &Symbols,
+    id: Option<TermId>,
+    (left, right): (Typed, Typed),
+) -> Result<Option<u128>, NoMemory> {
+    match id {
+        None => Ok(None),
+        Some(id) => Ok(Some(number(rt, alloc, values, id, left, right)?)),
+    }
+}
+
 // The bits of a call over the store of one input map.
 fn by_numbers(
     alloc: Global,
@@ -268,10 +282,8 @@ fn by_keys(
     right: Typed,
 ) -> Result<Option<u128>, NoMemory> {
     let mut values = Symbols::new(alloc, &[left.kind, right.kind])?;
-    match over_keys(&mut values, call, left.kind, right.kind)? {
-        None => Ok(None),
-        Some(id) => Ok(Some(number(rt, alloc, &values, id, left, right)?)),
-    }
+    let id = over_keys(&mut values, call, left.kind, right.kind)?;
+    number_if_made(rt, alloc, &values, id, (left, right))
 }
 
 // The bits of a call over terms of two constants.
@@ -283,10 +295,8 @@ fn by_constants(
     right: Typed,
 ) -> Result<Option<u128>, NoMemory> {
     let mut values = Symbols::new(alloc, &[left.kind, right.kind])?;
-    match over_constants(&mut values, call, left, right)? {
-        None => Ok(None),
-        Some(id) => Ok(Some(number(rt, alloc, &values, id, left, right)?)),
-    }
+    let id = over_constants(&mut values, call, left, right)?;
+    number_if_made(rt, alloc, &values, id, (left, right))
 }
 
 // Fails where a call over two numbers has other bits in one of the stores.

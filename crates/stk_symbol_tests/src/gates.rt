@@ -3,6 +3,8 @@
 ghost use Rattle.std.specs.Prelude.{◌≡◌, ◌+◌, ◌*◌, ◌^◌, ◌<◌, ◌≤◌, length};
 
 use crate::edge_rows::bits_of;
+use std::alloc::Global;
+use std::process::Abort;
 use std::test::Fail;
 use stk_base::{Bits, NoMemory};
 use stk_gates::{Edge, Gates};
@@ -54,11 +56,10 @@ static ANDS: [(Edge, Edge, Edge, u32); 8] = [
     (Edge(6), Edge(7), Edge::FALSE, 5),
 ];
 
-#[test]
-fn shared_and_folded(rt: HostRuntime) -> Result<(), Fail> {
-    let mut gates = Gates::new(rt.alloc(), 2);
+/// Each AND of the table has its edge and leaves so many gates, in a table of two inputs.
+fn ands_are_shared(rt: &impl Abort, gates: &mut Gates) -> Result<(), Fail> {
     for (a, b, edge, count) in &ANDS {
-        assert!(rt; made(&mut gates, Op::And, *a, *b)? == *edge);
+        assert!(rt; made(gates, Op::And, *a, *b)? == *edge);
         assert!(rt; gates.count() == *count);
     }
     assert!(rt; gates.inputs() == 2);
@@ -69,6 +70,12 @@ fn shared_and_folded(rt: HostRuntime) -> Result<(), Fail> {
     Ok(())
 }
 
+#[test]
+fn shared_and_folded(rt: HostRuntime) -> Result<(), Fail> {
+    let mut gates = Gates::new(rt.alloc(), 2);
+    ands_are_shared(&rt, &mut gates)
+}
+
 /// An operator, and its values where the first input is bit 0 of 0, 1, 2 and 3, and the second is bit 1.
 static TRUTHS: [(Op, [bool; 4]); 4] = [
     (Op::And, [false, false, false, true]),
@@ -77,15 +84,32 @@ static TRUTHS: [(Op, [bool; 4]); 4] = [
     (Op::Mux, [true, false, false, true]),
 ];
 
+/// An edge of two inputs has these four values.
+fn has_values(
+    rt: &impl Abort,
+    alloc: Global,
+    gates: &Gates,
+    edge: Edge,
+    row: &[bool; 4],
+) -> Result<(), NoMemory> {
+    for k in 0..4 {
+        let bits = bits_of(alloc, k as u128 & 1, k as u128 >> 1, 1)?;
+        assert!(rt; value(gates, edge, &bits)? == Some(row[k]));
+    }
+    Ok(())
+}
+
+/// Each operator has its values, in a table of two inputs.
+fn have_truths(rt: &impl Abort, alloc: Global, gates: &mut Gates) -> Result<(), Fail> {
+    for (op, row) in &TRUTHS {
+        let edge = made(gates, *op, A, B)?;
+        has_values(rt, alloc, gates, edge, row)?;
+    }
+    Ok(())
+}
+
 #[test]
 fn truths(rt: HostRuntime) -> Result<(), Fail> {
     let mut gates = Gates::new(rt.alloc(), 2);
-    for (op, row) in &TRUTHS {
-        let edge = made(&mut gates, *op, A, B)?;
-        for k in 0..4 {
-            let bits = bits_of(rt.alloc(), k as u128 & 1, k as u128 >> 1, 1)?;
-            assert!(rt; value(&gates, edge, &bits)? == Some(row[k]));
-        }
-    }
-    Ok(())
+    have_truths(&rt, rt.alloc(), &mut gates)
 }

@@ -140,8 +140,7 @@ fn goal_of_division(
 {
     let walked = division(alloc, values)?;
     let walk = IndexedWalk::new(alloc, walked)?;
-    let goal = values.goal(&walk, candidate, set)?;
-    Ok(goal)
+    values.goal(&walk, candidate, set)
 }
 
 // The goal of a candidate over the bits.
@@ -160,8 +159,7 @@ fn goal_of_bits(
 {
     let walked = bits(alloc, values)?;
     let walk = IndexedWalk::new(alloc, walked)?;
-    let goal = values.goal(&walk, candidate, set)?;
-    Ok(goal)
+    values.goal(&walk, candidate, set)
 }
 
 // Candidates over the division and sets of its conditions, with the divisors from one up to another for which the goal
@@ -181,25 +179,36 @@ static DIVISORS: [(u32, bool, bool, bool, u64, u64); 12] = [
     (3, true, true, true, 0, 0),
 ];
 
+// Whether a term over the divisor is 1 exactly from one divisor up to another.
+fn is_one_for(
+    rt: &impl Abort,
+    alloc: Global,
+    values: &Symbols,
+    goal: TermId,
+    (least, end): (u64, u64),
+) -> Result<bool, NoMemory> {
+    for x in 0..256 {
+        let residues = Residues {
+            numbers: List::from_vec(vec![in alloc; x]?),
+        };
+        if is_one(rt, values, goal, residues)? != (least <= x && x < end) {
+            return Ok(false);
+        }
+    }
+    Ok(true)
+}
+
 // Whether a goal over the division is 1 exactly for the divisors from one up to another.
 fn holds_for(
     rt: &impl Abort,
     alloc: Global,
     (candidate, overflow, zero, shift): (u32, bool, bool, bool),
-    (least, end): (u64, u64),
+    range: (u64, u64),
 ) -> Result<bool, NoMemory> {
-    let mut values = Symbols::new(alloc, &[IntKind::UChar])?;
     let set = set_of(alloc, overflow, zero, shift)?;
+    let mut values = Symbols::new(alloc, &[IntKind::UChar])?;
     let goal = goal_of_division(alloc, &mut values, candidate, set.as_slice())?;
-    for x in 0..256 {
-        let residues = Residues {
-            numbers: List::from_vec(vec![in alloc; x]?),
-        };
-        if is_one(rt, &values, goal, residues)? != (least <= x && x < end) {
-            return Ok(false);
-        }
-    }
-    Ok(true)
+    is_one_for(rt, alloc, &values, goal, range)
 }
 
 #[test]
@@ -217,8 +226,42 @@ fn a_zero_divisor_stands_before_the_branch(rt: HostRuntime) -> Result<(), Fail> 
     Ok(())
 }
 
-// Whether a goal over the bits is 1 exactly where the map is valid, and the candidate is hit at its first or its second
-// step with no member of the set violated before it.
+// The bits of a number as the residues of six keys.
+fn six_bits(alloc: Global, x: u64) -> Result<Residues, NoMemory> {
+    let bit = |k: u64| x >> k & 1;
+    Ok(Residues {
+        numbers: List::from_vec(vec![in alloc; bit(0), bit(1), bit(2), bit(3), bit(4), bit(5)]?),
+    })
+}
+
+// Whether the bits of a number say that the map is valid, and the candidate is hit at its first or its second step with
+// no member of the set violated before it.
+fn is_hit(x: u64, overflow: bool, zero: bool) -> bool {
+    let bit = |k: u64| x >> k & 1;
+    let clear = !(overflow && bit(1) == 1);
+    let first = bit(2) == 1 && clear;
+    let second = bit(4) == 1 && clear && !(zero && bit(3) == 1);
+    bit(0) == 1 && (first || second)
+}
+
+// Whether a term over the bits is 1 exactly where these say that the candidate is hit.
+fn is_one_for_hits(
+    rt: &impl Abort,
+    alloc: Global,
+    values: &Symbols,
+    goal: TermId,
+    (overflow, zero): (bool, bool),
+) -> Result<bool, NoMemory> {
+    for x in 0..64u64 {
+        let residues = six_bits(alloc, x)?;
+        if is_one(rt, values, goal, residues)? != is_hit(x, overflow, zero) {
+            return Ok(false);
+        }
+    }
+    Ok(true)
+}
+
+// Whether a goal over the bits is 1 exactly where these say that the candidate is hit.
 fn holds_for_all_bits(
     rt: &impl Abort,
     alloc: Global,
@@ -226,29 +269,10 @@ fn holds_for_all_bits(
     zero: bool,
     shift: bool,
 ) -> Result<bool, NoMemory> {
-    let mut values = Symbols::new(alloc, &[IntKind::Bool; 6])?;
     let set = set_of(alloc, overflow, zero, shift)?;
+    let mut values = Symbols::new(alloc, &[IntKind::Bool; 6])?;
     let goal = goal_of_bits(alloc, &mut values, 0, set.as_slice())?;
-    for x in 0..64u64 {
-        let bit = |k: u64| x >> k & 1;
-        let residues = Residues {
-            numbers: List::from_vec(vec![in alloc;
-                bit(0),
-                bit(1),
-                bit(2),
-                bit(3),
-                bit(4),
-                bit(5),
-            ]?),
-        };
-        let clear = !(overflow && bit(1) == 1);
-        let first = bit(2) == 1 && clear;
-        let second = bit(4) == 1 && clear && !(zero && bit(3) == 1);
-        if is_one(rt, &values, goal, residues)? != (bit(0) == 1 && (first || second)) {
-            return Ok(false);
-        }
-    }
-    Ok(true)
+    is_one_for_hits(rt, alloc, &values, goal, (overflow, zero))
 }
 
 #[test]
