@@ -1,72 +1,74 @@
 use crate::names_taken::{Asked, noted};
+use crate::tables::{EACH_LINE, Says, add, add_number, check};
 use std::alloc::Global;
-use std::process::Abort;
 use std::test::Fail;
 use stk_address_taken::NodeSet;
 
 // Functions with the numbers of the declarators that are taken. Nodes are numbered from 0, children first: a base, and
 // of each parameter the base, the declarator and the parameter, then the declarator of the function.
-static TAKEN: [(&str, &[u32]); 12] = [
-    ("int f(int x) { return x; }", &[]),
-    ("int f(int x) { return *&x; }", &[2]),
-    ("int f(int x, int y) { return &y == &x; }", &[5, 2]),
-    ("int f(int x) { return *&(x); }", &[2]),
-    ("int f(int x) { return *&y; }", &[]),
-    ("int f(int *x) { return *&*x; }", &[]),
-    ("int f(int x) { int *p = &x; return *p; }", &[2]),
-    ("int f(int x) { static int *p = &x; return *p; }", &[]),
-    ("int f(int x) { int x; { int x; &x; } return 0; }", &[8]),
-    ("int f(int x) { { int x; } &x; return 0; }", &[2]),
-    (
-        "int f(void) { for (int i = 0; i < 3; i++) g(&i); return 0; }",
-        &[4],
-    ),
-    ("int f(int x) { return sizeof &x; }", &[2]),
-];
+static TAKEN: &str = r#"
+int f(int x) { return x; } =>
+int f(int x) { return *&x; } => 2
+int f(int x, int y) { return &y == &x; } => 5 2
+int f(int x) { return *&(x); } => 2
+int f(int x) { return *&y; } =>
+int f(int *x) { return *&*x; } =>
+int f(int x) { int *p = &x; return *p; } => 2
+int f(int x) { static int *p = &x; return *p; } =>
+int f(int x) { int x; { int x; &x; } return 0; } => 8
+int f(int x) { { int x; } &x; return 0; } => 2
+int f(void) { for (int i = 0; i < 3; i++) g(&i); return 0; } => 4
+int f(int x) { return sizeof &x; } => 2
+"#;
 
 // Functions with the numbers of the declarators of their `static` objects.
-static STATICS: [(&str, &[u32]); 5] = [
-    ("int f(int x) { int n; return n; }", &[]),
-    ("int f(int x) { static int n; return n; }", &[6]),
-    (
-        "int f(int x) { int n; { static int n, m; } return n; }",
-        &[8, 9],
-    ),
-    (
-        "int f(void) { static int a, b; { static int c; } for (;;) { static int d; } }",
-        &[3, 4, 6, 9],
-    ),
-    (
-        "int f(int x) { switch (x) { case 1: { static int n; } } return 0; }",
-        &[8],
-    ),
-];
+static STATICS: &str = r#"
+int f(int x) { int n; return n; } =>
+int f(int x) { static int n; return n; } => 6
+int f(int x) { int n; { static int n, m; } return n; } => 8 9
+int f(void) { static int a, b; { static int c; } for (;;) { static int d; } } => 3 4 6 9
+int f(int x) { switch (x) { case 1: { static int n; } } return 0; } => 8
+"#;
 
-/// Compares what is noted of functions with a table.
-fn check(
-    alloc: Global,
-    rt: &impl Abort,
-    asked: Asked,
-    table: &[(&str, &[u32])],
-) -> Result<(), Fail> {
-    for &(text, wanted) in table {
-        let found = noted(alloc, text.as_bytes(), asked)?;
-        assert!(rt; found.is_some(), "{text:?}");
-        if let Some(found) = found {
-            assert!(rt; found.as_slice() == wanted, "{text:?}");
-        }
+// Adds the numbers of the declarators that are asked for.
+fn add_noted(alloc: Global, text: &str, asked: Asked, out: &mut Vec<u8>) {
+    match noted(alloc, text.as_bytes(), asked) {
+        Ok(Some(found)) => add_numbers(found.as_slice(), out),
+        Ok(None) => add(out, b" no function"),
+        Err(_) => add(out, b" no memory"),
     }
-    Ok(())
+}
+
+fn add_numbers(numbers: &[u32], out: &mut Vec<u8>) {
+    for number in numbers {
+        add_number(out, b" ", i128::from(*number));
+    }
+}
+
+struct Taken;
+
+impl Says for Taken {
+    fn say(alloc: Global, text: &str, out: &mut Vec<u8>) {
+        add_noted(alloc, text, Asked::Taken, out)
+    }
+}
+
+struct Statics;
+
+impl Says for Statics {
+    fn say(alloc: Global, text: &str, out: &mut Vec<u8>) {
+        add_noted(alloc, text, Asked::Statics, out)
+    }
 }
 
 #[test]
-fn each_function_has_its_taken_names(rt: HostRuntime) -> Result<(), Fail> {
-    check(rt.alloc(), &rt, Asked::Taken, &TAKEN)
+fn each_function_has_its_taken_names(rt: HostRuntime) {
+    check::<Taken>(&rt, rt.alloc(), TAKEN, EACH_LINE, 12);
 }
 
 #[test]
-fn each_function_has_its_statics(rt: HostRuntime) -> Result<(), Fail> {
-    check(rt.alloc(), &rt, Asked::Statics, &STATICS)
+fn each_function_has_its_statics(rt: HostRuntime) {
+    check::<Statics>(&rt, rt.alloc(), STATICS, EACH_LINE, 5);
 }
 
 #[test]

@@ -1,19 +1,22 @@
 //! What a declarator in a text declares.
 
-ghost use Rattle.std.specs.Prelude.{◌≡◌, [], map};
+ghost use Rattle.std.specs.Prelude.{◌≡◌, ◌≤◌, [], length, map};
+ghost use Rattle.stk_base.specs.Limits.{most_bytes};
 ghost use Rattle.stk_ctype.specs.Structs.{structs_of};
 ghost use Rattle.stk_type_rules.specs.Facts.{AreSoundFacts, fact_of};
 ghost use Rattle.stk_typing.specs.Locals.{AreSoundLocals, local_of};
 
+use crate::tables::add;
 use crate::typed_texts::{add_rule, add_type};
 use std::alloc::Global;
-use stk_base::NoMemory;
+use stk_base::{Boxed, NoMemory};
 use stk_compatible::{Agreement, agree};
 use stk_ctype::{CType, Names};
 use stk_decl::decl;
 use stk_declarators::{File, Tailed, are_scalars, given_count, scope, tail, tail_type};
-use stk_lex::lex;
-use stk_tree::{Base, Declr, Init};
+use stk_expr::Parse;
+use stk_lex::{Token, lex};
+use stk_tree::{Base, Declaration, Declr, Init};
 use stk_type_rules::{NodeFact, Untyped, fact, own};
 use stk_typing::{Locals, base, starred};
 
@@ -75,39 +78,77 @@ fn declared_by(
     }
 }
 
-// The same of the first declarator of the declaration that a text is; rule 0 where it is none.
-fn declared_type(alloc: Global, text: &str) -> Result<Result<CType, u8>, NoMemory> {
-    let bytes = text.as_bytes();
+// The same of the first declarator of a declaration; rule 0 where it has none.
+fn first_declared(
+    alloc: Global,
+    bytes: &[u8],
+    names: &Names,
+    tree: &Declaration,
+) -> Result<Result<CType, u8>, NoMemory>
+    requires { names.now ≡ [] }
+{
+    match tree.list.as_slice().first() {
+        Some(d) => declared_by(alloc, bytes, names, &tree.base, d),
+        None => Ok(Err(0)),
+    }
+}
+
+/// The declaration that some tokens begin with, in a box, which is let go at once.
+pub(crate) fn declaration(
+    alloc: Global,
+    bytes: &[u8],
+    tokens: &[Token],
+    names: &Names,
+    file: bool,
+) -> Result<Boxed<Declaration>, Parse>
+    requires { length tokens.now ≤ most_bytes }
+{
+    let (tree, _) = decl(alloc, bytes, tokens, names, 0, file)?;
+    Ok(Boxed::new(alloc, tree)?)
+}
+
+// The same of the declaration that a text is; rule 0 where it is none.
+fn declared_type(alloc: Global, bytes: &[u8]) -> Result<Result<CType, u8>, NoMemory> {
     if bytes.len() > 16_777_216 {
         return Ok(Err(0));
     }
     let tokens = lex(alloc, bytes)?;
     let names = Names::new(alloc);
-    match decl(alloc, bytes, tokens.as_slice(), &names, 0, true) {
-        Ok((tree, _)) => match tree.list.as_slice().first() {
-            Some(d) => declared_by(alloc, bytes, &names, &tree.base, d),
-            None => Ok(Err(0)),
-        },
+    match declaration(alloc, bytes, tokens.as_slice(), &names, true) {
+        Ok(tree) => first_declared(alloc, bytes, &names, tree.get()),
         Err(_) => Ok(Err(0)),
     }
 }
 
-/// In words, the type that the first declarator of a text declares, or the rule that refuses one of its nodes.
-pub(crate) fn declared(alloc: Global, text: &str) -> Result<Vec<u8>, NoMemory> {
-    let mut out = Vec::new(alloc);
-    match declared_type(alloc, text)? {
-        Ok(ty) => add_type(&mut out, &ty),
-        Err(rule) => add_rule(&mut out, rule),
+/// Adds in words the type that the first declarator of a text declares, or the rule that refuses one of its nodes.
+pub(crate) fn add_declared(alloc: Global, text: &[u8], out: &mut Vec<u8>) {
+    match declared_type(alloc, text) {
+        Ok(Ok(ty)) => add_type(out, &ty),
+        Ok(Err(rule)) => add_rule(out, rule),
+        Err(_) => add(out, b"no memory"),
     }
-    Ok(out)
 }
 
-/// How the types agree that the first declarators of two texts declare; they differ where one declares none.
-pub(crate) fn agreement(alloc: Global, old: &str, new: &str) -> Result<Agreement, NoMemory> {
+// How the types agree that the first declarators of two texts declare; nothing where one declares none.
+fn agreement(alloc: Global, old: &[u8], new: &[u8]) -> Result<Option<Agreement>, NoMemory> {
     let old = declared_type(alloc, old)?;
     let new = declared_type(alloc, new)?;
     match (&old, &new) {
-        (Ok(old), Ok(new)) => agree(alloc, old, new),
-        _ => Ok(Agreement::Differ),
+        (Ok(old), Ok(new)) => Ok(Some(agree(alloc, old, new)?)),
+        _ => Ok(None),
     }
+}
+
+/// Adds how the types agree that the first declarators of two texts declare.
+pub(crate) fn add_agreement(alloc: Global, old: &[u8], new: &[u8], out: &mut Vec<u8>) {
+    add(
+        out,
+        match agreement(alloc, old, new) {
+            Ok(Some(Agreement::Differ)) => b" differ",
+            Ok(Some(Agreement::Old)) => b" old",
+            Ok(Some(Agreement::New)) => b" new",
+            Ok(None) => b" no type",
+            Err(_) => b" no memory",
+        },
+    )
 }

@@ -6,9 +6,8 @@ ghost use Rattle.stk_tree.specs.View.{view_unit};
 ghost use Rattle.std.specs.Option.{is_some};
 
 use crate::function_rows::{DECLARED, EXPRESSIONS, FIRST, STATEMENTS};
+use crate::tables::{EACH_LINE, Says, add, add_number, check};
 use std::alloc::Global;
-use std::process::Abort;
-use std::test::Fail;
 use stk_accept::{Accepted, Refusal, accept};
 use stk_base::{MOST_BYTES, NoMemory};
 use stk_ctype::Names;
@@ -55,9 +54,11 @@ fn said_of(alloc: Global, bytes: &[u8], unit: &Unit, names: &Names) -> Result<Sa
 }
 
 // What is said of the last unit of a text.
-fn last_said(alloc: Global, rt: &impl Abort, text: &[u8]) -> Result<Said, Fail> {
-    assert!(rt; text.len() as u64 <= MOST_BYTES);
+fn last_said(alloc: Global, text: &[u8]) -> Result<Said, NoMemory> {
     let mut last = Said::Nothing;
+    if text.len() as u64 > MOST_BYTES {
+        return Ok(last);
+    }
     let tokens = lex(alloc, text)?;
     let skimmed = skim(alloc, text, tokens.as_slice())?;
     let pieces = cut(alloc, text, &skimmed)?;
@@ -91,34 +92,52 @@ fn marked(alloc: Global, text: &[u8]) -> Result<(Vec<u8>, u32), NoMemory> {
     Ok((whole, place))
 }
 
-// Whether each function of a table is refused where it should be, and by this rule, or accepted.
-fn are_said(rt: &impl Abort, alloc: Global, table: &[(&'static str, u8)]) -> Result<(), Fail> {
-    for (text, rule) in table {
-        let (whole, place) = marked(alloc, text.as_bytes())?;
-        let wanted = if *rule == 0 {
-            Said::Accepted
-        } else {
-            Said::Refused(place, *rule)
-        };
-        let found = last_said(alloc, rt, whole.as_slice())?;
-        assert!(rt; found == wanted, "{text:?} {found:?}");
+// Adds what is said of a function, and where, if that isn't at the mark.
+fn add_said(said: Said, mark: u32, out: &mut Vec<u8>) {
+    match said {
+        Said::Nothing => add(out, b" no tree"),
+        Said::Accepted => add(out, b" accepted"),
+        Said::Refused(at, rule) => {
+            add_number(out, b" rule ", i128::from(rule));
+            if at != mark {
+                add_number(out, b" at ", i128::from(at));
+            }
+        }
+        Said::Many(count) => add_number(out, b" nodes ", i128::from(count)),
     }
-    Ok(())
+}
+
+// What is said of the function that a text with a mark is, and where the mark stands.
+fn marked_said(alloc: Global, text: &[u8]) -> Result<(Said, u32), NoMemory> {
+    let (whole, mark) = marked(alloc, text)?;
+    let said = last_said(alloc, whole.as_slice())?;
+    Ok((said, mark))
+}
+
+struct Functions;
+
+impl Says for Functions {
+    fn say(alloc: Global, text: &str, out: &mut Vec<u8>) {
+        match marked_said(alloc, text.as_bytes()) {
+            Ok((said, mark)) => add_said(said, mark, out),
+            Err(_) => add(out, b" no memory"),
+        }
+    }
 }
 
 #[test]
-fn names_and_objects_have_their_rules(rt: HostRuntime) -> Result<(), Fail> {
-    are_said(&rt, rt.alloc(), &DECLARED)
+fn names_and_objects_have_their_rules(rt: HostRuntime) {
+    check::<Functions>(&rt, rt.alloc(), DECLARED, EACH_LINE, 51);
 }
 
 #[test]
-fn expressions_have_their_rules(rt: HostRuntime) -> Result<(), Fail> {
-    are_said(&rt, rt.alloc(), &EXPRESSIONS)
+fn expressions_have_their_rules(rt: HostRuntime) {
+    check::<Functions>(&rt, rt.alloc(), EXPRESSIONS, EACH_LINE, 45);
 }
 
 #[test]
-fn statements_have_their_rules(rt: HostRuntime) -> Result<(), Fail> {
-    are_said(&rt, rt.alloc(), &STATEMENTS)
+fn statements_have_their_rules(rt: HostRuntime) {
+    check::<Functions>(&rt, rt.alloc(), STATEMENTS, EACH_LINE, 47);
 }
 
 // A function whose body is a text, and so many empty statements.
@@ -131,15 +150,18 @@ fn repeated(alloc: Global, text: &str, times: usize) -> Result<Vec<u8>, NoMemory
     Ok(whole)
 }
 
+// What is said of a text with so many empty statements behind it.
+fn repeated_said(alloc: Global, text: &str, times: usize) -> Result<Said, NoMemory> {
+    let whole = repeated(alloc, text, times)?;
+    last_said(alloc, whole.as_slice())
+}
+
 // A function without parameters has a base, a declarator, a block and itself as nodes, and one for each `;` in the
 // block.
 #[test]
-fn a_function_has_at_most_20000_nodes(rt: HostRuntime) -> Result<(), Fail> {
-    let full = repeated(rt.alloc(), "void f(void) {", 19_996)?;
-    assert!(rt; last_said(rt.alloc(), &rt, full.as_slice())? == Said::Accepted);
-    let large = repeated(rt.alloc(), "void f(void) {", 19_997)?;
-    assert!(rt; last_said(rt.alloc(), &rt, large.as_slice())? == Said::Many(20_001));
-    let refused = repeated(rt.alloc(), "void f(void) { x", 19_996)?;
-    assert!(rt; last_said(rt.alloc(), &rt, refused.as_slice())? == Said::Many(20_001));
-    Ok(())
+fn a_function_has_at_most_20000_nodes(rt: HostRuntime) {
+    let alloc = rt.alloc();
+    assert!(rt; repeated_said(alloc, "void f(void) {", 19_996) == Ok(Said::Accepted));
+    assert!(rt; repeated_said(alloc, "void f(void) {", 19_997) == Ok(Said::Many(20_001)));
+    assert!(rt; repeated_said(alloc, "void f(void) { x", 19_996) == Ok(Said::Many(20_001)));
 }

@@ -2,18 +2,31 @@
 
 ghost use Rattle.std.specs.Prelude.{◌≡◌, []};
 
-use crate::typed_texts::{add, add_rule, locals, type_at};
+use crate::declared::declaration;
+use crate::tables::add;
+use crate::typed_texts::{add_rule, locals, type_at};
 use std::alloc::Global;
 use stk_base::NoMemory;
 use stk_ctype::{CType, IntKind, Names, SharedType};
-use stk_decl::decl;
+use stk_expr::Parse;
 use stk_lex::lex;
 use stk_tree::{Declaration, Init};
 use stk_type_rules::Untyped;
 use stk_typing::{Scoped, initial_refused, initialiser};
 
-/// The number of the type of an array of three characters; those below are the types of the locals.
-pub(crate) const CHARACTERS: u32 = 7;
+// The number of the type of an array of three characters; those below are the types of the locals.
+const CHARACTERS: u32 = 7;
+
+/// The number of the type of an object, by its name.
+pub(crate) fn object_number(name: &str) -> Option<u32> {
+    match name {
+        "int" => Some(0),
+        "int *" => Some(4),
+        "int [3]" => Some(6),
+        "char [3]" => Some(CHARACTERS),
+        _ => None,
+    }
+}
 
 // The type of an object, by its number.
 fn object_at(alloc: Global, i: u32) -> Result<CType, NoMemory> {
@@ -72,26 +85,31 @@ fn first_refused(
     Ok(None)
 }
 
-/// The rule that the initialiser that a text is breaks, for an object of the type with this number; nothing where it
-/// breaks none, and `no tree` where the text is no initialiser.
-pub(crate) fn initialised(alloc: Global, object: u32, text: &str) -> Result<Vec<u8>, NoMemory> {
+// The same of the initialiser that a text is, behind `int z =` and before `;`.
+fn text_refused(alloc: Global, bytes: &[u8], object: u32) -> Result<Option<u8>, Parse> {
+    if bytes.len() > 16_777_216 {
+        return Err(Parse::NoTree);
+    }
+    let tokens = lex(alloc, bytes)?;
+    let names = Names::new(alloc);
+    let tree = declaration(alloc, bytes, tokens.as_slice(), &names, false)?;
+    Ok(first_refused(alloc, bytes, &names, object, tree.get())?)
+}
+
+/// Adds the rule that the initialiser that a text is breaks, for an object of the type with this number; nothing where
+/// it breaks none, and `no tree` where the text is no initialiser.
+pub(crate) fn add_initialised(alloc: Global, object: u32, text: &str, out: &mut Vec<u8>) {
     let mut bytes = Vec::new(alloc);
     add(&mut bytes, b"int z = ");
     add(&mut bytes, text.as_bytes());
     add(&mut bytes, b";");
-    let mut said = Vec::new(alloc);
-    if bytes.len() > 16_777_216 {
-        return Ok(said);
-    }
-    let tokens = lex(alloc, bytes.as_slice())?;
-    let names = Names::new(alloc);
-    match decl(alloc, bytes.as_slice(), tokens.as_slice(), &names, 0, false) {
-        Ok((tree, _)) => {
-            if let Some(rule) = first_refused(alloc, bytes.as_slice(), &names, object, &tree)? {
-                add_rule(&mut said, rule);
-            }
+    match text_refused(alloc, bytes.as_slice(), object) {
+        Ok(Some(rule)) => {
+            add(out, b" ");
+            add_rule(out, rule)
         }
-        Err(_) => add(&mut said, b"no tree"),
+        Ok(None) => {}
+        Err(Parse::NoTree) => add(out, b" no tree"),
+        Err(Parse::NoMemory) => add(out, b" no memory"),
     }
-    Ok(said)
 }

@@ -5,6 +5,7 @@
 mod address_taken;
 #[cfg(test)]
 mod constants;
+#[cfg(test)]
 mod declared;
 #[cfg(test)]
 mod expressions;
@@ -12,8 +13,13 @@ mod expressions;
 mod function_rows;
 #[cfg(test)]
 mod functions;
+#[cfg(test)]
 mod initialised;
+#[cfg(test)]
 mod names_taken;
 #[cfg(test)]
 mod numbers;
+#[cfg(test)]
+mod tables;
+#[cfg(test)]
 mod typed_texts;

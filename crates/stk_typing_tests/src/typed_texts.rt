@@ -1,16 +1,18 @@
 //! The type of an expression in a text, with some locals in force.
 
-ghost use Rattle.std.specs.Prelude.{◌≡◌, [], IfOk, OnOk, map};
+ghost use Rattle.std.specs.Prelude.{◌≡◌, ◌≤◌, [], IfOk, OnOk, length, map};
+ghost use Rattle.stk_base.specs.Limits.{most_bytes};
 ghost use Rattle.stk_ctype.specs.Types.{type_of};
 ghost use Rattle.stk_ctype.specs.Structs.{Structs};
 ghost use Rattle.stk_ctype.specs.Sound.{IsSound};
 ghost use Rattle.stk_typing.specs.Locals.{AreSoundLocals, local_of};
 
+use crate::tables::{add, add_number};
 use std::alloc::Global;
-use stk_base::{List, NoMemory};
+use stk_base::{Boxed, List, NoMemory};
 use stk_ctype::{CType, IntKind, Names, SharedType, Signature};
-use stk_expr::expr;
-use stk_lex::lex;
+use stk_expr::{Parse, expr};
+use stk_lex::{Token, lex};
 use stk_tree::Expr;
 use stk_type_rules::{Constancy, NodeFact, Untyped};
 use stk_typing::{LocalName, Locals, Scoped, expression};
@@ -72,11 +74,6 @@ pub(crate) fn locals(alloc: Global) -> Result<Locals, NoMemory>
     Ok(locals)
 }
 
-// Puts a text behind another. Where there is no memory for it, it is left out, and then the test that wants it fails.
-pub(crate) fn add(out: &mut Vec<u8>, text: &[u8]) {
-    let _ = out.extend_from_slice(text);
-}
-
 // The name of an integer kind.
 fn kind_text(kind: IntKind) -> &'static [u8] {
     match kind {
@@ -95,23 +92,11 @@ fn kind_text(kind: IntKind) -> &'static [u8] {
     }
 }
 
-// A number below 100.
-fn add_number(out: &mut Vec<u8>, number: u8) {
-    let digits = [b'0' + number / 10 % 10, b'0' + number % 10];
-    if number < 10 {
-        add(out, &digits[1..]);
-    } else {
-        add(out, &digits);
-    }
-}
-
-// The number of elements of an array, where it is known and below 100.
+// The number of elements of an array, where it is known.
 fn add_count(out: &mut Vec<u8>, count: Option<u64>) {
     if let Some(count) = count {
-        if count < 100 {
-            add_number(out, count as u8);
-            add(out, b" ");
-        }
+        add_number(out, b"", i128::from(count));
+        add(out, b" ");
     }
 }
 
@@ -136,43 +121,40 @@ pub(crate) fn add_type(out: &mut Vec<u8>, ty: &CType) {
 
 // A function's type in words.
 fn add_signature(out: &mut Vec<u8>, f: &Signature) {
-    add(out, b"function of ");
-    add_count(out, Some(f.params.len() as u64));
+    add_number(out, b"function of ", f.params.len() as i128);
     if f.more {
-        add(out, b"and more ");
+        add(out, b" and more");
     }
 }
 
 // A rule by its number.
 pub(crate) fn add_rule(out: &mut Vec<u8>, rule: u8) {
-    add(out, b"rule ");
-    add_number(out, rule);
+    add_number(out, b"rule ", i128::from(rule));
 }
 
-/// What typing says of an expression: its type in words, ` lvalue` behind it where it is one, and its constancy; or the
-/// rule that refuses a node of it.
-#[derive(Drop)]
-pub(crate) struct Said {
-    pub text: Vec<u8>,
-    pub constancy: Constancy,
-}
-
-// What a fact says.
-fn said_of(alloc: Global, fact: &NodeFact) -> Said {
-    let mut text = Vec::new(alloc);
-    add_type(&mut text, &fact.ty);
+// What a fact says: its type in words, ` lvalue` behind it where it is one, and behind a colon its number where it is
+// constant, or that it violates a condition.
+fn add_fact(out: &mut Vec<u8>, fact: &NodeFact) {
+    add_type(out, &fact.ty);
     if fact.lvalue {
-        add(&mut text, b" lvalue");
+        add(out, b" lvalue");
     }
-    Said {
-        text,
-        constancy: fact.constancy,
+    match fact.constancy {
+        Constancy::Varies => {}
+        Constancy::Violates => add(out, b": violates"),
+        Constancy::Number(number) => add_number(out, b": ", number),
     }
 }
 
-// Types a tree over no names of file scope.
+// Types a tree over no names of file scope, and adds what is said of it, or the rule that refuses a node of it.
 #[tactic(auto, using(crate::proofs::Locals::nothing))]
-fn typed_tree(alloc: Global, bytes: &[u8], names: &Names, e: &Expr) -> Result<Said, NoMemory>
+fn add_tree(
+    alloc: Global,
+    bytes: &[u8],
+    names: &Names,
+    e: &Expr,
+    out: &mut Vec<u8>,
+) -> Result<(), NoMemory>
     requires { names.now ≡ [] }
 {
     let locals = locals(alloc)?;
@@ -184,44 +166,50 @@ fn typed_tree(alloc: Global, bytes: &[u8], names: &Names, e: &Expr) -> Result<Sa
         own: None,
     };
     let mut facts = Vec::new(alloc);
-    let mut text = Vec::new(alloc);
     match expression(&scope, &mut facts, e) {
         Ok(at) => {
             if let Some(fact) = facts.get(at) {
-                return Ok(said_of(alloc, fact));
+                add_fact(out, fact);
             }
         }
-        Err(Untyped::Rule { rule, .. }) => add_rule(&mut text, rule),
+        Err(Untyped::Rule { rule, .. }) => add_rule(out, rule),
         Err(Untyped::NoMemory) => return Err(NoMemory),
     }
-    Ok(Said {
-        text,
-        constancy: Constancy::Varies,
-    })
+    Ok(())
 }
 
-/// What typing says of the expression that a text is; `no tree` where it is none.
-pub(crate) fn typed(alloc: Global, text: &str) -> Result<Said, NoMemory> {
-    let mut bytes = Vec::new(alloc);
-    add(&mut bytes, text.as_bytes());
-    let mut no_tree = Vec::new(alloc);
-    add(&mut no_tree, b"no tree");
-    let none = Said {
-        text: no_tree,
-        constancy: Constancy::Varies,
-    };
+// The expression that some tokens begin with, in a box, and where it ends.
+fn boxed(
+    alloc: Global,
+    bytes: &[u8],
+    tokens: &[Token],
+    names: &Names,
+) -> Result<(Boxed<Expr>, usize), Parse>
+    requires { length tokens.now ≤ most_bytes }
+{
+    let (tree, end) = expr(alloc, bytes, tokens, names, 0, 1)?;
+    Ok((Boxed::new(alloc, tree)?, end))
+}
+
+// Adds what typing says of the expression that a text is.
+fn add_expression(alloc: Global, bytes: &[u8], out: &mut Vec<u8>) -> Result<(), Parse> {
     if bytes.len() > 16_777_216 {
-        return Ok(none);
+        return Err(Parse::NoTree);
     }
-    let tokens = lex(alloc, bytes.as_slice())?;
+    let tokens = lex(alloc, bytes)?;
     let names = Names::new(alloc);
-    match expr(alloc, bytes.as_slice(), tokens.as_slice(), &names, 0, 1) {
-        Ok((tree, end)) => {
-            if end < tokens.len() {
-                return Ok(none);
-            }
-            typed_tree(alloc, bytes.as_slice(), &names, &tree)
-        }
-        Err(_) => Ok(none),
+    let (tree, end) = boxed(alloc, bytes, tokens.as_slice(), &names)?;
+    if end < tokens.len() {
+        return Err(Parse::NoTree);
+    }
+    Ok(add_tree(alloc, bytes, &names, tree.get(), out)?)
+}
+
+/// Adds what typing says of the expression that a text is; `no tree` where it is none.
+pub(crate) fn add_typed(alloc: Global, text: &[u8], out: &mut Vec<u8>) {
+    match add_expression(alloc, text, out) {
+        Ok(()) => {}
+        Err(Parse::NoTree) => add(out, b"no tree"),
+        Err(Parse::NoMemory) => add(out, b"no memory"),
     }
 }
