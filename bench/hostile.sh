@@ -169,7 +169,9 @@ text 'int f(int *p) { int s = 0;' 's += p[%d]; ' 1000 'return s; }' | hostile '1
 # --- What is decided ---
 
 text '' 'int f%d(unsigned char a, unsigned char b) { if (a / (b + 1) == %d) return a; return b; }' 9000 '' |
-    hostile '9,000 functions of 16 input bits, all of whose maps are run'
+    hostile '9,000 functions of 16 input bits, whose candidates are clear'
+text '' 'int f%d(unsigned char a, unsigned char b) { int c = a / b; if (b == 0) return 1; return c + %d; }' 150 '' |
+    hostile '150 functions of 16 input bits with reports, all of whose maps are run'
 text '' 'int f%d(unsigned char a) { if (100 / a == %d) return a; return 1; }' 9000 '' |
     hostile '9,000 functions of 8 input bits'
 hard='if ((a + b + %d) * (a - b) != a * a - b * b + %d * (a - b)) s++; '
